@@ -1,0 +1,46 @@
+-- The three theorems: what `sqrt`, `floor` and `magnitude` give, for every f64. Assumes nothing.
+use mathlib.Core.Path.{refl}
+use Prim.Native.Nat.{ℕ, zero, suc, _^_}
+use mathlib.Core.Bool.{Bool, true, false}
+use lib.IntN.{ℤ}
+use lib.Dec.{T}
+use lib.Ieee.{Float, nan, inf, fin, binary64, fits}
+use lib.Ieee.Exact.{HasValue}
+use Rattle.numbers.specs.Value.{unitsIn}
+use Rattle.numbers.specs.Sqrt.{SquareRoot, sqrtOf}
+use Rattle.numbers.specs.Floor.{Floored, floorOf}
+use Rattle.numbers.specs.Magnitude.{Unsigned, magnitudeOf}
+use Rattle.numbers.proofs.Units as at-units
+use Rattle.numbers.proofs.SqrtNearest.{nearest}
+use Rattle.numbers.proofs.FloorExact.{kept-zero, below}
+use Rattle.numbers.proofs.SignBit.{cleared}
+
+-- a NaN and what is below zero have none, the infinity and the zeros are their own, and any other is rounded to the nearest f64, where no two are as near
+pub sqrt-right : (x : Float) → T (fits binary64 x) → SquareRoot x (sqrtOf x)
+unfolding sqrtOf
+sqrt-right nan f = refl
+sqrt-right (inf false) f = refl
+sqrt-right (inf true) f = refl
+sqrt-right (fin false zero e) f = refl
+sqrt-right (fin true zero e) f = refl
+sqrt-right (fin true (suc m) e) f = refl
+sqrt-right (fin false (suc m) e) f = nearest m e f
+
+-- a NaN, the infinities and the zeros are kept, and any other gives a whole number r with r ≤ x < r + 1
+pub floor-right : (x : Float) → T (fits binary64 x) → Floored x (floorOf x)
+unfolding floorOf
+floor-right nan f = refl
+floor-right (inf s) f = refl
+floor-right (fin s zero e) f = kept-zero s e f
+floor-right (fin s (suc m) e) f = below s (suc m) e f
+
+-- a NaN is kept, and of any other the sign's bit is cleared
+pub magnitude-right : (x : Float) → T (fits binary64 x) → Unsigned x (magnitudeOf x)
+unfolding magnitudeOf
+magnitude-right nan f = refl
+magnitude-right (inf s) f = refl
+magnitude-right (fin s m e) f = cleared s m e f
+
+-- a finite f64 is as many units of 2 ^ -1074 as `unitsIn` says
+pub units-exact : (s : Bool) (m : ℕ) (e : ℤ) → T (fits binary64 (fin s m e)) → HasValue (fin s m e) s (unitsIn (fin s m e)) (2 ^ 1074)
+units-exact s m e f = at-units.units-exact s m e f

@@ -1,0 +1,236 @@
+// Square roots, whole parts and magnitudes of f64, by the digits of their bit patterns.
+ghost use mathlib.Core.Path.{_≡_};
+ghost use Prim.Native.Nat.{_+_, _*_, _^_, _≤_, _<_};
+ghost use lib.Ieee.{binary64, ofBits};
+ghost use Rattle.numbers.specs.Sqrt.{sqrtOf, rootOf};
+ghost use Rattle.numbers.specs.Steps.{unitsOf, Parted, Leaves, Refinable, CutTo};
+ghost use Rattle.numbers.specs.Floor.{floorOf};
+ghost use Rattle.numbers.specs.Magnitude.{magnitudeOf};
+
+// A whole root and what its square leaves.
+struct Rooted {
+    q: u64,
+    rem: u64,
+}
+
+// q + d, if that is no more than the root of n, and else q. A choice of two numbers, so that no branch is
+// compiled, which could not be foretold.
+fn grown(n: u64, q: u64, d: u64) -> u64
+    requires { ⌜ (q * q ≤ n) × (n < (q + d + d) * (q + d + d)) × (q + d < 128) ⌝ }
+    ensures { λ r. ⌜ (r * r ≤ n) × (n < (r + d) * (r + d)) × (r ≤ q + d) ⌝ }
+{
+    let r = q + d;
+    if r * r <= n { r } else { q }
+}
+
+// The whole root of a number of 13 or 14 digits, digit by digit.
+fn small_root(n: u64) -> Rooted
+    requires { ⌜ (2 ^ 12 ≤ n) × (n < 2 ^ 14) ⌝ }
+    ensures { λ r. ⌜ Leaves n (r .q) (r .rem) ⌝ }
+{
+    let a = grown(n, 64, 32);
+    let b = grown(n, a, 16);
+    let c = grown(n, b, 8);
+    let d = grown(n, c, 4);
+    let e = grown(n, d, 2);
+    let q = grown(n, e, 1);
+    Rooted { q, rem: n - q * q }
+}
+
+// From a number's root to that of the number with two more digits of k bits, `high` and `low`: one
+// division gives the root's next digit, at most one too large (Zimmermann's Karatsuba square root).
+fn refine(r: Rooted, high: u64, low: u64, k: u64) -> Rooted
+    requires { ⌜ Refinable (r .q) (r .rem) high low k ⌝ }
+    ensures { λ s. ⌜ Leaves ((r .q * r .q + r .rem) * (2 ^ k * 2 ^ k) + high * 2 ^ k + low) (s .q) (s .rem) ⌝ }
+{
+    let t = r.rem << k | high;
+    let d = r.q * 2;
+    let b = t / d;
+    let v = t % d << k | low;
+    let g = (r.q << k) + b;
+    let square = b * b;
+    if v < square {
+        Rooted {
+            q: g - 1,
+            rem: v + (g * 2 - 1) - square,
+        }
+    } else {
+        Rooted {
+            q: g,
+            rem: v - square,
+        }
+    }
+}
+
+// The whole root of an m of 53 or 54 digits, from that of its 14 leading digits: each step doubles them.
+fn slow_root(m: u64) -> Rooted
+    requires { ⌜ (2 ^ 52 ≤ m) × (m < 2 ^ 54) ⌝ }
+    ensures { λ r. ⌜ Leaves m (r .q) (r .rem) ⌝ }
+{
+    let a = small_root(m >> 40);
+    let b = refine(a, m >> 33 & 0x7f, m >> 26 & 0x7f, 7);
+    refine(b, m >> 13 & 0x1fff, m & 0x1fff, 13)
+}
+
+// The 27 leading digits of what a pattern stands for.
+fn leading(bits: u64) -> u64
+    ensures { λ a. ⌜ a < 2 ^ 27 ⌝ }
+{
+    (bits & 0xf_ffff_ffff_ffff | 0x10_0000_0000_0000) >> 26
+}
+
+// A guess at the same root: for x = m / 2 it is x times the roots of 1 / x and of 2. The first is had from
+// the bits of x, mended by three steps of Newton's method, which come from below; the second is put a
+// little too high, so that a square's root is met. What the guess is worth its square tells.
+fn guess(m: u64) -> u64
+    requires { ⌜ m < 2 ^ 54 ⌝ }
+    ensures { λ a. ⌜ a < 2 ^ 27 ⌝ }
+{
+    let x = (m >> 1) as f64;
+    let h = x * 0.5;
+    let a = f64::from_bits(0x5fe6_eb50_c7b5_37a9 - (f64::to_bits(x) >> 1 & 0x3fff_ffff_ffff_ffff));
+    let b = a * (1.5 - h * a * a);
+    let c = b * (1.5 - h * b * b);
+    let d = c * (1.5 - h * c * c);
+    let g = x * d * 1.41421356243;
+    if g != g {
+        return 0;
+    }
+    leading(f64::to_bits(g))
+}
+
+// The same root, by the guess where its square is right.
+fn whole_root(m: u64) -> Rooted
+    requires { ⌜ (2 ^ 52 ≤ m) × (m < 2 ^ 54) ⌝ }
+    ensures { λ r. ⌜ Leaves m (r .q) (r .rem) ⌝ }
+{
+    let q = guess(m);
+    let square = q * q;
+    if square <= m {
+        let rem = m - square;
+        if rem <= q * 2 {
+            return Rooted { q, rem };
+        }
+    }
+    slow_root(m)
+}
+
+// The largest q with q * q <= m * 2^54, for an m of 53 or 54 digits.
+fn root(m: u64) -> u64
+    requires { ⌜ (2 ^ 52 ≤ m) × (m < 2 ^ 54) ⌝ }
+    ensures { λ q. ⌜ (q * q ≤ m * 2 ^ 54) × (m * 2 ^ 54 < (q + 1) * (q + 1)) × (q < 2 ^ 54) ⌝ }
+{
+    let r = refine(whole_root(m), 0, 0, 27);
+    r.q
+}
+
+// A number m * 2^(e - 1126) with an m of 53 digits.
+struct Split {
+    m: u64,
+    e: u64,
+}
+
+// The number that a pattern above 0 and below the infinity's stands for.
+fn parts(bits: u64) -> Split
+    requires { ⌜ (0 < bits) × (bits < 0x7ff0_0000_0000_0000) ⌝ }
+    ensures { λ r. ⌜ Parted bits (r .m) (r .e) ⌝ }
+{
+    let field = bits >> 52;
+    let digits = bits & 0xf_ffff_ffff_ffff;
+    if field > 0 {
+        Split {
+            m: digits | 0x10_0000_0000_0000,
+            e: field + 51,
+        }
+    } else {
+        let z = u64::leading_zeros(digits) - 11;
+        Split {
+            m: digits << z,
+            e: 52 - z as u64,
+        }
+    }
+}
+
+// The pattern of the root of what a pattern stands for: the root's last digit says which way to round.
+fn root_bits(bits: u64) -> u64
+    requires { ⌜ (0 < bits) × (bits < 0x7ff0_0000_0000_0000) ⌝ }
+    ensures { λ r. ⌜ (r < 0x7ff0_0000_0000_0000) × (ofBits binary64 r ≡ rootOf (unitsOf bits)) ⌝ }
+{
+    let p = parts(bits);
+    let q = root(p.m << (p.e & 1));
+    ((p.e >> 1) + 486) << 52 | (q + 1) >> 1 & 0xf_ffff_ffff_ffff
+}
+
+// The square root of x, rounded to the nearest f64.
+pub fn sqrt(x: f64) -> f64
+    ensures { λ r. ⌜ r ≡ sqrtOf x ⌝ }
+{
+    if x != x {
+        return x;
+    }
+    let bits = f64::to_bits(x);
+    if bits == 0 {
+        return x;
+    }
+    if bits < 0x7ff0_0000_0000_0000 {
+        return f64::from_bits(root_bits(bits));
+    }
+    if bits == 0x7ff0_0000_0000_0000 {
+        return x;
+    }
+    if bits == 0x8000_0000_0000_0000 {
+        return x;
+    }
+    0.0 / 0.0
+}
+
+// x without its sign.
+pub fn magnitude(x: f64) -> f64
+    ensures { λ r. ⌜ r ≡ magnitudeOf x ⌝ }
+{
+    if x != x {
+        return x;
+    }
+    f64::from_bits(f64::to_bits(x) & 0x7fff_ffff_ffff_ffff)
+}
+
+// The pattern of what a pattern with no sign, below that of 2^52, stands for, cut to a whole number:
+// toward zero, or away from it.
+fn whole_bits(bits: u64, away: bool) -> u64
+    requires { ⌜ bits < 0x4330_0000_0000_0000 ⌝ }
+    ensures { λ r. ⌜ CutTo away bits r ⌝ }
+{
+    if bits < 0x3ff0_0000_0000_0000 {
+        if bits == 0 {
+            return 0;
+        }
+        if away {
+            return 0x3ff0_0000_0000_0000;
+        }
+        return 0;
+    }
+    let k = 1075 - (bits >> 52);
+    let cut = bits >> k << k;
+    if away {
+        if cut < bits {
+            return cut + (1 << k);
+        }
+    }
+    cut
+}
+
+// The largest whole number that is not above x, and x itself where it is no number or infinite: from
+// 2^52 on every f64 is whole.
+pub fn floor(x: f64) -> f64
+    ensures { λ r. ⌜ r ≡ floorOf x ⌝ }
+{
+    if x != x {
+        return x;
+    }
+    let bits = f64::to_bits(x);
+    let size = bits & 0x7fff_ffff_ffff_ffff;
+    if size >= 0x4330_0000_0000_0000 {
+        return x;
+    }
+    f64::from_bits(bits >> 63 << 63 | whole_bits(size, bits >> 63 == 1))
+}
