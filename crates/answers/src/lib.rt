@@ -1,0 +1,89 @@
+// What a call answers: the refusals of the scope's table, one case a row, and whether there was one.
+ghost use mathlib.Core.Path.{_≡_};
+ghost use Rattle.answers.specs.Table.{numberOf, placeOf};
+
+// What was being made where a number to be stored isn't finite.
+pub enum Part {
+    // a shifted or scaled entry, or a pair's slab
+    Entry,
+    // a Gram matrix, a basis, a pair's columns, a singular value
+    Spectrum,
+    // a left factor, a carry, an absorbed core, a pair's two new cores
+    Factor,
+    // a partial sum
+    Sum,
+}
+
+pub enum Refusal {
+    // d is outside its limits
+    Axes,
+    // the first core with a size outside its limits
+    Size(usize),
+    // the left core of two neighbours whose ranks differ, or the core at an end whose rank isn't 1
+    Bond(usize),
+    // a zone number of d or more
+    Zone,
+    // the first slice, by its position in the call's list, whose length is wrong
+    Length(usize),
+    // the core, axis or zone of an input number that isn't finite, or 0 for a lone setting
+    Number(usize),
+    // the axis whose a is below zero, or 0 for another setting outside its limits
+    Setting(usize),
+    // the first axis whose shift is too far
+    Reach(usize),
+    // what was being made, for which core, and the index in it of the first number that isn't finite
+    Stored(Part, usize, usize),
+    // a pair's kept rank is too large
+    PairRank,
+    // the byte at which a file breaks its rules
+    File(usize),
+}
+
+pub enum Verdict {
+    Fits,
+    Refused(Refusal),
+}
+
+// What a stage of the work answers of the numbers it made: all are finite, or the index of the first that isn't.
+pub enum Stage {
+    Whole,
+    Spilt(usize),
+}
+
+// The number of a refusal in the scope's table.
+pub fn number(r: Refusal) -> u8
+    ensures { λ n. ⌜ n ≡ numberOf r ⌝ }
+{
+    match r {
+        Refusal::Axes => 1,
+        Refusal::Size(k) => 2,
+        Refusal::Bond(k) => 3,
+        Refusal::Zone => 4,
+        Refusal::Length(i) => 5,
+        Refusal::Number(k) => 6,
+        Refusal::Setting(k) => 7,
+        Refusal::Reach(k) => 8,
+        Refusal::Stored(part, k, i) => 9,
+        Refusal::PairRank => 10,
+        Refusal::File(b) => 11,
+    }
+}
+
+// The place that the table gives with the number.
+pub fn place(r: Refusal) -> usize
+    ensures { λ p. ⌜ p ≡ placeOf r ⌝ }
+{
+    match r {
+        Refusal::Axes => 0,
+        Refusal::Size(k) => k,
+        Refusal::Bond(k) => k,
+        Refusal::Zone => 0,
+        Refusal::Length(i) => i,
+        Refusal::Number(k) => k,
+        Refusal::Setting(k) => k,
+        Refusal::Reach(k) => k,
+        Refusal::Stored(part, k, i) => k,
+        Refusal::PairRank => 0,
+        Refusal::File(b) => b,
+    }
+}

@@ -1,0 +1,39 @@
+-- Row-major indices: bounds, and what fits a machine word. Assumes nothing.
+use Prim.Native.Nat.{ℕ, suc, _+_, _*_, _<_, _≤_, _^_}
+use native.Mathlib.Nat.{mul-le-mul-right, suc-mul}
+use native.Mathlib.Omega.{arith}
+use mathlib.Core.Path.{_≡_}
+use mir.Syntax.{w64}
+use mir.Val.{Fits}
+use borrow.Author.Needs.{scaled-fits}
+
+-- entry i of row k lies within m rows of n
+pub cell-lt : (k m n i l : ℕ) → k < m → i < n → m * n ≤ l → k * n + i < l
+cell-lt k m n i l p q r = omega (arith, mul-le-mul-right n p, suc-mul k n)
+
+pub row-fits : (k m n l : ℕ) → k < m → m * n ≤ l → l < 2 ^ 64 → Fits w64 (k * n)
+row-fits k m n l p r s = record { fits = omega (arith, mul-le-mul-right n p, suc-mul k n) }
+
+pub cell-fits : (k m n i l : ℕ) → k < m → i < n → m * n ≤ l → l < 2 ^ 64 → Fits w64 (k * n + i)
+cell-fits k m n i l p q r s = record { fits = omega (arith, mul-le-mul-right n p, suc-mul k n) }
+
+-- an offset in bytes: entry i of the first n, and entry i of row k
+pub elt-fits : (i n l : ℕ) → i < n → n ≤ l → l * 8 < 2 ^ 63 → Fits w64 (i * 8)
+elt-fits i n l p q s = scaled-fits i l 8 (omega arith) s
+
+pub cell-scaled : (k m n i l : ℕ) → k < m → i < n → m * n ≤ l → l * 8 < 2 ^ 63 → Fits w64 ((k * n + i) * 8)
+cell-scaled k m n i l p q r s = scaled-fits (k * n + i) l 8 (cell-lt k m n i l p q r) s
+
+-- where the list has the length that it had
+pub row-end-now : (k m n l l′ : ℕ) → k < m → m * n ≤ l′ → l ≡ l′ → k * n + n ≤ l
+row-end-now k m n l l′ p r e = omega (arith, mul-le-mul-right n p, suc-mul k n)
+
+-- the end of row k, as a bound and as a number that fits; and the row's start in bytes
+pub row-end : (k m n l : ℕ) → k < m → m * n ≤ l → k * n + n ≤ l
+row-end k m n l p r = omega (arith, mul-le-mul-right n p, suc-mul k n)
+
+pub row-end-fits : (k m n l : ℕ) → k < m → m * n ≤ l → l < 2 ^ 64 → Fits w64 (k * n + n)
+row-end-fits k m n l p r s = record { fits = omega (arith, mul-le-mul-right n p, suc-mul k n) }
+
+pub row-scaled : (k m n l : ℕ) → k < m → m * n ≤ l → l * 8 < 2 ^ 63 → Fits w64 (k * n * 8)
+row-scaled k m n l p r s = record { fits = omega (arith, mul-le-mul-right n p, suc-mul k n) }

@@ -1,0 +1,14 @@
+-- indices and tables
+pub mod Cells
+pub mod Tables
+-- loops: what a turn more, the end and an early return say
+pub mod Turns
+pub mod Firsts
+pub mod Picks
+pub mod Over
+-- tests, and lists of f64
+pub mod Tests
+pub mod Floats
+-- slots and walks
+pub mod Slots
+pub mod Walks

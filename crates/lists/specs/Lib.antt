@@ -1,0 +1,4 @@
+pub mod Lists
+pub mod Slots
+pub mod Walks
+pub mod Floats

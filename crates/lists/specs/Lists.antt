@@ -1,0 +1,47 @@
+-- Lists by index, and counting loops. Definitions only.
+use Prim.Native.Nat.{ℕ, zero, suc, _+_, _-_}
+use mathlib.Core.Bool.{Bool, true, false, cond}
+use mathlib.Core.List.{List, [], _∷_, _++_}
+use lib.ListN.{length, take, drop}
+
+-- a where the test holds, else b
+unfoldable pub pick : {A : Type 0} → Bool → A → A → A
+pick true a b = a
+pick false a b = b
+
+-- f 0, f 1, .., f (n - 1)
+abbrev pub tab : {A : Type 0} → ℕ → (ℕ → A) → List A
+tab zero f = []
+tab (suc k) f = tab k f ++ (f k ∷ [])
+
+-- f 0, f 1, .., f (m - 1) one after another
+abbrev pub joined : {A : Type 0} → ℕ → (ℕ → List A) → List A
+joined zero f = []
+joined (suc k) f = joined k f ++ f k
+
+-- m rows of n: f i j stands at i * n + j
+abbrev pub grid : {A : Type 0} → ℕ → ℕ → (ℕ → ℕ → A) → List A
+grid m n f = joined m (λ (i : ℕ). tab n (f i))
+
+-- xs written over l from `start` on
+unfoldable pub overlaid : {A : Type 0} → ℕ → List A → List A → List A
+overlaid start xs l = take start l ++ (xs ++ drop (start + length xs) l)
+
+-- the first i from lo on, among d, at which p holds, and lo + d where there is none
+abbrev pub firstFrom : (ℕ → Bool) → ℕ → ℕ → ℕ
+firstFrom p lo zero = lo
+firstFrom p lo (suc d) = cond (p lo) lo (firstFrom p (suc lo) d)
+
+-- the first below n, or n
+unfoldable pub first : (ℕ → Bool) → ℕ → ℕ
+first p n = firstFrom p 0 n
+
+-- ---- a loop: turn i takes the state by f i
+-- the state after k turns
+abbrev pub iter : {S : Type 0} → ℕ → (ℕ → S → S) → S → S
+iter zero f s = s
+iter (suc k) f s = f k (iter k f s)
+
+-- after the turns lo to hi - 1
+unfoldable pub iterFrom : {S : Type 0} → ℕ → ℕ → (ℕ → S → S) → S → S
+iterFrom lo hi f s = iter (hi - lo) (λ t. f (lo + t)) s
