@@ -1,31 +1,82 @@
 -- Tables: their lengths and entries, and that a loop of stores is a table in place. Assumes nothing.
-use Prim.Native.Nat.{ℕ, zero, suc, _+_, _*_, _<_, _≤_}
-use native.Mathlib.Nat.{add-zero, add-suc, suc-mul, zero-mul, le-refl, le-of-lt, not-suc-le-zero, le-of-suc-le-suc, eq-or-lt-of-le}
+use Prim.Native.Nat.{ℕ, zero, suc, _+_, _-_, _*_, _<_, _≤_}
+use native.Mathlib.Nat.{zero-add, add-zero, add-suc, suc-add, suc-mul, zero-mul, le-refl, le-of-lt, not-suc-le-zero, le-of-suc-le-suc, eq-or-lt-of-le}
 use native.Mathlib.Numerals.{add-one}
 use mathlib.Core.Logic.{⊎-elim}
 use native.Mathlib.Omega.{arith}
 use mathlib.Core.Path.{_≡_, refl, sym, ap, _∙_}
-use mathlib.Core.List.{List, [], _∷_, _++_, append-assoc}
+use mathlib.Core.List.{List, [], _∷_, _++_, append-assoc, append-nil}
 use lib.ListN.{length, getD, set, take, drop, length-append, length-set, length-take, take-append-drop, List·getD-append, length-drop}
 use lib.Seq.{set-at, drop-cons, length-take-le, getD-at, getD-append-add, take-at, drop-append-add, drop-drop}
 use Rattle.lists.proofs.Cells.{cell-lt}
-use Rattle.lists.specs.Lists.{iter, tab, joined, grid}
+use Rattle.lists.specs.Lists.{iter, listed, tab, flat, joined, grid}
 
 -- what each turn keeps, the loop keeps
 pub iter-keeps : {S : Type 0} (P : S → Type 0) (f : ℕ → S → S) (s : S) → P s → ((k : ℕ) (t : S) → P t → P (f k t)) → (k : ℕ) → P (iter k f s)
 iter-keeps P f s p q zero = p
 iter-keeps P f s p q (suc k) = q k (iter k f s) (iter-keeps P f s p q k)
 
+-- ---- lists by number
+module _ {A : Type 0} where
+  pub listed-length : (m k : ℕ) (f : ℕ → A) → length (listed m k f) ≡ m
+  unfolding listed
+  listed-length zero k f = refl
+  listed-length (suc m) k f = ap suc (listed-length m (suc k) f)
+
+  pub listed-same : (m k : ℕ) (f g : ℕ → A) → ((j : ℕ) → k ≤ j → j < k + m → f j ≡ g j) → listed m k f ≡ listed m k g
+  unfolding listed
+  listed-same zero k f g h = refl
+  listed-same (suc m) k f g h =
+      ap (λ (x : A). x ∷ listed m (suc k) f) (h k (le-refl k) (omega arith))
+      ∙ ap (λ (l : List A). g k ∷ l) (listed-same m (suc k) f g (λ j a b. h j (omega arith) (omega arith)))
+
+  pub listed-add : (m n k : ℕ) (f : ℕ → A) → listed (m + n) k f ≡ listed m k f ++ listed n (k + m) f
+  unfolding listed
+  listed-add zero n k f = ap (λ (j : ℕ). listed j k f) (zero-add n) ∙ ap (λ (j : ℕ). listed n j f) (sym (add-zero k))
+  listed-add (suc m) n k f =
+      ap (λ (j : ℕ). listed j k f) (suc-add m n)
+      ∙ ap (λ (l : List A). f k ∷ l) (listed-add m n (suc k) f ∙ ap (λ (j : ℕ). listed m (suc k) f ++ listed n j f) (suc-add k m ∙ sym (add-suc k m)))
+
+  -- the first z are g's, the rest f's, where f and g agree before z
+  pub listed-split : (d z : ℕ) (f g : ℕ → A) → z ≤ d → ((j : ℕ) → j < z → f j ≡ g j) → tab d f ≡ take z (tab d g) ++ listed (d - z) z f
+  listed-split d z f g le h =
+      let e : d ≡ z + (d - z) = omega arith in
+      let a : (p : ℕ → A) → tab d p ≡ tab z p ++ listed (d - z) z p = λ p. ap (λ (j : ℕ). listed j 0 p) e ∙ listed-add z (d - z) 0 p ∙ ap (λ (j : ℕ). tab z p ++ listed (d - z) j p) (zero-add z) in
+      let b : take z (tab d g) ≡ tab z g = ap (take z) (a g) ∙ take-at (tab z g) (listed (d - z) z g) z (listed-length z 0 g) in
+      a f ∙ ap (λ (l : List A). l ++ listed (d - z) z f) (listed-same z 0 f g (λ j p q. h j (omega arith)) ∙ sym b)
+
+  pub tab-none : (f : ℕ → A) → tab 0 f ≡ []
+  unfolding listed
+  tab-none f = refl
+
+  -- one more at the end
+  pub tab-more : (k : ℕ) (f : ℕ → A) → tab (suc k) f ≡ tab k f ++ (f k ∷ [])
+  unfolding listed
+  tab-more k f = ap (λ (j : ℕ). listed j 0 f) (sym (add-one k)) ∙ listed-add k 1 0 f ∙ ap (λ (j : ℕ). tab k f ++ (f j ∷ [])) (zero-add k)
+
+  pub flat-append : (xs ys : List (List A)) → flat (xs ++ ys) ≡ flat xs ++ flat ys
+  unfolding flat
+  flat-append [] ys = refl
+  flat-append (x ∷ xs) ys = ap (λ (l : List A). x ++ l) (flat-append xs ys) ∙ sym (append-assoc x (flat xs) (flat ys))
+
+pub joined-none : {A : Type 0} (f : ℕ → List A) → joined 0 f ≡ []
+unfolding listed flat
+joined-none f = refl
+
+pub joined-more : {A : Type 0} (k : ℕ) (f : ℕ → List A) → joined (suc k) f ≡ joined k f ++ f k
+unfolding flat
+joined-more k f = ap flat (tab-more k f) ∙ flat-append (tab k f) (f k ∷ []) ∙ ap (λ l. joined k f ++ l) (append-nil (f k))
+
 module _ {A : Type 0} where
   pub length-tab : (n : ℕ) (f : ℕ → A) → length (tab n f) ≡ n
-  length-tab zero f = refl
-  length-tab (suc k) f = length-append (tab k f) (f k ∷ []) ∙ ap (λ (m : ℕ). m + 1) (length-tab k f) ∙ add-one k
+  length-tab n f = listed-length n 0 f
 
   pub getD-tab : (n : ℕ) (f : ℕ → A) (i : ℕ) (d : A) → i < n → getD (tab n f) i d ≡ f i
   getD-tab zero f i d h = absurd (not-suc-le-zero h)
   getD-tab (suc k) f i d h =
       let e = length-tab k f in
-      ⊎-elim
+      ap (λ (l : List A). getD l i d) (tab-more k f)
+      ∙ ⊎-elim
       (λ q. rw q (getD-at (tab k f) (f k) [] d k e))
       (λ q. let b : i < length (tab k f) = omega arith in List·getD-append (tab k f) (f k ∷ []) d i b ∙ getD-tab k f i d q)
       (eq-or-lt-of-le (le-of-suc-le-suc h))
@@ -33,7 +84,7 @@ module _ {A : Type 0} where
   -- n stores from `at` on are the table in place
   pub fill-tab : (l : List A) (at n : ℕ) (f : ℕ → A) → at + n ≤ length l
       → iter n (λ (j : ℕ) (t : List A). set t (at + j) (f j)) l ≡ take at l ++ (tab n f ++ drop (at + n) l)
-  fill-tab l at zero f h = rw add-zero (sym (take-append-drop at l))
+  fill-tab l at zero f h = rw (tab-none f, add-zero) (sym (take-append-drop at l))
   fill-tab l at (suc k) f h =
       let p = take at l ++ tab k f in
       let b : at + k < length l = omega arith in
@@ -43,16 +94,17 @@ module _ {A : Type 0} where
       let lp : length p ≡ at + k = length-append (take at l) (tab k f) ∙ rw (length-take-le at l a, length-tab k f) in
       let e : iter k (λ (j : ℕ) (t : List A). set t (at + j) (f j)) l ≡ p ++ (y ∷ ys)
       = fill-tab l at k f (le-of-lt b) ∙ rw (drop-cons l (at + k) (f k) b, append-assoc) in
-      ap (λ (t : List A). set t (at + k) (f k)) e ∙ set-at p y ys (f k) (at + k) lp ∙ simp (append-assoc, add-suc)
+      ap (λ (t : List A). set t (at + k) (f k)) e ∙ set-at p y ys (f k) (at + k) lp ∙ rw (tab-more k f) (simp (append-assoc, add-suc))
 
   pub length-grid : (m n : ℕ) (f : ℕ → ℕ → A) → length (grid m n f) ≡ m * n
-  length-grid zero n f = sym (zero-mul n)
-  length-grid (suc k) n f = length-append (grid k n f) (tab n (f k)) ∙ rw (length-grid k n f, length-tab n (f k)) (sym (suc-mul k n))
+  length-grid zero n f = rw (joined-none (λ (i : ℕ). tab n (f i)), zero-mul)
+  length-grid (suc k) n f = ap length (joined-more k (λ (i : ℕ). tab n (f i))) ∙ length-append (grid k n f) (tab n (f k)) ∙ rw (length-grid k n f, length-tab n (f k)) (sym (suc-mul k n))
 
   pub getD-grid : (m n : ℕ) (f : ℕ → ℕ → A) (i j : ℕ) (d : A) → i < m → j < n → getD (grid m n f) (i * n + j) d ≡ f i j
   getD-grid zero n f i j d h g = absurd (not-suc-le-zero h)
   getD-grid (suc k) n f i j d h g =
-      ⊎-elim
+      ap (λ (l : List A). getD l (i * n + j) d) (joined-more k (λ (i : ℕ). tab n (f i)))
+      ∙ ⊎-elim
       (λ q. rw q (ap (λ (x : ℕ). getD (grid k n f ++ tab n (f k)) (x + j) d) (sym (length-grid k n f)) ∙ getD-append-add (grid k n f) (tab n (f k)) j d ∙ getD-tab n (f k) j d g))
       (λ q. let b : i * n + j < length (grid k n f) = rw (length-grid k n f) (cell-lt i k n j (k * n) q g (le-refl (k * n))) in
       List·getD-append (grid k n f) (tab n (f k)) d (i * n + j) b ∙ getD-grid k n f i j d q g)
@@ -61,7 +113,7 @@ module _ {A : Type 0} where
   -- m rows of n stores are the grid, with the rest kept
   pub fill-grid : (l : List A) (m n : ℕ) (f : ℕ → ℕ → A) → m * n ≤ length l
       → iter m (λ (i : ℕ) (t : List A). iter n (λ (j : ℕ) (u : List A). set u (i * n + j) (f i j)) t) l ≡ grid m n f ++ drop (m * n) l
-  fill-grid l zero n f h = rw zero-mul
+  fill-grid l zero n f h = rw (joined-none (λ (i : ℕ). tab n (f i)), zero-mul)
   fill-grid l (suc k) n f h =
       let s : suc k * n ≡ k * n + n = suc-mul k n in
       let x = grid k n f ++ drop (k * n) l in
@@ -73,4 +125,4 @@ module _ {A : Type 0} where
       let dx : drop (k * n + n) x ≡ drop (k * n + n) l
       = rw (← lg) (drop-append-add (grid k n f) (drop (length (grid k n f)) l) n ∙ drop-drop n (length (grid k n f)) l) in
       ap (λ (t : List A). iter n (λ (j : ℕ) (u : List A). set u (k * n + j) (f k j)) t) (fill-grid l k n f kl)
-      ∙ fill-tab x (k * n) n (f k) b ∙ rw (tx, dx, s) (sym (append-assoc (grid k n f) (tab n (f k)) (drop (k * n + n) l)))
+      ∙ fill-tab x (k * n) n (f k) b ∙ rw (joined-more k (λ (i : ℕ). tab n (f i)), tx, dx, s) (sym (append-assoc (grid k n f) (tab n (f k)) (drop (k * n + n) l)))

@@ -28,6 +28,10 @@ sumOn acc k t = iter k (λ (i : ℕ) (s : Float). plus s (t i)) acc
 unfoldable pub sumTo : ℕ → (ℕ → Float) → Float
 sumTo k t = sumOn zero64 k t
 
+-- m rows of n terms, row after row: ((0 + t 0 0) + t 0 1) + ..
+unfoldable pub sumRows : ℕ → ℕ → (ℕ → ℕ → Float) → Float
+sumRows m n t = iter m (λ (i : ℕ) (s : Float). sumOn s n (t i)) zero64
+
 unfoldable pub allFinite : List Float → Bool
 allFinite [] = true
 allFinite (x ∷ xs) = finite x && allFinite xs

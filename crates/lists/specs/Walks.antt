@@ -8,6 +8,11 @@ unfoldable pub turning : {E A : Type 0} → ℕ → ℕ → (ℕ → A → Outco
 turning zero i f a = done a
 turning (suc m) i f a = bind (f i a) (λ b. turning m (suc i) f b)
 
+-- a turn for each of the list, each from what the last one made
+unfoldable pub along : {E X A : Type 0} → List X → (X → A → Outcome E A) → A → Outcome E A
+along [] f a = done a
+along (x ∷ xs) f a = bind (f x a) (λ b. along xs f b)
+
 -- each zone by itself, from number k on
 module _ {E X Y : Type 0} (f : ℕ → X → Outcome E Y) where
   unfoldable pub every : ℕ → List X → Outcome E (List Y)
