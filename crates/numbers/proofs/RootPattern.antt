@@ -8,10 +8,10 @@ use lib.Pow.{pow-add, pow-pos, pow-mono}
 use lib.Bits.{bitAnd, bitOr, and-mask}
 use lib.Ieee.{binary64, size, odd, ofBits}
 use lib.Ieee.Digits.{size-lt, size-le}
-use Rattle.numbers.specs.Sqrt.{isqrt, rootOf}
+use Rattle.numbers.specs.Root.{wholeRoot, rootOfUnits}
 use Rattle.numbers.specs.Steps.{unitsOf, Parted}
 use Rattle.numbers.proofs.Shifts.{rebuild}
-use Rattle.numbers.proofs.WholeRoot.{IsRoot, isqrt-ok, unique, at-least, less-than}
+use Rattle.numbers.proofs.WholeRoot.{IsRoot, whole-root-ok, unique, at-least, less-than}
 use Rattle.numbers.proofs.Patterns.{written}
 
 -- ---- how many digits N has
@@ -21,15 +21,15 @@ size-gt n j h = lt-of-not-le (λ (g : size n ≤ j). not-le-of-lt (lt-of-lt-of-l
 halves : (z j : ℕ) → z ≤ 108 + 2 * j → 106 + 2 * j < z → (z - 107) / 2 ≡ j
 halves z j a b = omega arith
 
-pub root-at : (u p j : ℕ) → u * 2 ^ 1074 ≡ p * 2 ^ (2 * j) → 2 ^ 106 ≤ p → p < 2 ^ 108 → rootOf u ≡ odd 53 false ((isqrt p + 1) / 2) (j + 1) 1074
-unfolding rootOf
+pub root-at : (u p j : ℕ) → u * 2 ^ 1074 ≡ p * 2 ^ (2 * j) → 2 ^ 106 ≤ p → p < 2 ^ 108 → rootOfUnits u ≡ odd 53 false ((wholeRoot p + 1) / 2) (j + 1) 1074
+unfolding rootOfUnits
 root-at u p j e lo hi =
     let N = u * 2 ^ 1074 in
     let lo' : 2 ^ (106 + 2 * j) ≤ N = le-trans (le-of-eq (pow-add 2 106 (2 * j))) (le-trans (mul-le-mul-right (2 ^ (2 * j)) lo) (le-of-eq (sym e))) in
     let hi' : N < 2 ^ (108 + 2 * j) = lt-of-le-of-lt (le-of-eq e) (lt-of-lt-of-le (mul-lt-mul-of-pos-right hi (pow-pos (2 * j))) (le-of-eq (sym (pow-add 2 108 (2 * j))))) in
     let is : (size N - 107) / 2 ≡ j = halves (size N) j (size-le N (108 + 2 * j) hi') (size-gt N (106 + 2 * j) lo') in
-    ap (λ (i : ℕ). odd 53 false ((isqrt (N / 2 ^ (2 * i)) + 1) / 2) (i + 1) 1074) is
-    ∙ ap (λ (x : ℕ). odd 53 false ((isqrt x + 1) / 2) (j + 1) 1074) (ap (λ (x : ℕ). x / 2 ^ (2 * j)) e ∙ mul-div-cancel p (pow-pos (2 * j)))
+    ap (λ (i : ℕ). odd 53 false ((wholeRoot (N / 2 ^ (2 * i)) + 1) / 2) (i + 1) 1074) is
+    ∙ ap (λ (x : ℕ). odd 53 false ((wholeRoot x + 1) / 2) (j + 1) 1074) (ap (λ (x : ℕ). x / 2 ^ (2 * j)) e ∙ mul-div-cancel p (pow-pos (2 * j)))
 
 -- ---- the two together
 -- N, from u * 2 ^ 52 ≡ m * 2 ^ e
@@ -53,13 +53,13 @@ module _ (u M h q : ℕ) (eq : u * 2 ^ 1074 ≡ M * 2 ^ 54 * 2 ^ (2 * (h + 484))
       let b = bounds M q lo hi r in
       omega arith
 
-  pub right : ofBits binary64 ((h + 485) * 2 ^ 52 + (q + 1) / 2) ≡ rootOf u
+  pub right : ofBits binary64 ((h + 485) * 2 ^ 52 + (q + 1) / 2) ≡ rootOfUnits u
   right =
       let b = bounds M q lo hi r in
       let s : h + 485 ≡ h + 484 + 1 = omega arith in
       written (h + 485) ((q + 1) / 2) (omega arith) (omega arith) (omega arith)
       ∙ ap (λ (x : ℕ). odd 53 false ((q + 1) / 2) x 1074) s
-      ∙ ap (λ (x : ℕ). odd 53 false ((x + 1) / 2) (h + 484 + 1) 1074) (unique (M * 2 ^ 54) q (isqrt (M * 2 ^ 54)) r (isqrt-ok (M * 2 ^ 54)))
+      ∙ ap (λ (x : ℕ). odd 53 false ((x + 1) / 2) (h + 484 + 1) 1074) (unique (M * 2 ^ 54) q (wholeRoot (M * 2 ^ 54)) r (whole-root-ok (M * 2 ^ 54)))
       ∙ sym (root-at u (M * 2 ^ 54) (h + 484) eq (omega arith) (omega arith))
 
 -- m, or twice m where e is odd, and the root's pattern
@@ -77,7 +77,7 @@ module _ (b m e : ℕ) (p : Parted b m e) where
 
   pub found : (q : ℕ) → (q * q ≤ m * 2 ^ bitAnd e 1 % 2 ^ 64 * 2 ^ 54) × (m * 2 ^ bitAnd e 1 % 2 ^ 64 * 2 ^ 54 < (q + 1) * (q + 1)) × (q < 2 ^ 54)
       → (bitOr ((e / 2 + 486) * 2 ^ 52 % 2 ^ 64) (bitAnd ((q + 1) / 2) (2 ^ 52 - 1)) < 0x7ff0_0000_0000_0000)
-      × (ofBits binary64 (bitOr ((e / 2 + 486) * 2 ^ 52 % 2 ^ 64) (bitAnd ((q + 1) / 2) (2 ^ 52 - 1))) ≡ rootOf (unitsOf b))
+      × (ofBits binary64 (bitOr ((e / 2 + 486) * 2 ^ 52 % 2 ^ 64) (bitAnd ((q + 1) / 2) (2 ^ 52 - 1))) ≡ rootOfUnits (unitsOf b))
   found q g =
       let s = p .small in
       let M = m * 2 ^ (e % 2) in

@@ -1,4 +1,4 @@
--- The three theorems: what `sqrt`, `floor` and `magnitude` give, for every f64. Assumes nothing.
+-- The three theorems: what `root`, `floor` and `magnitude` give, for every f64. Assumes nothing.
 use mathlib.Core.Path.{refl}
 use Prim.Native.Nat.{ℕ, zero, suc, _^_}
 use mathlib.Core.Bool.{Bool, true, false}
@@ -7,24 +7,24 @@ use lib.Dec.{T}
 use lib.Ieee.{Float, nan, inf, fin, binary64, fits}
 use lib.Ieee.Exact.{HasValue}
 use Rattle.numbers.specs.Value.{unitsIn}
-use Rattle.numbers.specs.Sqrt.{SquareRoot, sqrtOf}
+use Rattle.numbers.specs.Root.{SquareRoot, rootOf}
 use Rattle.numbers.specs.Floor.{Floored, floorOf}
-use Rattle.numbers.specs.Magnitude.{Unsigned, magnitudeOf}
+use Rattle.numbers.specs.Magnitude.{SignCleared, magnitudeOf}
 use Rattle.numbers.proofs.Units as at-units
-use Rattle.numbers.proofs.SqrtNearest.{nearest}
+use Rattle.numbers.proofs.RootNearest.{nearest}
 use Rattle.numbers.proofs.FloorExact.{kept-zero, below}
 use Rattle.numbers.proofs.SignBit.{cleared}
 
 -- a NaN and what is below zero have none, the infinity and the zeros are their own, and any other is rounded to the nearest f64, where no two are as near
-pub sqrt-right : (x : Float) → T (fits binary64 x) → SquareRoot x (sqrtOf x)
-unfolding sqrtOf
-sqrt-right nan f = refl
-sqrt-right (inf false) f = refl
-sqrt-right (inf true) f = refl
-sqrt-right (fin false zero e) f = refl
-sqrt-right (fin true zero e) f = refl
-sqrt-right (fin true (suc m) e) f = refl
-sqrt-right (fin false (suc m) e) f = nearest m e f
+pub root-right : (x : Float) → T (fits binary64 x) → SquareRoot x (rootOf x)
+unfolding rootOf
+root-right nan f = refl
+root-right (inf false) f = refl
+root-right (inf true) f = refl
+root-right (fin false zero e) f = refl
+root-right (fin true zero e) f = refl
+root-right (fin true (suc m) e) f = refl
+root-right (fin false (suc m) e) f = nearest m e f
 
 -- a NaN, the infinities and the zeros are kept, and any other gives a whole number r with r ≤ x < r + 1
 pub floor-right : (x : Float) → T (fits binary64 x) → Floored x (floorOf x)
@@ -35,7 +35,7 @@ floor-right (fin s zero e) f = kept-zero s e f
 floor-right (fin s (suc m) e) f = below s (suc m) e f
 
 -- a NaN is kept, and of any other the sign's bit is cleared
-pub magnitude-right : (x : Float) → T (fits binary64 x) → Unsigned x (magnitudeOf x)
+pub magnitude-right : (x : Float) → T (fits binary64 x) → SignCleared x (magnitudeOf x)
 unfolding magnitudeOf
 magnitude-right nan f = refl
 magnitude-right (inf s) f = refl

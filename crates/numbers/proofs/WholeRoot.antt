@@ -1,4 +1,4 @@
--- `isqrt` is the whole root, and only one number is. Assumes nothing.
+-- `wholeRoot` is the whole root, and only one number is. Assumes nothing.
 use mathlib.Core.Path.{_≡_, ap, _∙_}
 use Prim.Native.Nat.{ℕ, zero, suc, _+_, _-_, _*_, _/_, _^_, _≤_, _<_}
 use native.Mathlib.Nat.{le-trans, lt-of-lt-of-le, lt-of-not-le, not-le-of-lt, le-antisymm, le-of-suc-le-suc, mul-comm, mul-le-mul, pow-succ', pow-le-pow-left}
@@ -7,7 +7,7 @@ use mathlib.Core.Bool.{Bool, true, false, not, cond}
 use lib.Dec.{T, leb, leb→le, nleb→lt}
 use lib.Ieee.{size}
 use lib.Ieee.Digits.{size-lt}
-use Rattle.numbers.specs.Sqrt.{rootIn, isqrt}
+use Rattle.numbers.specs.Root.{rootIn, wholeRoot}
 use Rattle.numbers.proofs.Squares.{sq-even, sq-suc}
 
 abbrev pub IsRoot : ℕ → ℕ → Type 0
@@ -38,9 +38,9 @@ unfolding rootIn
 rootIn-ok zero n h = (omega arith, small n h)
 rootIn-ok (suc k) n h = one-more n (rootIn k (n / 4)) (rootIn-ok k (n / 4) (quarter n (4 ^ k) (4 ^ suc k) h (pow-succ' 4 k)))
 
-pub isqrt-ok : (n : ℕ) → IsRoot n (isqrt n)
-unfolding isqrt
-isqrt-ok n = rootIn-ok (size n) n (lt-of-lt-of-le (size-lt n) (pow-le-pow-left (omega arith) (size n)))
+pub whole-root-ok : (n : ℕ) → IsRoot n (wholeRoot n)
+unfolding wholeRoot
+whole-root-ok n = rootIn-ok (size n) n (lt-of-lt-of-le (size-lt n) (pow-le-pow-left (omega arith) (size n)))
 
 below : (n a b : ℕ) → a * a ≤ n → n < (b + 1) * (b + 1) → a ≤ b
 below n a b h k = le-of-suc-le-suc (lt-of-not-le (λ (g : suc b ≤ a). not-le-of-lt k (le-trans (mul-le-mul {n₁ = b + 1} {m₁ = b + 1} {n₂ = a} {m₂ = a} (omega arith) (omega arith)) h)))

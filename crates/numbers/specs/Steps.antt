@@ -1,4 +1,4 @@
--- What the contracts of the functions that `sqrt` is made of cite. Definitions only.
+-- What the contracts of the functions that `root` is made of cite. Definitions only.
 use mathlib.Core.Path.{_≡_}
 use mathlib.Core.Bool.{Bool}
 use Rattle.numbers.specs.Floor.{Within}

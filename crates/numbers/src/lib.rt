@@ -2,7 +2,7 @@
 ghost use mathlib.Core.Path.{_≡_};
 ghost use Prim.Native.Nat.{_+_, _*_, _^_, _≤_, _<_};
 ghost use lib.Ieee.{binary64, ofBits};
-ghost use Rattle.numbers.specs.Sqrt.{sqrtOf, rootOf};
+ghost use Rattle.numbers.specs.Root.{rootOf, rootOfUnits};
 ghost use Rattle.numbers.specs.Steps.{unitsOf, Parted, Leaves, Refinable, CutTo};
 ghost use Rattle.numbers.specs.Floor.{floorOf};
 ghost use Rattle.numbers.specs.Magnitude.{magnitudeOf};
@@ -116,7 +116,7 @@ fn whole_root(m: u64) -> Rooted
 }
 
 // The largest q with q * q <= m * 2^54, for an m of 53 or 54 digits.
-fn root(m: u64) -> u64
+fn wide_root(m: u64) -> u64
     requires { ⌜ (2 ^ 52 ≤ m) × (m < 2 ^ 54) ⌝ }
     ensures { λ q. ⌜ (q * q ≤ m * 2 ^ 54) × (m * 2 ^ 54 < (q + 1) * (q + 1)) × (q < 2 ^ 54) ⌝ }
 {
@@ -154,16 +154,16 @@ fn parts(bits: u64) -> Split
 // The pattern of the root of what a pattern stands for: the root's last digit says which way to round.
 fn root_bits(bits: u64) -> u64
     requires { ⌜ (0 < bits) × (bits < 0x7ff0_0000_0000_0000) ⌝ }
-    ensures { λ r. ⌜ (r < 0x7ff0_0000_0000_0000) × (ofBits binary64 r ≡ rootOf (unitsOf bits)) ⌝ }
+    ensures { λ r. ⌜ (r < 0x7ff0_0000_0000_0000) × (ofBits binary64 r ≡ rootOfUnits (unitsOf bits)) ⌝ }
 {
     let p = parts(bits);
-    let q = root(p.m << (p.e & 1));
+    let q = wide_root(p.m << (p.e & 1));
     ((p.e >> 1) + 486) << 52 | (q + 1) >> 1 & 0xf_ffff_ffff_ffff
 }
 
 // The square root of x, rounded to the nearest f64.
-pub fn sqrt(x: f64) -> f64
-    ensures { λ r. ⌜ r ≡ sqrtOf x ⌝ }
+pub fn root(x: f64) -> f64
+    ensures { λ r. ⌜ r ≡ rootOf x ⌝ }
 {
     if x != x {
         return x;

@@ -1,4 +1,4 @@
--- `roots::floor` meets its contract (`FloorBits.antt`). Assumes nothing.
+-- `numbers::floor` meets its contract (`FloorBits.antt`). Assumes nothing.
 use lib.Ieee.{binary64, toBits}
 use lib.Ieee.Bits.{toBits-lt}
 use denote.Floats.{passes}

@@ -1,4 +1,4 @@
--- `roots::grown` meets its contract. Assumes nothing.
+-- `numbers::grown` meets its contract. Assumes nothing.
 use Prim.Native.Nat.{_+_, _≤_}
 use native.Mathlib.Nat.{mul-le-mul}
 use native.Mathlib.Omega.{arith}

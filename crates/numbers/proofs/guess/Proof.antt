@@ -1,4 +1,4 @@
--- `roots::guess` meets its contract: its floats are numbers, and its digits few. Assumes nothing.
+-- `numbers::guess` meets its contract: its floats are numbers, and its digits few. Assumes nothing.
 use mathlib.Core.Path.{sym, subst}
 use mathlib.Core.Bool.{false, not}
 use Prim.Native.Nat.{ℕ, _/_, _-_, _^_, _≤_}

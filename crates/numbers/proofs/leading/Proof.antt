@@ -1,4 +1,4 @@
--- `roots::leading` meets its contract. Assumes nothing.
+-- `numbers::leading` meets its contract. Assumes nothing.
 use native.Mathlib.Omega.{arith}
 use Rattle.numbers.proofs.Shifts.{lead}
 use Rattle.numbers.proofs.leading.Statement.{statement}

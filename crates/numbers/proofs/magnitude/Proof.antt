@@ -1,4 +1,4 @@
--- `roots::magnitude` meets its contract (`SignBit.antt`). Assumes nothing.
+-- `numbers::magnitude` meets its contract (`SignBit.antt`). Assumes nothing.
 use denote.Floats.{passes}
 use Rattle.numbers.proofs.SignBit.{of-nan, of-bits, no-nan-pattern}
 use Rattle.numbers.proofs.magnitude.Statement.{statement}

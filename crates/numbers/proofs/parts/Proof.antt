@@ -1,4 +1,4 @@
--- `roots::parts` meets its contract (`Splitting.antt`). Assumes nothing.
+-- `numbers::parts` meets its contract (`Splitting.antt`). Assumes nothing.
 use borrow.Author.Needs.{needs}
 use native.Mathlib.Omega.{arith}
 use Rattle.numbers.proofs.Splitting.{normal, enough, few, subnormal}

@@ -1,4 +1,4 @@
--- `roots::refine` meets its contract (`Karatsuba.antt`). Assumes nothing.
+-- `numbers::refine` meets its contract (`Karatsuba.antt`). Assumes nothing.
 use Prim.Native.Nat.{ℕ, _+_, _*_, _/_, _%_, _^_}
 use native.Mathlib.Omega.{arith}
 use lib.Bits.{bitOr}

@@ -1,4 +1,4 @@
--- `roots::slow_root` meets its contract (`Doubling.antt`). Assumes nothing.
+-- `numbers::slow_root` meets its contract (`Doubling.antt`). Assumes nothing.
 use Prim.Native.Nat.{_/_, _^_}
 use native.Mathlib.Omega.{arith}
 use lib.Dec.{lit≤}

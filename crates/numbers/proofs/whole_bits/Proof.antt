@@ -1,4 +1,4 @@
--- `roots::whole_bits` meets its contract (`FloorBits.antt`). Assumes nothing.
+-- `numbers::whole_bits` meets its contract (`FloorBits.antt`). Assumes nothing.
 use mathlib.Core.Path.{_≡_, sym, subst}
 use mathlib.Core.Bool.{Bool}
 use Prim.Native.Nat.{ℕ}

@@ -1,4 +1,4 @@
--- `roots::whole_root` meets its contract. Assumes nothing.
+-- `numbers::whole_root` meets its contract. Assumes nothing.
 use native.Mathlib.Nat.{mul-le-mul, le-of-lt}
 use native.Mathlib.Omega.{arith}
 use borrow.Author.Needs.{needs}

@@ -1,4 +1,4 @@
--- `rootOf u` is the f64 nearest to the root of u units. Assumes nothing.
+-- `rootOfUnits u` is the f64 nearest to the root of u units. Assumes nothing.
 use mathlib.Core.Path.{_≡_}
 use Prim.Native.Nat.{ℕ, suc, _+_, _-_, _*_, _/_, _%_, _^_, _≤_, _<_}
 use native.Mathlib.Nat.{le-of-lt, lt-of-lt-of-le, zero-lt-suc, mul-pos}
@@ -12,9 +12,9 @@ use lib.Ieee.Fits.{odd-fits}
 use lib.Ieee.Exact.{HasValue, odd-sign}
 use lib.Ieee.Positive.{positive, positive-of-value}
 use Rattle.numbers.specs.Value.{unitsIn, plain}
-use Rattle.numbers.specs.Sqrt.{isqrt, rootOf, NearestRoot}
+use Rattle.numbers.specs.Root.{wholeRoot, rootOfUnits, NearestRoot}
 use Rattle.numbers.proofs.Units.{Digits, digits, units-of, lt-units, below-top, few-zeros}
-use Rattle.numbers.proofs.WholeRoot.{IsRoot, isqrt-ok}
+use Rattle.numbers.proofs.WholeRoot.{IsRoot, whole-root-ok}
 use Rattle.numbers.proofs.RootPattern.{bounds, root-at}
 use Rattle.numbers.proofs.Midpoints.{Scaled, scaled, above, beneath, four-times}
 
@@ -38,7 +38,7 @@ module _ (u : ℕ) (S : Scaled u) where
   p = S .M * 2 ^ 54
 
   abbrev q : ℕ
-  q = isqrt (S .M * 2 ^ 54)
+  q = wholeRoot (S .M * 2 ^ 54)
 
   abbrev v : ℕ
   v = (q + 1) / 2 * 2 ^ (S .J + 1)
@@ -47,12 +47,12 @@ module _ (u : ℕ) (S : Scaled u) where
   r = odd 53 false ((q + 1) / 2) (S .J + 1) 1074
 
   R : IsRoot p q
-  R = isqrt-ok p
+  R = whole-root-ok p
 
   B : (2 ^ 53 ≤ q) × (q < 2 ^ 54 - 1)
   B = bounds (S .M) q (S .low) (S .high) R
 
-  rooted : rootOf u ≡ r
+  rooted : rootOfUnits u ≡ r
   rooted = root-at u p (S .J) (S .is) (omega (arith, S .low)) (omega (arith, S .high))
 
   sized : HasValue r false v (2 ^ 1074)
@@ -87,10 +87,10 @@ module _ (u : ℕ) (S : Scaled u) where
       let l = lt-units r y r-fits f (positive-plain r r-positive) P h in
       rw (r-units, d .is, four) (above p q (S .J) R (B .0) (even-square (S .M)) (i .0) (d .k) (d .few) (rw (r-units, d .is) at l))
 
-  nearest-at : (x : Float) → unitsIn x ≡ u → NearestRoot x (rootOf u)
+  nearest-at : (x : Float) → unitsIn x ≡ u → NearestRoot x (rootOfUnits u)
   nearest-at x e = rw rooted (record { held = r-fits; above-zero = r-positive; under = λ y f P h. rw e (each-under y f P h); over = λ y f P h. rw e (each-over y f P h) })
 
-pub nearest : (m : ℕ) (e : ℤ) → T (fits binary64 (fin false (suc m) e)) → NearestRoot (fin false (suc m) e) (rootOf (unitsIn (fin false (suc m) e)))
+pub nearest : (m : ℕ) (e : ℤ) → T (fits binary64 (fin false (suc m) e)) → NearestRoot (fin false (suc m) e) (rootOfUnits (unitsIn (fin false (suc m) e)))
 nearest m e f =
     let x = fin false (suc m) e in
     let d = digits false (suc m) e f in

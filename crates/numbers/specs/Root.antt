@@ -7,7 +7,7 @@ use lib.Ieee.{Float, nan, inf, fin, binary64, fits, lt, size, odd}
 use lib.Ieee.Positive.{positive}
 use Rattle.numbers.specs.Value.{unitsIn, plain}
 
--- ---- the claim, which `sqrt-right` of proofs/Theorems.antt proves of `sqrtOf`
+-- ---- the claim, which `root-right` of proofs/Theorems.antt proves of `rootOf`
 
 -- √x is nearer to r than to any other f64 y, since the middle (r + y) / 2 lies on y's side of √x. Both orders are strict, so √x is never just between two f64.
 -- In units √x is the root of unitsIn x * 2 ^ 1074. A y with a sign is further away than 0.
@@ -33,24 +33,24 @@ unfoldable pub rootIn : ℕ → ℕ → ℕ
 rootIn zero n = 0
 rootIn (suc k) n = let q = 2 * rootIn k (n / 4) in cond (leb ((q + 1) * (q + 1)) n) (q + 1) q
 
-unfoldable pub isqrt : ℕ → ℕ
+unfoldable pub wholeRoot : ℕ → ℕ
 unfolding rootIn size
-isqrt n = rootIn (size n) n
+wholeRoot n = rootIn (size n) n
 
 -- The root of n units, which in units is that of N = n * 2 ^ 1074. An even number of digits of N, 2 * j, is left away, so that the whole root of the rest has 54 digits,
 -- one more than an f64 keeps. That last digit says which way to round.
-unfoldable pub rootOf : ℕ → Float
-unfolding size isqrt odd
-rootOf n =
+unfoldable pub rootOfUnits : ℕ → Float
+unfolding size wholeRoot odd
+rootOfUnits n =
     let N = n * 2 ^ 1074 in
     let j = (size N - 107) / 2 in
-    odd 53 false ((isqrt (N / 2 ^ (2 * j)) + 1) / 2) (j + 1) 1074
+    odd 53 false ((wholeRoot (N / 2 ^ (2 * j)) + 1) / 2) (j + 1) 1074
 
-unfoldable pub sqrtOf : Float → Float
-unfolding rootOf
-sqrtOf nan = nan
-sqrtOf (inf true) = nan
-sqrtOf (inf false) = inf false
-sqrtOf (fin s zero e) = fin s zero e
-sqrtOf (fin true (suc m) e) = nan
-sqrtOf (fin false (suc m) e) = rootOf (unitsIn (fin false (suc m) e))
+unfoldable pub rootOf : Float → Float
+unfolding rootOfUnits
+rootOf nan = nan
+rootOf (inf true) = nan
+rootOf (inf false) = inf false
+rootOf (fin s zero e) = fin s zero e
+rootOf (fin true (suc m) e) = nan
+rootOf (fin false (suc m) e) = rootOfUnits (unitsIn (fin false (suc m) e))
