@@ -31,6 +31,10 @@ quarter64 = ofBits binary64 0x3fd0_0000_0000_0000
 abbrev pub sixth64 : Float
 sixth64 = ofBits binary64 0x3fc5_5555_5555_5555
 
+-- 2^31
+abbrev pub farthest64 : Float
+farthest64 = ofBits binary64 0x41e0_0000_0000_0000
+
 -- 1e-30
 abbrev pub tiny64 : Float
 tiny64 = ofBits binary64 0x39b4_484b_feeb_c2a0

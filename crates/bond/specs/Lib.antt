@@ -1,0 +1,4 @@
+pub mod Rotation
+pub mod Sweeps
+pub mod Values
+pub mod Bonds
