@@ -1,0 +1,3 @@
+pub mod Zones
+pub mod Steps
+pub mod Call

@@ -1,0 +1,6 @@
+// One step of a plan: its lone settings.
+pub struct Settings {
+    pub tau: f64,
+    pub c: f64,
+    pub eps: f64,
+}
