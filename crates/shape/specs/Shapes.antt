@@ -1,12 +1,10 @@
 -- A shape: its sizes, where its cores stand in one list of numbers, and refusals 1 to 3. Definitions only.
 use Prim.Native.Nat.{ℕ, suc, _+_, _*_}
-use mathlib.Core.Bool.{Bool, true, _&&_}
-use mathlib.Core.List.{List, [], _∷_}
+use mathlib.Core.Bool.{Bool, true, cond, _&&_}
 use lib.Dec.{ltb, eqb}
-use lib.ListN.{getD, set}
+use lib.ListN.{getD}
 use Rattle.answers.specs.declared.Refusal.the-variants.{Axes, Size, Bond}
 use Rattle.answers.specs.Outcome.{Check, _then_, demand, demandEach}
-use Rattle.lists.specs.Lists.{pick}
 use Rattle.lists.specs.Slots.{offset}
 use Rattle.shape.specs.declared.Shape.{Shape}
 use Rattle.shape.specs.Limits.{mostAxes, mostPoints, mostRank, within}
@@ -21,8 +19,8 @@ abbrev pub rightOf : Shape → ℕ → ℕ
 rightOf s k = getD (s .right) k 0
 
 -- a bond stands right of each core but the last: x there, y at the last
-unfoldable pub atBond : {A : Type 0} → Shape → ℕ → A → A → A
-atBond s k x y = pick (ltb (suc k) (s .d)) x y
+abbrev pub atBond : {A : Type 0} → Shape → ℕ → A → A → A
+atBond s k x y = cond (ltb (suc k) (s .d)) x y
 
 -- ---- refusals 1 to 3
 unfoldable pub sizeOk : Shape → ℕ → Bool

@@ -1,0 +1,33 @@
+-- Every sum done by hand comes out as it is written, by computation. Assumes nothing.
+use mathlib.Core.Path.{refl}
+use lib.Ieee.{add, sub, mul, div, neg, lt, le, eq, ofInt, ofBits, toBits}
+use Rattle.answers.specs.Outcome.{demand, demandEach}
+use Rattle.numbers.specs.Floor.{floorOf}
+use Rattle.numbers.specs.Residue.{wrap}
+use Rattle.numbers.specs.Root.{rootIn, wholeRoot, rootOfUnits, rootOf}
+use Rattle.numbers.specs.Whole.{wholeOf, fractionOf}
+use Rattle.lists.specs.Floats.{sumOn, sumTo, sumRows, allFinite, firstNotFinite, stored}
+use Rattle.lists.specs.Lists.{pick, listed, flat, first, count, pairs, folded}
+use Rattle.lists.specs.Slots.{offset, slot, fit}
+use Rattle.lists.specs.Walks.{along, every, walk}
+use Rattle.shape.specs.Cores.{place, entry, block, coreAt, coresOf, pointsAt, reshaped}
+use Rattle.shape.specs.Shapes.{sizeOk, bondOk, shapeOk, coreSize, pointSize}
+use Rattle.axes.specs.Axes.{axisFinite, axisOk}
+use Rattle.shift.specs.Shifts.{distance, spacing, shiftOf, shifted, scaled}
+use Rattle.shift.specs.Weights.{cubicBandWeights, bandOn, shiftedAt}
+use Rattle.bond.specs.Bonds.{gram, divided, leftFactor, carryOf, cutBond, absorb}
+use Rattle.bond.specs.Rotation.{tangentOf, slopeOf, cosineOf, turnedAt}
+use Rattle.bond.specs.Sweeps.{eye, turnColumns, turnRows, cleared, turned, skipped, rotate, sweep, offSum, settled, sweepsFrom, diagonalized}
+use Rattle.bond.specs.Values.{singularOf, singulars, rankIn, indexAt, order, sorted, thresholdOf, keptRank}
+use Rattle.rounding.specs.Call.{lengthsOk, coreFinite, notBelowZero, roundOk, scratchAfter, endedBy, roundCall}
+use Rattle.rounding.specs.Rounding.{roundCore, rounding}
+use Rattle.product.specs.Call.{innerOk, weighed, innerCall}
+use Rattle.product.specs.Product.{contract, contractAt, sumAxis, sums, inner}
+use Rattle.stepping.specs.Call.{reachesAt, stepOk, stepCall}
+use Rattle.stepping.specs.Steps.{shiftZone, scaleZone, roundZone, stepFrom, step}
+use Rattle.stepping.specs.Zones.{zonesOf, rules}
+use Rattle.hand_sums.specs.Cases.{cases, AllRight}
+
+pub by-hand : AllRight cases
+unfolding cases add sub mul div neg lt le eq ofInt ofBits toBits demand demandEach floorOf wrap rootIn wholeRoot rootOfUnits rootOf wholeOf fractionOf sumOn sumTo sumRows allFinite firstNotFinite stored pick listed flat first count pairs folded offset slot fit along every walk place entry block coreAt coresOf pointsAt reshaped sizeOk bondOk shapeOk coreSize pointSize axisFinite axisOk distance spacing shiftOf shifted scaled cubicBandWeights bandOn shiftedAt gram divided leftFactor carryOf cutBond absorb tangentOf slopeOf cosineOf turnedAt eye turnColumns turnRows cleared turned skipped rotate sweep offSum settled sweepsFrom diagonalized singularOf singulars rankIn indexAt order sorted thresholdOf keptRank lengthsOk coreFinite notBelowZero roundOk scratchAfter endedBy roundCall roundCore rounding innerOk weighed innerCall contract contractAt sumAxis sums inner reachesAt stepOk stepCall shiftZone scaleZone roundZone stepFrom step zonesOf rules
+by-hand = (refl, (refl, (refl, (refl, (refl, (refl, (refl, (refl, (refl, (refl, (refl, tt)))))))))))
