@@ -1,4 +1,5 @@
 pub mod Rotation
 pub mod Sweeps
+pub mod Iteration
 pub mod Values
 pub mod Bonds

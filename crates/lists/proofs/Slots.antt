@@ -1,12 +1,14 @@
 -- Laws of slots: offsets rise, what was written is read again, and the rest is as it was. Assumes nothing.
 use mathlib.Core.Path.{_≡_, refl, sym, ap, _∙_, subst}
-use Prim.Native.Nat.{ℕ, zero, suc, _+_, _-_, _≤_, _<_}
-use native.Mathlib.Nat.{zero-add, add-zero, add-suc, suc-add, le-refl}
+use Prim.Native.Nat.{ℕ, zero, suc, _+_, _-_, _≤_, _<_, suc-le-suc}
+use native.Mathlib.Nat.{zero-add, add-zero, add-suc, suc-add, le-refl, zero-lt-suc}
 use native.Mathlib.Omega.{arith}
 use mathlib.Core.List.{List, [], _∷_, _++_, append-assoc}
 use lib.ListN.{length, take, drop, getD, replicate, length-append, length-drop, length-replicate, take-append-drop}
-use lib.Seq.{split-at, take-take, take-append-le, take-append-seam, take-all, take-at, drop-at, drop-drop, length-take-le, take-nil}
+use lib.Seq.{split-at, take-take, take-add, take-append-le, take-append-seam, take-all, take-at, drop-at, drop-drop, length-take-le, take-nil}
+use Rattle.lists.specs.Lists.{flat, joined}
 use Rattle.lists.specs.Slots.{offset, slot, put, fit, laid, write}
+use Rattle.lists.proofs.Tables.{joined-none, joined-more}
 
 -- ---- laws: offsets
 pub offset-suc : (size : ℕ → ℕ) (k : ℕ) → offset size (suc k) ≡ offset size k + size k
@@ -259,3 +261,39 @@ module _ {A : Type 0} (size : ℕ → ℕ) (o : A) (d z : ℕ) (q : List (List A
           let f = laid-length size o z q in
           let g : offset size (z + length q) ≡ offset size d = ap (offset size) whole in
           omega arith
+
+-- ---- slots one after another are the list
+module _ {A : Type 0} (size : ℕ → ℕ) where
+  pub slots-joined : (d : ℕ) (l : List A) → joined d (λ (k : ℕ). slot size k l) ≡ take (offset size d) l
+  unfolding slot offset
+  slots-joined zero l = joined-none (λ (k : ℕ). slot size k l)
+  slots-joined (suc k) l = joined-more k (λ (k : ℕ). slot size k l) ∙ ap (λ (x : List A). x ++ take (size k) (drop (offset size k) l)) (slots-joined k l) ∙ sym (take-add (offset size k) (size k) l)
+
+  -- lists as long as their slots, one after another, are slots
+  laid-flat : (o : A) (k : ℕ) (xs : List (List A)) → ((j : ℕ) → j < length xs → length (getD xs j []) ≡ size (k + j)) → laid size o k xs ≡ flat xs
+  unfolding laid flat fit
+  laid-flat o k [] h = refl
+  laid-flat o k (x ∷ xs) h =
+      let e : length x ≡ size k = h 0 (zero-lt-suc (length xs)) ∙ ap size (add-zero k) in
+      ap (λ (y : List A). y ++ laid size o (suc k) xs) (take-at x (replicate (size k) o) (size k) e)
+      ∙ ap (λ (y : List A). x ++ y) (laid-flat o (suc k) xs (λ j lt. h (suc j) (suc-le-suc lt) ∙ ap size (add-suc k j ∙ sym (suc-add k j))))
+
+  module _ (o : A) (xs : List (List A)) (fits : (j : ℕ) → j < length xs → length (getD xs j []) ≡ size j) where
+    flat-laid : laid size o 0 xs ≡ flat xs
+    flat-laid = laid-flat o 0 xs (λ j l. fits j l ∙ ap size (sym (zero-add j)))
+
+    laid-whole : length (laid size o 0 xs) ≡ offset size (length xs)
+    unfolding offset
+    laid-whole = sym (zero-add (length (laid size o 0 xs))) ∙ laid-length size o 0 xs ∙ ap (offset size) (zero-add (length xs))
+
+    pub flat-length : length (flat xs) ≡ offset size (length xs)
+    flat-length = ap length (sym flat-laid) ∙ laid-whole
+
+    pub slot-flat : (l : List A) (k : ℕ) → k < length xs → slot size k (flat xs ++ l) ≡ getD xs k []
+    unfolding write offset fit
+    slot-flat l k lt =
+        ap (λ (y : List A). slot size k (y ++ l)) (sym flat-laid)
+        ∙ slot-before size k (length xs) (laid size o 0 xs ++ l) (write size o (length xs) 0 xs []) lt
+        (take-at (laid size o 0 xs) l (offset size (length xs)) laid-whole ∙ sym (take-at (laid size o 0 xs) (drop (offset size (length xs)) []) (offset size (length xs)) laid-whole))
+        ∙ write-slot size o (length xs) xs [] k refl lt
+        ∙ take-at (getD xs k []) (replicate (size k) o) (size k) (fits k lt)

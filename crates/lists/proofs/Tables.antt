@@ -5,7 +5,7 @@ use native.Mathlib.Numerals.{add-one}
 use mathlib.Core.Logic.{⊎-elim}
 use native.Mathlib.Omega.{arith}
 use mathlib.Core.Path.{_≡_, refl, sym, ap, _∙_}
-use mathlib.Core.List.{List, [], _∷_, _++_, append-assoc, append-nil}
+use mathlib.Core.List.{List, [], _∷_, _++_, map, append-assoc, append-nil}
 use lib.ListN.{length, getD, set, take, drop, length-append, length-set, length-take, take-append-drop, List·getD-append, length-drop}
 use lib.Seq.{set-at, drop-cons, length-take-le, getD-at, getD-append-add, take-at, drop-append-add, drop-drop}
 use Rattle.lists.proofs.Cells.{cell-lt}
@@ -59,6 +59,27 @@ module _ {A : Type 0} where
   flat-append [] ys = refl
   flat-append (x ∷ xs) ys = ap (λ (l : List A). x ++ l) (flat-append xs ys) ∙ sym (append-assoc x (flat xs) (flat ys))
 
+module _ {A B : Type 0} (g : A → B) where
+  listed-map : (m k : ℕ) (f : ℕ → A) → map g (listed m k f) ≡ listed m k (λ (j : ℕ). g (f j))
+  unfolding listed
+  listed-map zero k f = refl
+  listed-map (suc m) k f = ap (λ (l : List B). g (f k) ∷ l) (listed-map m (suc k) f)
+
+  pub tab-map : (n : ℕ) (f : ℕ → A) → map g (tab n f) ≡ tab n (λ (j : ℕ). g (f j))
+  tab-map n f = listed-map n 0 f
+
+-- a list is the table of its elements
+module _ {A : Type 0} (o : A) where
+  listed-shift : (m k : ℕ) (f : ℕ → A) → listed m (suc k) f ≡ listed m k (λ (j : ℕ). f (suc j))
+  unfolding listed
+  listed-shift zero k f = refl
+  listed-shift (suc m) k f = ap (λ (l : List A). f (suc k) ∷ l) (listed-shift m (suc k) f)
+
+  pub tab-getD : (l : List A) → tab (length l) (λ (k : ℕ). getD l k o) ≡ l
+  unfolding listed
+  tab-getD [] = refl
+  tab-getD (x ∷ l) = ap (λ (y : List A). x ∷ y) (listed-shift (length l) 0 (λ (k : ℕ). getD (x ∷ l) k o) ∙ tab-getD l)
+
 pub joined-none : {A : Type 0} (f : ℕ → List A) → joined 0 f ≡ []
 unfolding listed flat
 joined-none f = refl
@@ -96,19 +117,27 @@ module _ {A : Type 0} where
       = fill-tab l at k f (le-of-lt b) ∙ rw (drop-cons l (at + k) (f k) b, append-assoc) in
       ap (λ (t : List A). set t (at + k) (f k)) e ∙ set-at p y ys (f k) (at + k) lp ∙ rw (tab-more k f) (simp (append-assoc, add-suc))
 
+  -- lists of one length m, one after another
+  module _ (m : ℕ) (f : ℕ → List A) (even : (i : ℕ) → length (f i) ≡ m) where
+    pub length-joined : (k : ℕ) → length (joined k f) ≡ k * m
+    length-joined zero = rw (joined-none f, zero-mul)
+    length-joined (suc k) = ap length (joined-more k f) ∙ length-append (joined k f) (f k) ∙ rw (length-joined k, even k) (sym (suc-mul k m))
+
+    pub getD-joined : (k i x : ℕ) (d : A) → i < k → x < m → getD (joined k f) (i * m + x) d ≡ getD (f i) x d
+    getD-joined zero i x d h g = absurd (not-suc-le-zero h)
+    getD-joined (suc k) i x d h g =
+        ap (λ (l : List A). getD l (i * m + x) d) (joined-more k f)
+        ∙ ⊎-elim
+        (λ q. rw q (ap (λ (y : ℕ). getD (joined k f ++ f k) (y + x) d) (sym (length-joined k)) ∙ getD-append-add (joined k f) (f k) x d))
+        (λ q. let b : i * m + x < length (joined k f) = rw (length-joined k) (cell-lt i k m x (k * m) q g (le-refl (k * m))) in
+        List·getD-append (joined k f) (f k) d (i * m + x) b ∙ getD-joined k i x d q g)
+        (eq-or-lt-of-le (le-of-suc-le-suc h))
+
   pub length-grid : (m n : ℕ) (f : ℕ → ℕ → A) → length (grid m n f) ≡ m * n
-  length-grid zero n f = rw (joined-none (λ (i : ℕ). tab n (f i)), zero-mul)
-  length-grid (suc k) n f = ap length (joined-more k (λ (i : ℕ). tab n (f i))) ∙ length-append (grid k n f) (tab n (f k)) ∙ rw (length-grid k n f, length-tab n (f k)) (sym (suc-mul k n))
+  length-grid m n f = length-joined n (λ (i : ℕ). tab n (f i)) (λ i. length-tab n (f i)) m
 
   pub getD-grid : (m n : ℕ) (f : ℕ → ℕ → A) (i j : ℕ) (d : A) → i < m → j < n → getD (grid m n f) (i * n + j) d ≡ f i j
-  getD-grid zero n f i j d h g = absurd (not-suc-le-zero h)
-  getD-grid (suc k) n f i j d h g =
-      ap (λ (l : List A). getD l (i * n + j) d) (joined-more k (λ (i : ℕ). tab n (f i)))
-      ∙ ⊎-elim
-      (λ q. rw q (ap (λ (x : ℕ). getD (grid k n f ++ tab n (f k)) (x + j) d) (sym (length-grid k n f)) ∙ getD-append-add (grid k n f) (tab n (f k)) j d ∙ getD-tab n (f k) j d g))
-      (λ q. let b : i * n + j < length (grid k n f) = rw (length-grid k n f) (cell-lt i k n j (k * n) q g (le-refl (k * n))) in
-      List·getD-append (grid k n f) (tab n (f k)) d (i * n + j) b ∙ getD-grid k n f i j d q g)
-      (eq-or-lt-of-le (le-of-suc-le-suc h))
+  getD-grid m n f i j d h g = getD-joined n (λ (i : ℕ). tab n (f i)) (λ i. length-tab n (f i)) m i j d h g ∙ getD-tab n (f i) j d g
 
   -- m rows of n stores are the grid, with the rest kept
   pub fill-grid : (l : List A) (m n : ℕ) (f : ℕ → ℕ → A) → m * n ≤ length l
