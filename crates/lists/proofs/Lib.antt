@@ -9,6 +9,7 @@ pub mod Over
 -- tests, and lists of f64
 pub mod Tests
 pub mod Floats
+pub mod Sums
 -- slots and walks
 pub mod Slots
 pub mod Walks
