@@ -6,6 +6,7 @@ pub mod Turns
 pub mod Firsts
 pub mod Picks
 pub mod Over
+pub mod Seen
 -- tests, and lists of f64
 pub mod Tests
 pub mod Floats
