@@ -1,11 +1,19 @@
-// Square roots, whole parts and magnitudes of f64, by the digits of their bit patterns.
+// Whether an f64 is finite, and its square root, magnitude and floor by the digits of its bit pattern.
 ghost use mathlib.Core.Path.{_≡_};
 ghost use Prim.Native.Nat.{_+_, _*_, _^_, _≤_, _<_};
 ghost use lib.Ieee.{binary64, ofBits};
+ghost use Rattle.numbers.specs.Finite.{finite};
 ghost use Rattle.numbers.specs.Root.{rootOf, rootOfUnits};
 ghost use Rattle.numbers.specs.Steps.{unitsOf, Parted, Leaves, Refinable, CutTo};
 ghost use Rattle.numbers.specs.Floor.{floorOf};
 ghost use Rattle.numbers.specs.Magnitude.{magnitudeOf};
+
+// Whether x is neither a NaN nor an infinity: of those x - x is a NaN, of any other +0.
+pub fn is_finite(x: f64) -> bool
+    ensures { λ r. ⌜ r ≡ finite x ⌝ }
+{
+    x - x == 0.0
+}
 
 // A whole root and what its square leaves.
 struct Rooted {
