@@ -1,12 +1,15 @@
-// Whether an f64 is finite, and its square root, magnitude and floor by the digits of its bit pattern.
+// Whether an f64 is finite, its square root, magnitude and floor by the digits of its bit pattern, and integers
+// modulo n.
 ghost use mathlib.Core.Path.{_≡_};
 ghost use Prim.Native.Nat.{_+_, _*_, _^_, _≤_, _<_};
+ghost use lib.IntN.{pos, _+ℤ_, _-ℤ_};
 ghost use lib.Ieee.{binary64, ofBits};
 ghost use Rattle.numbers.specs.Finite.{finite};
 ghost use Rattle.numbers.specs.Root.{rootOf, rootOfUnits};
 ghost use Rattle.numbers.specs.Steps.{unitsOf, Parted, Leaves, Refinable, CutTo};
 ghost use Rattle.numbers.specs.Floor.{floorOf};
 ghost use Rattle.numbers.specs.Magnitude.{magnitudeOf};
+ghost use Rattle.numbers.specs.Residues.{wrap};
 
 // Whether x is neither a NaN nor an infinity: of those x - x is a NaN, of any other +0.
 pub fn is_finite(x: f64) -> bool
@@ -241,4 +244,20 @@ pub fn floor(x: f64) -> f64
         return x;
     }
     f64::from_bits(bits >> 63 << 63 | whole_bits(size, bits >> 63 == 1))
+}
+
+// i + s modulo n.
+pub fn ahead(i: usize, s: usize, n: usize) -> usize
+    requires { ⌜ (0 < n) × (i ≤ 2 ^ 32) × (s ≤ 2 ^ 32) ⌝ }
+    ensures { λ r. ⌜ r ≡ wrap n (pos i +ℤ pos s) ⌝ }
+{
+    (i + s) % n
+}
+
+// i - s modulo n.
+pub fn behind(i: usize, s: usize, n: usize) -> usize
+    requires { ⌜ (0 < n) × (n ≤ 2 ^ 32) × (i ≤ 2 ^ 32) ⌝ }
+    ensures { λ r. ⌜ r ≡ wrap n (pos i -ℤ pos s) ⌝ }
+{
+    (i + (n - s % n)) % n
 }
