@@ -1,19 +1,24 @@
--- The three theorems: what `root`, `floor` and `magnitude` give, for every f64. Assumes nothing.
-use mathlib.Core.Path.{refl}
+-- The theorems: what `root`, `floor`, `magnitude`, `whole` and `fraction` give, for every f64. Assumes nothing.
+use mathlib.Core.Path.{_≡_, refl}
 use Prim.Native.Nat.{ℕ, zero, suc, _^_}
 use mathlib.Core.Bool.{Bool, true, false}
 use lib.IntN.{ℤ}
 use lib.Dec.{T}
-use lib.Ieee.{Float, nan, inf, fin, binary64, fits}
+use lib.Ieee.{Float, nan, inf, fin, binary64, le, eq, fits}
 use lib.Ieee.Exact.{HasValue}
+use Rattle.numbers.specs.Arithmetic.{zero64, one64}
+use Rattle.numbers.specs.Finite.{finite}
 use Rattle.numbers.specs.Value.{unitsIn}
 use Rattle.numbers.specs.Root.{SquareRoot, rootOf}
 use Rattle.numbers.specs.Floor.{Floored, floorOf}
 use Rattle.numbers.specs.Magnitude.{SignCleared, magnitudeOf}
+use Rattle.numbers.specs.Whole.{signed, wholeOf, fractionOf}
 use Rattle.numbers.proofs.Units as at-units
 use Rattle.numbers.proofs.RootNearest.{nearest}
 use Rattle.numbers.proofs.FloorExact.{kept-zero, below}
 use Rattle.numbers.proofs.SignBit.{cleared}
+use Rattle.numbers.proofs.Wholes.{floor-whole, ZeroFraction, zero-fraction}
+use Rattle.numbers.proofs.Fractions.{fraction-in-unit}
 
 -- a NaN and what is below zero have none, the infinity and the zeros are their own, and any other is rounded to the nearest f64, where no two are as near
 pub root-right : (x : Float) → T (fits binary64 x) → SquareRoot x (rootOf x)
@@ -44,3 +49,15 @@ magnitude-right (fin s m e) f = cleared s m e f
 -- a finite f64 is as many units of 2 ^ -1074 as `unitsIn` says
 pub units-exact : (s : Bool) (m : ℕ) (e : ℤ) → T (fits binary64 (fin s m e)) → HasValue (fin s m e) s (unitsIn (fin s m e)) (2 ^ 1074)
 units-exact s m e f = at-units.units-exact s m e f
+
+-- the integer that `whole` answers is the floor, by sign and size
+pub whole-right : (s : Bool) (m : ℕ) (e : ℤ) → T (fits binary64 (fin s m e)) → (c : ℕ) × (wholeOf (fin s m e) ≡ signed s c) × HasValue (floorOf (fin s m e)) s c 1
+whole-right = floor-whole
+
+-- what an f64 has above its floor lies from 0 to 1, 1 included
+pub fraction-right : (x : Float) → T (fits binary64 x) → T (finite x) → T (le zero64 (fractionOf x)) × T (le (fractionOf x) one64)
+fraction-right = fraction-in-unit
+
+-- and where that is zero, the floor of -x is minus the floor of x, and -x has nothing above its floor either
+pub still-right : (x : Float) → T (fits binary64 x) → T (finite x) → eq (fractionOf x) zero64 ≡ true → ZeroFraction x
+still-right = zero-fraction
