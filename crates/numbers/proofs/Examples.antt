@@ -1,4 +1,4 @@
--- Worked examples, by computation.
+-- Examples, by computation.
 use mathlib.Core.Path.{_≡_, refl}
 use lib.Ieee.{fin, binary64, round, neg, add, sub, ofInt, ofBits, toBits}
 use mathlib.Core.Bool.{true, false}
