@@ -1,4 +1,4 @@
--- Worked examples, by computation.
+-- Examples, by computation.
 use mathlib.Core.Path.{_≡_, refl}
 use lib.Ieee.{fin, binary64, round, neg, add, sub, ofInt, ofBits, toBits}
 use mathlib.Core.Bool.{true, false}
@@ -35,10 +35,10 @@ quarter = refl
 
 -- -2 ^ -60 lies above -1 by an f64 of 1
 just-below : (wholeOf (fin true 1 (negsuc 59)) ≡ negsuc 0) × (fractionOf (fin true 1 (negsuc 59)) ≡ one64)
-unfolding fractionOf sub add neg ofInt round ofBits
+unfolding wholeOf fractionOf sub add neg ofInt round ofBits
 just-below = (refl, refl)
 
 -- -0 keeps its sign above its floor
 minus-zero : fractionOf (fin true 0 (pos 0)) ≡ fin true 0 (pos 0)
-unfolding fractionOf sub add neg ofInt round
+unfolding wholeOf fractionOf sub add neg ofInt round
 minus-zero = refl

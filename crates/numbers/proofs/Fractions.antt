@@ -17,7 +17,6 @@ use Rattle.numbers.specs.Finite.{finite}
 use Rattle.numbers.specs.Zeros.{unsigned, Alike}
 use Rattle.numbers.specs.Floor.{cut, floorOf}
 use Rattle.numbers.specs.Whole.{wholeOf, fractionOf}
-use Rattle.numbers.proofs.Constants.{zero-is}
 use Rattle.numbers.proofs.Values.{minus-is}
 use Rattle.numbers.proofs.Zeros.{plus-zero-unsigned, alike-minus}
 use Rattle.numbers.proofs.Comparisons.{equal-of-zero, alike-le}
@@ -49,10 +48,7 @@ floor-fits (fin s m e) f i = below s m e f .held
 -- so +0 added to the floor makes it the f64 of the integer
 pub floor-cleared : (x : Float) → T (fits binary64 x) → T (finite x) → plus (floorOf x) zero64 ≡ ofInt binary64 (wholeOf x)
 floor-cleared x f i =
-    ap (plus (floorOf x)) zero-is
-    ∙ plus-zero-unsigned (floorOf x) (floor-fits x f i)
-    ∙ sym (whole-alike x i)
-    ∙ int-unsigned (wholeOf x)
+    plus-zero-unsigned (floorOf x) (floor-fits x f i) ∙ sym (whole-alike x i) ∙ int-unsigned (wholeOf x)
 
 -- ---- what `fraction` answers
 pub fraction-found : (x y : Float) → T (fits binary64 x) → finite x ≡ true → y ≡ floorOf x → minus x (plus y zero64) ≡ fractionOf x

@@ -1,5 +1,5 @@
 -- The theorems: what `root`, `floor`, `magnitude`, `whole` and `fraction` give, for every f64. Assumes nothing.
-use mathlib.Core.Path.{_≡_, refl}
+use mathlib.Core.Path.{_≡_, refl, sym, _∙_}
 use Prim.Native.Nat.{ℕ, zero, suc, _^_}
 use mathlib.Core.Bool.{Bool, true, false}
 use lib.IntN.{ℤ}
@@ -14,8 +14,8 @@ use Rattle.numbers.specs.Floor.{Floored, floorOf}
 use Rattle.numbers.specs.Magnitude.{SignCleared, magnitudeOf}
 use Rattle.numbers.specs.Whole.{signed, wholeOf, fractionOf}
 use Rattle.numbers.proofs.Units as at-units
-use Rattle.numbers.proofs.RootNearest.{nearest}
-use Rattle.numbers.proofs.FloorExact.{kept-zero, below}
+use Rattle.numbers.proofs.RootNearest.{nearest, only}
+use Rattle.numbers.proofs.FloorExact.{kept-zero, below, is-floor}
 use Rattle.numbers.proofs.SignBit.{cleared}
 use Rattle.numbers.proofs.Wholes.{floor-whole, ZeroFraction, zero-fraction}
 use Rattle.numbers.proofs.Fractions.{fraction-in-unit}
@@ -31,6 +31,17 @@ root-right (fin true zero e) f = refl
 root-right (fin true (suc m) e) f = refl
 root-right (fin false (suc m) e) f = nearest m e f
 
+-- and nothing else is a square root of x
+pub root-only : (x r : Float) → T (fits binary64 x) → SquareRoot x r → r ≡ rootOf x
+unfolding rootOf
+root-only nan r f h = h
+root-only (inf false) r f h = h
+root-only (inf true) r f h = h
+root-only (fin false zero e) r f h = h
+root-only (fin true zero e) r f h = h
+root-only (fin true (suc m) e) r f h = h
+root-only (fin false (suc m) e) r f h = only (fin false (suc m) e) r (rootOf (fin false (suc m) e)) h (nearest m e f)
+
 -- a NaN, the infinities and the zeros are kept, and any other gives a whole number r with r ≤ x < r + 1
 pub floor-right : (x : Float) → T (fits binary64 x) → Floored x (floorOf x)
 unfolding floorOf
@@ -38,6 +49,13 @@ floor-right nan f = refl
 floor-right (inf s) f = refl
 floor-right (fin s zero e) f = kept-zero s e f
 floor-right (fin s (suc m) e) f = below s (suc m) e f
+
+-- and nothing else does
+pub floor-only : (x r : Float) → T (fits binary64 x) → Floored x r → r ≡ floorOf x
+floor-only nan r f h = unfold floorOf in h
+floor-only (inf s) r f h = unfold floorOf in h
+floor-only (fin s zero e) r f h = h ∙ sym (kept-zero s e f)
+floor-only (fin s (suc m) e) r f h = let x = fin s (suc m) e in is-floor x r s (unitsIn x) (h .c) f (h .held) (at-units.units-exact s (suc m) e f) (h .whole) (h .within)
 
 -- a NaN is kept, and of any other the sign's bit is cleared
 pub magnitude-right : (x : Float) → T (fits binary64 x) → SignCleared x (magnitudeOf x)

@@ -104,7 +104,19 @@ pub zero-exp : (f : Format) (s : Bool) (e : ℤ) → T (fits f (fin s zero e)) �
 unfolding fits
 zero-exp f s e t = flat e (eqb→eq (up e * down e) 1 t)
 
--- ---- the sign goes through `round`
+-- ---- signs
+pub neg-is : (s : Bool) (m : ℕ) (e : ℤ) → neg (fin s m e) ≡ fin (not s) m e
+unfolding neg
+neg-is s m e = refl
+
+pub neg-neg : (x : Float) → neg (neg x) ≡ x
+unfolding neg
+neg-neg nan = refl
+neg-neg (inf true) = refl
+neg-neg (inf false) = refl
+neg-neg (fin true m e) = refl
+neg-neg (fin false m e) = refl
+
 odd-neg : (d q k l : ℕ) → odd d true q k l ≡ neg (odd d false q k l)
 unfolding odd neg
 odd-neg d zero k l = refl
@@ -118,6 +130,7 @@ units-neg f q k = go (ltb (q * 2 ^ k) (2 ^ (low f + suc (emax f))))
     go true = odd-neg (suc (prec f)) q k (low f)
     go false = refl
 
+-- the sign goes through `round`
 pub round-neg : (f : Format) (a c : ℕ) → round f true a c ≡ neg (round f false a c)
 round-neg f a c =
     round-is f true a c

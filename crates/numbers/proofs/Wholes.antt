@@ -1,4 +1,4 @@
--- The floor as an integer: its f64 is the floor, it is small within reach, and where the fraction is zero it turns with the sign. Assumes nothing.
+-- The floor as an integer: its f64 is the floor, zero signs aside, and where the fraction is zero it turns with the sign. Assumes nothing.
 use mathlib.Core.Path.{_≡_, refl, sym, ap, _∙_}
 use Prim.Native.Nat.{ℕ, zero, suc, _*_, _/_, _%_}
 use native.Mathlib.Nat.{mul-one, mul-right-comm, mul-mod-left, eq-of-mul-eq-mul-right}
@@ -14,8 +14,8 @@ use Rattle.numbers.specs.Finite.{finite}
 use Rattle.numbers.specs.Zeros.{unsigned, Alike}
 use Rattle.numbers.specs.Floor.{cut, floorOf}
 use Rattle.numbers.specs.Whole.{signed, wholeOf, fractionOf}
-use Rattle.numbers.proofs.Values.{round-neg}
-use Rattle.numbers.proofs.Zeros.{alike-neg}
+use Rattle.numbers.proofs.Values.{neg-is, neg-neg, round-neg}
+use Rattle.numbers.proofs.Zeros.{alike-finite, alike-neg}
 use Rattle.numbers.proofs.Comparisons.{alike-eq, alike-of-equal, equal-of-alike, zero-of-equal, both}
 use Rattle.numbers.proofs.Differences.{equal-of-difference, difference-of-equal}
 use Rattle.numbers.proofs.FloorExact.{floor-is, floor-value}
@@ -44,33 +44,13 @@ value-finite nan s a c v = v
 value-finite (inf t) s a c v = v
 value-finite (fin t m e) s a c v = tt
 
-finite-unsigned : (x : Float) → finite (unsigned x) ≡ finite x
-finite-unsigned nan = refl
-finite-unsigned (inf s) = refl
-finite-unsigned (fin s zero e) = refl
-finite-unsigned (fin s (suc m) e) = refl
-
 whole-finite : (s : Bool) (m : ℕ) (e : ℤ) → T (fits binary64 (fin s m e)) → T (finite (ofInt binary64 (wholeOf (fin s m e))))
 whole-finite s m e h =
-    let y = ofInt binary64 (wholeOf (fin s m e)) in
-    let r = floorOf (fin s m e) in
+    let x = fin s m e in
     let f = floor-whole s m e h in
-    let k : finite y ≡ finite r = sym (finite-unsigned y) ∙ ap finite (whole-alike (fin s m e) tt) ∙ finite-unsigned r in
-    rw k (value-finite r s (f .0) 1 (f .2))
+    rw (alike-finite (ofInt binary64 (wholeOf x)) (floorOf x) (whole-alike x tt)) (value-finite (floorOf x) s (f .0) 1 (f .2))
 
 -- ---- an integer and its negative
-neg-is : (s : Bool) (m : ℕ) (e : ℤ) → neg (fin s m e) ≡ fin (not s) m e
-unfolding neg
-neg-is s m e = refl
-
-neg-neg : (x : Float) → neg (neg x) ≡ x
-unfolding neg
-neg-neg nan = refl
-neg-neg (inf true) = refl
-neg-neg (inf false) = refl
-neg-neg (fin true m e) = refl
-neg-neg (fin false m e) = refl
-
 pub int-neg-alike : (z : ℤ) → Alike (ofInt binary64 (negℤ z)) (neg (ofInt binary64 z))
 unfolding ofInt
 int-neg-alike (pos zero) = unfold round neg in refl
@@ -96,6 +76,7 @@ same-size s m e (fin u n d) t c v h =
     eq-of-mul-eq-mul-right (down d) (down-pos d) (m * up e) (c * down e)
     (eqb-true a b (both (eqb a b) (Bool·beq s u || eqb a 0) h .0) ∙ ap (λ (x : ℕ). x * down e) (sym (mul-one (n * up d)) ∙ v .1) ∙ mul-right-comm c (down d) (down e))
 
+-- the floor of -x is minus the floor of x, and neither has anything above it but a zero
 pub record ZeroFraction (x : Float) : Type 0 where
   pub opposite : wholeOf (neg x) ≡ negℤ (wholeOf x)
   pub ahead : (s : Bool) × (fractionOf x ≡ fin s 0 (pos 0))
@@ -108,7 +89,7 @@ fraction-is x = refl
 a-zero : (x : Float) → eq (fractionOf x) zero64 ≡ true → (s : Bool) × (fractionOf x ≡ fin s 0 (pos 0))
 a-zero x h = zero-of-equal (fractionOf x) (rw fraction-is (sub-fits binary64 x (ofInt binary64 (wholeOf x)))) h
 
--- an f64 whose fraction is zero is whole: so its negative's floor is the negative of its floor, and has no fraction either
+-- an f64 whose fraction is zero is whole, and so is its negative
 pub zero-fraction : (x : Float) → T (fits binary64 x) → T (finite x) → eq (fractionOf x) zero64 ≡ true → ZeroFraction x
 zero-fraction nan f i h = absurd i
 zero-fraction (inf s) f i h = absurd i

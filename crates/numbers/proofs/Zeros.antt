@@ -7,8 +7,10 @@ use lib.IntN.{ℤ, pos}
 use lib.Dec.{T, ltb, leb·zero, leb·suc-suc}
 use lib.Ieee.{Float, nan, inf, fin, Format, binary64, up, down, unlike, round, neg, sum, add, sub, mul, fits}
 use lib.Ieee.Fits.{neg-fits, up-pos, down-pos}
-use Rattle.numbers.specs.Arithmetic.{plus, minus, times}
+use Rattle.numbers.specs.Arithmetic.{plus, minus, times, zero64, one64}
+use Rattle.numbers.specs.Finite.{finite}
 use Rattle.numbers.specs.Zeros.{unsigned, Alike}
+use Rattle.numbers.proofs.Constants.{zero-is, one-is}
 use Rattle.numbers.proofs.Values.{round-back, round-zero, zero-exp, add-is, mul-is}
 use Rattle.numbers.proofs.Swaps.{plus-swap, times-swap, unlike-swap}
 
@@ -52,24 +54,27 @@ unlike-plus : (t : Bool) → unlike false t ≡ t
 unlike-plus true = refl
 unlike-plus false = refl
 
-pub one-times : (x : Float) → T (fits binary64 x) → times (fin false 1 (pos 0)) x ≡ x
+times-fin : (x : Float) → T (fits binary64 x) → times (fin false 1 (pos 0)) x ≡ x
 unfolding mul
-one-times nan h = refl
-one-times (inf true) h = refl
-one-times (inf false) h = refl
-one-times (fin t zero d) h =
+times-fin nan h = refl
+times-fin (inf true) h = refl
+times-fin (inf false) h = refl
+times-fin (fin t zero d) h =
     mul-is binary64 false 1 (pos 0) t 0 d
     ∙ ap (λ (b : Bool). round binary64 b (1 * (0 * up d)) (1 * down d)) (unlike-plus t)
     ∙ ap (λ (x : ℕ). round binary64 t (1 * x) (1 * down d)) (zero-mul (up d))
     ∙ round-zero binary64 t (1 * down d) (mul-pos (zero-lt-suc 0) (down-pos d))
     ∙ ap (fin t 0) (sym (zero-exp binary64 t d h))
-one-times (fin t (suc n) d) h =
+times-fin (fin t (suc n) d) h =
     mul-is binary64 false 1 (pos 0) t (suc n) d
     ∙ ap (λ (b : Bool). round binary64 b (1 * (suc n * up d)) (1 * down d)) (unlike-plus t)
     ∙ round-back binary64 t n d (1 * (suc n * up d)) (1 * down d) h (mul-pos (zero-lt-suc 0) (down-pos d)) (simp (mul-assoc, mul-comm, mul-left-comm))
 
-pub times-one : (x : Float) → T (fits binary64 x) → times x (fin false 1 (pos 0)) ≡ x
-times-one x h = times-swap x (fin false 1 (pos 0)) ∙ one-times x h
+pub one-times : (x : Float) → T (fits binary64 x) → times one64 x ≡ x
+one-times x h = ap (λ (y : Float). times y x) one-is ∙ times-fin x h
+
+pub times-one : (x : Float) → T (fits binary64 x) → times x one64 ≡ x
+times-one x h = times-swap x one64 ∙ one-times x h
 
 -- ---- `Alike` is an equivalence
 pub alike-refl : (x : Float) → Alike x x
@@ -80,6 +85,15 @@ alike-sym x y e = sym e
 
 pub alike-trans : (x y z : Float) → Alike x y → Alike y z → Alike x z
 alike-trans x y z e f = e ∙ f
+
+finite-unsigned : (x : Float) → finite (unsigned x) ≡ finite x
+finite-unsigned nan = refl
+finite-unsigned (inf s) = refl
+finite-unsigned (fin s zero e) = refl
+finite-unsigned (fin s (suc m) e) = refl
+
+pub alike-finite : (x y : Float) → Alike x y → finite x ≡ finite y
+alike-finite x y e = sym (finite-unsigned x) ∙ ap finite e ∙ finite-unsigned y
 
 -- ---- sums of values that are alike are alike
 two-zeros : (s t : Bool) → unsigned (plus (fin s 0 (pos 0)) (fin t 0 (pos 0))) ≡ fin false 0 (pos 0)
@@ -100,17 +114,29 @@ zero-plus-alike s (fin t (suc n) e) h = ap unsigned (zero-plus s t n e h)
 pub plus-zero-alike : (x : Float) (t : Bool) → T (fits binary64 x) → Alike (plus x (fin t 0 (pos 0))) x
 plus-zero-alike x t h = ap unsigned (plus-swap x (fin t 0 (pos 0))) ∙ zero-plus-alike t x h
 
--- and +0 added clears a zero's sign
-pub plus-zero-unsigned : (x : Float) → T (fits binary64 x) → plus x (fin false 0 (pos 0)) ≡ unsigned x
+-- and 0.0 added clears a zero's sign
+cleared : (x : Float) → T (fits binary64 x) → plus x (fin false 0 (pos 0)) ≡ unsigned x
 unfolding add
-plus-zero-unsigned nan h = refl
-plus-zero-unsigned (inf s) h = refl
-plus-zero-unsigned (fin s zero e) h = ap (λ (z : ℤ). plus (fin s 0 z) (fin false 0 (pos 0))) (zero-exp binary64 s e h) ∙ cleared s ∙ ap (fin false 0) (sym (zero-exp binary64 s e h))
+cleared nan h = refl
+cleared (inf s) h = refl
+cleared (fin s zero e) h = ap (λ (z : ℤ). plus (fin s 0 z) (fin false 0 (pos 0))) (zero-exp binary64 s e h) ∙ positive s ∙ ap (fin false 0) (sym (zero-exp binary64 s e h))
   where
-    cleared : (s : Bool) → plus (fin s 0 (pos 0)) (fin false 0 (pos 0)) ≡ fin false 0 (pos 0)
-    cleared true = refl
-    cleared false = refl
-plus-zero-unsigned (fin s (suc m) e) h = plus-zero s m e false h
+    positive : (s : Bool) → plus (fin s 0 (pos 0)) (fin false 0 (pos 0)) ≡ fin false 0 (pos 0)
+    positive true = refl
+    positive false = refl
+cleared (fin s (suc m) e) h = plus-zero s m e false h
+
+pub plus-zero-unsigned : (x : Float) → T (fits binary64 x) → plus x zero64 ≡ unsigned x
+plus-zero-unsigned x h = ap (plus x) zero-is ∙ cleared x h
+
+-- nor does a zero times a finite number, added, change more
+pub idle-left : (y : Float) (t : Bool) (x : Float) → T (fits binary64 y) → T (finite x) → Alike (plus y (times (fin t 0 (pos 0)) x)) y
+idle-left y t nan h k = absurd k
+idle-left y t (inf s) h k = absurd k
+idle-left y t (fin s m e) h k = ap (λ (z : Float). unsigned (plus y z)) (zero-times t s m e) ∙ plus-zero-alike y (unlike t s) h
+
+pub idle-right : (y x : Float) (t : Bool) → T (fits binary64 y) → T (finite x) → Alike (plus y (times x (fin t 0 (pos 0)))) y
+idle-right y x t h k = ap (λ (z : Float). unsigned (plus y z)) (times-swap x (fin t 0 (pos 0))) ∙ idle-left y t x h k
 
 unsigned-plus : (x y : Float) → T (fits binary64 x) → T (fits binary64 y) → Alike (plus x y) (plus (unsigned x) y)
 unsigned-plus nan y h k = refl

@@ -20,10 +20,9 @@ wholeOf (fin s m e) = signed s (cut s (m * up e) (down e))
 
 -- x less its floor, in f64. The floor is the integer's f64, so that -0, whose floor is the integer 0, has the fraction -0.
 unfoldable pub fractionOf : Float → Float
-unfolding wholeOf
 fractionOf x = minus x (ofInt binary64 (wholeOf x))
 
--- -2 ^ 31 ≤ x ≤ 2 ^ 31, which is false of a NaN: what refusal 8 asks
+-- -2 ^ 31 ≤ x ≤ 2 ^ 31, which no NaN meets: refusal 8 is given where this is false
 abbrev pub inReach : Float → Bool
 inReach x = le (neg farthest64) x && le x farthest64
 
@@ -32,6 +31,6 @@ abbrev pub partsOf : ℤ → WholeNumber
 partsOf (pos k) = record { below = false; size = k }
 partsOf (negsuc k) = record { below = true; size = suc k }
 
--- the floor of an x in reach, and 0 for any other
+-- the floor of an x within reach, and 0 for any other
 abbrev pub wholeParts : Float → WholeNumber
 wholeParts x = partsOf (cond (inReach x) (wholeOf x) (pos 0))

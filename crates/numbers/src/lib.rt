@@ -1,4 +1,5 @@
-// Square roots, whole parts and magnitudes of f64, by the digits of their bit patterns.
+// What the work needs of single numbers: whether an f64 is finite, its square root, magnitude and floor by the
+// digits of its bit pattern, the floor as an integer with what is left above it, and integers modulo n.
 ghost use mathlib.Core.Path.{_≡_};
 ghost use Prim.Native.Nat.{_+_, _*_, _^_, _≤_, _<_};
 ghost use lib.IntN.{pos, _+ℤ_, _-ℤ_};
@@ -11,7 +12,7 @@ ghost use Rattle.numbers.specs.Magnitude.{magnitudeOf};
 ghost use Rattle.numbers.specs.Whole.{signed, inReach, wholeParts, fractionOf};
 ghost use Rattle.numbers.specs.Residues.{wrap};
 
-// Whether x is neither a NaN nor an infinity: only of these is x - x a NaN.
+// Whether x is neither a NaN nor an infinity: of those x - x is a NaN, of any other +0.
 pub fn is_finite(x: f64) -> bool
     ensures { λ r. ⌜ r ≡ finite x ⌝ }
 {
