@@ -9,9 +9,10 @@ use lib.Dec.{T}
 use lib.IntN.{pos}
 use lib.Ieee.{Float, nan, inf, fin, binary64, fits, ofBits}
 use lib.Ieee.Fits.{add-fits}
-use Rattle.numbers.specs.Arithmetic.{plus, times, zero64, one64}
+use Rattle.numbers.specs.Arithmetic.{plus, times, zero64}
 use Rattle.numbers.specs.Finite.{finite}
 use Rattle.numbers.specs.Zeros.{Alike}
+use Rattle.numbers.proofs.Constants.{zero-is}
 use Rattle.numbers.proofs.Zeros.{times-zero, alike-refl, alike-trans, alike-plus, plus-zero-alike}
 use Rattle.numbers.proofs.Finite.{plus-lasts, lasts-plus, times-lasts}
 use Rattle.lists.specs.Floats.{sumOn}
@@ -71,15 +72,6 @@ module _ (t : ℕ → Float) (all : (j : ℕ) → Fits (t j)) where
       let p = plus-finite (sumOn s k t) (t k) h in
       let r = sum-finite s k (p .0) in
       (r .0, λ j l. ⊎-elim (λ e. subst (λ (m : ℕ). finite (t m) ≡ true) (sym e) (p .1)) (λ q. r .1 j q) (eq-or-lt-of-le (le-of-suc-le-suc l)))
-
--- ---- 0 and 1 by their patterns
-pub zero-is : zero64 ≡ fin false 0 (pos 0)
-unfolding ofBits
-zero-is = refl
-
-pub one-is : one64 ≡ fin false 1 (pos 0)
-unfolding ofBits
-one-is = refl
 
 pub zero-fits : Fits zero64
 unfolding ofBits fits

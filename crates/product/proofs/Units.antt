@@ -24,7 +24,7 @@ use Rattle.lists.specs.Floats.{at, sumOn, sumTo, sumRows, allFinite, stored}
 use Rattle.lists.proofs.Tables.{length-tab, getD-tab}
 use Rattle.lists.proofs.Tests.{eqb-yes, eqb-no, ltb-is, ltb-not, fails}
 use Rattle.lists.proofs.Floats.{stored-is, finite-getD}
-use Rattle.lists.proofs.Sums.{Fits, Zero, sum-fits, one-term, sum-finite, zero-fits, nan-fits, one-is, times-none}
+use Rattle.lists.proofs.Sums.{Fits, Zero, sum-fits, one-term, sum-finite, zero-fits, nan-fits, times-none}
 use Rattle.lists.proofs.Walks.{walk-cons}
 use Rattle.shape.specs.Cores.{Core, entry, place}
 use Rattle.product.specs.Product.{contract, contractAt, sumAxis, startSums, sums, inner}
@@ -62,7 +62,7 @@ module _ (c : Core) (i : ℕ) (inside : i < c .n) (entries-fit : (x : ℕ) → F
       subst (λ (w : Float). Zero (times (product j a k) w)) (sym e) (times-none (product j a k) (subst (λ (w : Float). finite (times (product j a k) w) ≡ true) e h))
 
   row-one : (j a : ℕ) → times (product j a i) (at f i) ≡ product j a i
-  row-one j a = ap (times (product j a i)) (weight-here (c .n) i inside ∙ one-is) ∙ times-one (product j a i) (mul-fits binary64 (at eta a) (entry c a i j))
+  row-one j a = ap (times (product j a i)) (weight-here (c .n) i inside) ∙ times-one (product j a i) (mul-fits binary64 (at eta a) (entry c a i j))
 
   -- the rows below m, ascending
   abbrev rows : ℕ → ℕ → Float
