@@ -87,6 +87,10 @@ passesFrom (suc left) false m n c e = bind (pass m n e) (λ x. passesFrom left (
 abbrev pub mostPasses : ℕ
 mostPasses = 100
 
--- at most 100 passes, a quiet one being the last; m rows and n columns of a slab, the basis being one
-unfoldable pub orthogonalized : ℕ → ℕ → List Float → Made Passes
-orthogonalized m n s = passesFrom mostPasses false m n 0 (svd (grid n m (λ (col row : ℕ). cell n s row col)) (eye n))
+-- at most 100 passes, a quiet one being the last
+unfoldable pub orthogonalized : ℕ → ℕ → Svd → Made Passes
+orthogonalized m n e = passesFrom mostPasses false m n 0 e
+
+-- the columns of a slab of m rows and n columns, and the basis before any rotation
+unfoldable pub start : ℕ → ℕ → List Float → Svd
+start m n s = svd (grid n m (λ (col row : ℕ). cell n s row col)) (eye n)

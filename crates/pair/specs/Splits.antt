@@ -15,7 +15,7 @@ use Rattle.shape.specs.Limits.{mostRank}
 use Rattle.shape.specs.Cores.{Core, coreWith, block}
 use Rattle.bond.specs.Values.{order, sorted, keptRank}
 use Rattle.pair.specs.Slabs.{slab}
-use Rattle.pair.specs.Passes.{Svd, dot, Passes, orthogonalized}
+use Rattle.pair.specs.Passes.{dot, Passes, orthogonalized, start}
 
 -- the root of the sum of squares of each of n columns of m numbers, rows ascending
 unfoldable pub values : ℕ → ℕ → List Float → List Float
@@ -60,7 +60,7 @@ cut eps rl nj nk rr w sv =
 -- a slab of rl*nj rows and nk*rr columns
 unfoldable pub split : Float → (rl nj nk rr : ℕ) → List Float → Answer Halves
 split eps rl nj nk rr s =
-    bind (making Spectrum 0 (orthogonalized (rl * nj) (nk * rr) s)) (λ w.
+    bind (making Spectrum 0 (orthogonalized (rl * nj) (nk * rr) (start (rl * nj) (nk * rr) s))) (λ w.
     bind (making Spectrum 0 (stored (values (rl * nj) (nk * rr) (w .svd .columns)))) (λ sv.
     cut eps rl nj nk rr w sv))
 
