@@ -1,2 +1,4 @@
 pub mod Counts
+pub mod Lengths
+pub mod Splits
 pub mod Examples
