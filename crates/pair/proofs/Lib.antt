@@ -1,4 +1,6 @@
 pub mod Counts
 pub mod Lengths
 pub mod Splits
+pub mod Checks
+pub mod Calls
 pub mod Examples
