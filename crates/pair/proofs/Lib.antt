@@ -1,3 +1,4 @@
+pub mod Slabs
 pub mod Counts
 pub mod Lengths
 pub mod Splits

@@ -56,8 +56,7 @@ module _ (rl nj nk rr : ℕ) where
     formed-right : 1 ≤ r → r ≤ nk * rr → r ≤ mostRank → (h : Halves) → formed rl nj nk rr r ss js w ≡ done h → Formed rl nj nk rr h × (h .passes ≡ w .count)
     formed-right low most limit h e =
         let (z, p, q) = formed-is h e in
-        let rank : h .left .rr ≡ r = ap (λ (k : Halves). k .left .rr) (sym z) in
-        (
+        let rank : h .left .rr ≡ r = ap (λ (k : Halves). k .left .rr) (sym z) in (
           record {
             leftRank = ap (λ (k : Halves). k .left .rl) (sym z);
             leftPoints = ap (λ (k : Halves). k .left .n) (sym z);
