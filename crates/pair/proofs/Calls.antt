@@ -1,5 +1,5 @@
 -- What the call leaves: slices keep their lengths, and an accepted pair stands in its outputs with its rank and its passes. Assumes nothing.
-use mathlib.Core.Path.{_≡_, refl, ap, _∙_, sym}
+use mathlib.Core.Path.{_≡_, refl}
 use Prim.Native.Nat.{ℕ, _*_, _≤_}
 use native.Mathlib.Nat.{mul-le-mul, mul-le-mul-left, mul-le-mul-right}
 use native.Mathlib.Omega.{arith}
@@ -8,17 +8,13 @@ use mathlib.Core.List.{List}
 use lib.ListN.{length, take, length-replicate}
 use lib.Ieee.{Float}
 use Rattle.numbers.specs.Arithmetic.{zero64}
-use Rattle.answers.specs.declared.Refusal.{Refusal}
-use Rattle.answers.specs.declared.Verdict.{Verdict}
-use Rattle.answers.specs.declared.Verdict.the-variants.{Fits, Refused}
+use Rattle.answers.specs.declared.Verdict.the-variants.{Fits}
 use Rattle.answers.specs.Outcome.{Answer, done, refused, _then_}
 use Rattle.answers.specs.Table.{beforeWork}
 use Rattle.answers.proofs.Checks.{then-is}
 use Rattle.lists.specs.Lists.{pick}
-use Rattle.lists.specs.Slots.{fit}
 use Rattle.lists.specs.Floats.{zeros}
 use Rattle.lists.proofs.Slots.{fit-length, fit-used}
-use Rattle.shape.specs.Limits.{mostRank}
 use Rattle.shape.specs.Cores.{Core}
 use Rattle.rounding.specs.Call.{scratchAfter}
 use Rattle.pair.specs.Slabs.{slab}

@@ -1,6 +1,8 @@
+pub mod Laws
+-- the slab, the passes and their count, the split, the call
 pub mod Slabs
+pub mod Wholes
 pub mod Counts
-pub mod Lengths
 pub mod Splits
 pub mod Checks
 pub mod Calls

@@ -2,11 +2,12 @@
 use mathlib.Core.Path.{_≡_, ap, ap₂, _∙_, sym, fun-ext}
 use Prim.Native.Nat.{ℕ, _+_, _*_, _/_, _%_}
 use native.Mathlib.Nat.{add-assoc, add-mul, mul-assoc, div-add-mod'}
-use mathlib.Core.List.{List}
+use lib.ListN.{length}
 use lib.Ieee.{Float}
 use Rattle.numbers.specs.Arithmetic.{zero64}
 use Rattle.lists.specs.Lists.{iter, grid}
 use Rattle.lists.specs.Floats.{at, cell}
+use Rattle.lists.proofs.Tables.{length-grid}
 use Rattle.shape.specs.Cores.{Core, place, entry}
 use Rattle.pair.specs.Slabs.{plusProduct, slabEntry, slab}
 
@@ -25,3 +26,7 @@ unfolding slab slabEntry entry
 slab-flat l r = ap (λ (f : ℕ → ℕ → Float). grid (l .rl * l .n) (r .n * r .rr) f)
     (fun-ext λ row. fun-ext λ col. ap (λ (g : ℕ → Float → Float). iter (l .rr) g zero64)
     (fun-ext λ im. fun-ext λ s. ap₂ (λ (i j : ℕ). plusProduct s (at (l .entries) i) (at (r .entries) j)) (place-row (l .n) (l .rr) row im) (place-column (r .n) (r .rr) im col)))
+
+pub slab-length : (l r : Core) → length (slab l r) ≡ l .rl * l .n * (r .n * r .rr)
+unfolding slab
+slab-length l r = length-grid (l .rl * l .n) (r .n * r .rr) _

@@ -1,5 +1,5 @@
 -- Jacobi passes over stored columns, with their count (004: `jacobi_sweep_all`, `apply_jacobi_rotation`). Definitions only.
-use Prim.Native.Nat.{ℕ, zero, suc, _+_, _*_}
+use Prim.Native.Nat.{ℕ, zero, suc}
 use mathlib.Core.Bool.{Bool, true, false, _||_}
 use mathlib.Core.List.{List}
 use lib.Ieee.{Float, binary64, le, ofBits}
@@ -41,7 +41,7 @@ dot m a p q = sumTo m (λ (row : ℕ). times (cell m a p row) (cell m a q row))
 abbrev pub tolerance64 : Float
 tolerance64 = ofBits binary64 0x3d06_849b_86a1_2b9b
 
--- a pair is skipped where sq isn't above zero, or alpha/sq is at most 1e-14 in size; sq = sqrt(bp*bq). Where a NaN stands it is not skipped
+-- a pair is skipped where sq = sqrt(bp*bq) is at most zero, or alpha/sq at most 1e-14 in size; what isn't a number is neither, so that pair is turned
 unfoldable pub skipped : Float → Float → Float → Bool
 skipped alpha bp bq =
     let sq = rootOf (times bp bq) in

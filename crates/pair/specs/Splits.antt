@@ -22,7 +22,7 @@ unfoldable pub values : ℕ → ℕ → List Float → List Float
 values m n a = tab n (λ (col : ℕ). rootOf (dot m a col col))
 
 -- ---- the two new cores
--- 1/value, or 0 where the value isn't above zero
+-- 1/value, or 0 where the value isn't above zero: a column of such a value becomes zeros that keep their signs
 unfoldable pub inverse : Float → Float
 inverse value = pick (lt zero64 value) (over one64 value) zero64
 
