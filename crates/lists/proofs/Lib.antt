@@ -4,6 +4,7 @@ pub mod Tables
 -- loops: what a turn more, the end and an early return say
 pub mod Turns
 pub mod Firsts
+pub mod Demands
 pub mod Picks
 pub mod Over
 pub mod Seen
