@@ -1,15 +1,17 @@
 -- Laws of numbers in bytes: what was written is read again, and what was read is written as it stood. Assumes nothing.
-use mathlib.Core.Path.{_≡_, refl, sym, ap, _∙_, subst}
-use Prim.Native.Nat.{ℕ, zero, suc, _+_, _-_, _*_, _/_, _%_, _^_, _≤_, _<_}
+use mathlib.Core.Path.{_≡_, refl, sym, ap, _∙_}
+use Prim.Native.Nat.{ℕ, zero, suc, _+_, _*_, _/_, _%_, _^_, _≤_, _<_, zero-le, suc-le-suc}
+use native.Mathlib.Nat.{not-suc-le-zero, le-of-suc-le-suc}
 use native.Mathlib.Omega.{arith}
-use mathlib.Core.Bool.{Bool, true, false, not, true≢false}
-use mathlib.Core.List.{List, [], _∷_}
+use mathlib.Core.Bool.{true, not, true≢false}
+use mathlib.Core.List.{List, [], _∷_, _++_}
 use lib.Dec.{T}
 use lib.ListN.{length, getD, take, drop, length-take, length-drop}
 use lib.Seq.{drop-cons}
 use lib.Ieee.{Float, nan, inf, fin, binary64, fits, isNan, toBits, ofBits}
 use lib.Ieee.Bits.{ofBits-toBits, toBits-lt, toBits-ofBits}
 use Rattle.numbers.specs.Finite.{finite}
+use Rattle.lists.specs.Lists.{listed, flat}
 use Rattle.lists.specs.Floats.{at}
 use Rattle.chainfile.specs.Bytes.{bytesOf, numberAt, f64, f64At}
 use Rattle.chainfile.proofs.Cuts.{cut}
@@ -26,6 +28,23 @@ pub bytes-length : (w x : ℕ) → length (bytesOf w x) ≡ w
 unfolding bytesOf
 bytes-length zero x = refl
 bytes-length (suc w) x = ap suc (bytes-length w (x / 256))
+
+-- ---- what is made of bytes is bytes
+pub append-bytes : (l m : List ℕ) → AreBytes l → AreBytes m → AreBytes (l ++ m)
+append-bytes [] m p q i lt = q i lt
+append-bytes (x ∷ l) m p q zero lt = p zero (suc-le-suc zero-le)
+append-bytes (x ∷ l) m p q (suc i) lt = append-bytes l m (λ j h. p (suc j) (suc-le-suc h)) q i (le-of-suc-le-suc lt)
+
+pub joined-bytes : (f : ℕ → List ℕ) → ((k : ℕ) → AreBytes (f k)) → (m j : ℕ) → AreBytes (flat (listed m j f))
+unfolding flat listed
+joined-bytes f h zero j i lt = absurd (not-suc-le-zero lt)
+joined-bytes f h (suc m) j i lt = append-bytes (f j) (flat (listed m (suc j) f)) (h j) (joined-bytes f h m (suc j)) i lt
+
+pub number-bytes : (w x : ℕ) → AreBytes (bytesOf w x)
+unfolding bytesOf
+number-bytes zero x i lt = absurd (not-suc-le-zero lt)
+number-bytes (suc w) x zero lt = omega arith
+number-bytes (suc w) x (suc i) lt = number-bytes w (x / 256) i (le-of-suc-le-suc lt)
 
 cut-cons : (w p : ℕ) (l : List ℕ) → p < length l → cut p (suc w) l ≡ getD l p 0 ∷ cut (suc p) w l
 cut-cons w p l lt = ap (take (suc w)) (drop-cons l p 0 lt)

@@ -1,25 +1,28 @@
 -- A file, field by field: what stands at each place of the one file of a chain, and that bytes with those fields are that file. Assumes nothing.
-use mathlib.Core.Path.{_≡_, refl, sym, ap, _∙_, subst}
-use Prim.Native.Nat.{ℕ, zero, suc, _+_, _-_, _*_, _^_, _≤_, _<_}
-use native.Mathlib.Nat.{zero-add, add-zero, add-assoc, mul-zero, le-refl}
+use mathlib.Core.Path.{_≡_, refl, sym, ap, _∙_}
+use Prim.Native.Nat.{ℕ, _+_, _*_, _^_, _≤_, _<_}
+use native.Mathlib.Nat.{zero-add, add-zero, add-assoc}
 use native.Mathlib.Omega.{arith}
-use mathlib.Core.Bool.{Bool, true}
-use mathlib.Core.List.{List, [], _∷_, _++_}
+use mathlib.Core.Bool.{true}
+use mathlib.Core.List.{List, _++_}
 use lib.ListN.{length, length-append}
 use lib.Ieee.{Float, binary64, toBits}
+use Rattle.answers.specs.declared.Refusal.the-variants.{Number}
+use Rattle.answers.specs.Outcome.{demandEach}
+use Rattle.answers.proofs.Checks.{each-same}
 use Rattle.numbers.specs.Finite.{finite}
-use Rattle.lists.specs.Lists.{listed, tab, flat, joined}
-use Rattle.lists.specs.Slots.{offset}
-use Rattle.lists.specs.Floats.{at}
+use Rattle.lists.specs.Lists.{flat, joined}
+use Rattle.lists.specs.Slots.{slot}
+use Rattle.lists.specs.Floats.{at, allFinite}
 use Rattle.lists.proofs.Tables.{listed-same}
-use Rattle.lists.proofs.Slots.{offset-mono}
 use Rattle.shape.specs.declared.Shape.{Shape}
 use Rattle.shape.specs.Shapes.{leftOf, pointsOf, rightOf, coreSize, entriesOf}
-use Rattle.chainfile.specs.Bytes.{bytesOf, numberAt, u16, u32, f64, u16At, u32At, f64At}
+use Rattle.chainfile.specs.Bytes.{bytesOf, numberAt, u16, f64, u16At, u32At, f64At}
 use Rattle.chainfile.specs.File.{entryStart, bodyStart, fileLength, mark, header, tableEntry, fileOf}
+use Rattle.chainfile.specs.Calls.{numbersOk}
 use Rattle.chainfile.proofs.Cuts.{cut, cut-all, cut-cut, cut-add, cut-first, cut-second, parts-length, part-at, cut-parts}
-use Rattle.chainfile.proofs.Bytes.{AreBytes, AreDoubles, bytes-length, reads, written, f64-reads, f64-written}
-use Rattle.chainfile.proofs.Alike.{Meets, axes-most, left-most, points-most, right-most, offset-most}
+use Rattle.chainfile.proofs.Bytes.{AreBytes, AreDoubles, bytes-length, append-bytes, joined-bytes, number-bytes, reads, written, f64-reads, f64-written}
+use Rattle.chainfile.proofs.Shapes.{Meets, axes-most, left-most, points-most, right-most, offset-most, Alike, alike-core, alike-offset, alike-entries}
 
 -- the fields of these bytes are those of this chain
 pub record Holds (bytes : List ℕ) (s : Shape) (chain : List Float) : Type 0 where
@@ -34,9 +37,38 @@ pub record Holds (bytes : List ℕ) (s : Shape) (chain : List Float) : Type 0 wh
   pub body : (k : ℕ) → k < s .d → u32At bytes (entryStart k + 8) ≡ bodyStart s k
   pub numbers : (i : ℕ) → i < entriesOf s → f64At bytes (entryStart (s .d) + 8 * i) ≡ at chain i
 
+-- ---- what hangs on the shape only by the sizes of its d cores
+module _ (s t : Shape) (a : Alike s t) where
+  pub alike-body : (k : ℕ) → k < s .d → bodyStart s k ≡ bodyStart t k
+  unfolding bodyStart
+  alike-body k lt = omega (arith, a .axes, alike-offset s t a k (omega arith))
+
+  pub alike-length : fileLength s ≡ fileLength t
+  unfolding fileLength
+  alike-length = omega (arith, a .axes, alike-entries s t a)
+
+  pub alike-numbers : (chain : List Float) → numbersOk s chain ≡ numbersOk t chain
+  unfolding numbersOk slot
+  alike-numbers chain =
+      each-same Number (λ (k : ℕ). allFinite (slot (coreSize s) k chain)) (λ (k : ℕ). allFinite (slot (coreSize t) k chain)) (s .d) 0
+      (λ k _ lt. rw (alike-core s t a k (omega arith), alike-offset s t a k (omega arith)))
+      ∙ ap (λ (m : ℕ). demandEach Number (λ (k : ℕ). allFinite (slot (coreSize t) k chain)) m 0) (a .axes)
+
 entry-length : (s : Shape) (k : ℕ) → length (tableEntry s k) ≡ 12
 unfolding tableEntry bytesOf
 entry-length s k = refl
+
+header-bytes : (d : ℕ) → AreBytes (header d)
+unfolding header bytesOf numberAt
+header-bytes d = append-bytes mark (u16 d ++ u16 0) (number-bytes 4 (u32At mark 0)) (append-bytes (u16 d) (u16 0) (number-bytes 2 d) (number-bytes 2 0))
+
+entry-bytes : (s : Shape) (k : ℕ) → AreBytes (tableEntry s k)
+unfolding tableEntry
+entry-bytes s k =
+    append-bytes (u16 (leftOf s k)) _ (number-bytes 2 (leftOf s k))
+    (append-bytes (u16 (pointsOf s k)) _ (number-bytes 2 (pointsOf s k))
+    (append-bytes (u16 (rightOf s k)) _ (number-bytes 2 (rightOf s k))
+    (append-bytes (u16 0) _ (number-bytes 2 0) (number-bytes 4 (bodyStart s k)))))
 
 f64-length : (x : Float) → length (f64 x) ≡ 8
 f64-length x = bytes-length 8 (toBits binary64 x)
@@ -58,6 +90,12 @@ module _ (s : Shape) (chain : List Float) where
   pub file-length : length (fileOf s chain) ≡ fileLength s
   unfolding fileOf fileLength header bytesOf
   file-length = let a = table-length in let b = bodies-length in let c = length-append table bodies in omega arith
+
+  pub file-bytes : AreBytes (fileOf s chain)
+  unfolding fileOf
+  file-bytes =
+      append-bytes (header (s .d)) (table ++ bodies) (header-bytes (s .d))
+      (append-bytes table bodies (joined-bytes (tableEntry s) (entry-bytes s) (s .d) 0) (joined-bytes (λ (i : ℕ). f64 (at chain i)) (λ i. number-bytes 8 (toBits binary64 (at chain i))) (entriesOf s) 0))
 
   header-part : (p w : ℕ) → p + w ≤ 8 → cut p w (fileOf s chain) ≡ cut p w (header (s .d))
   unfolding fileOf header bytesOf
@@ -106,12 +144,12 @@ module _ (s : Shape) (chain : List Float) (m : Meets s) (whole : length chain �
         marked = in-header 4 0 (u32At mark 0) (omega arith) (omega arith) refl;
         axes = in-header 2 4 (s .d) (omega arith) (omega (arith, axes-most s m)) refl;
         clear = in-header 2 6 0 (omega arith) (omega arith) refl;
-        left = λ k lt. rw add-zero at (in-entry k 0 2 (leftOf s k) lt (omega arith) (omega (arith, left-most s m k lt)) refl);
+        left = λ k lt. rw (add-zero (entryStart k)) at (in-entry k 0 2 (leftOf s k) lt (omega arith) (omega (arith, left-most s m k lt)) refl);
         points = λ k lt. in-entry k 2 2 (pointsOf s k) lt (omega arith) (omega (arith, points-most s m k lt)) refl;
         right = λ k lt. in-entry k 4 2 (rightOf s k) lt (omega arith) (omega (arith, right-most s m k lt)) refl;
         void = λ k lt. in-entry k 6 2 0 lt (omega arith) (omega arith) refl;
         body = λ k lt. in-entry k 8 4 (bodyStart s k) lt (omega arith) (body-lt k lt) refl;
-        numbers = λ i lt. f64-reads (at chain i) (entryStart (s .d) + 8 * i) file (doubles i (omega arith)) (body-part s chain i lt)
+        numbers = λ i lt. f64-reads (at chain i) (entryStart (s .d) + 8 * i) file (doubles i (omega arith)) (body-part s chain i lt);
       }
 
 -- ---- bytes that hold a chain of finite numbers are its file

@@ -1,19 +1,21 @@
 -- What reading accepts: it answers a chain exactly where the bytes hold one. Assumes nothing.
 use mathlib.Core.Path.{_≡_, refl, sym, ap, _∙_, subst}
-use Prim.Native.Nat.{ℕ, zero, suc, _+_, _-_, _*_, _≤_, _<_, zero-le}
-use native.Mathlib.Nat.{le-refl}
+use Prim.Native.Nat.{ℕ, _+_, _*_, _≤_, _<_, zero-le}
+use native.Mathlib.Nat.{zero-add}
 use native.Mathlib.Omega.{arith}
-use mathlib.Core.Bool.{Bool, true}
-use mathlib.Core.List.{List, [], _∷_, _++_}
-use lib.Dec.{T, leb, eqb}
-use lib.ListN.{length, getD, take, replicate}
+use mathlib.Core.Bool.{true}
+use mathlib.Core.List.{List}
+use lib.Dec.{T, leb}
+use lib.ListN.{length, getD}
 use lib.Ieee.{Float, nan, binary64, fits}
 use lib.Ieee.Bits.{ofBits-fits}
 use lib.Seq.{ext-getD}
 use Rattle.answers.specs.declared.Refusal.the-variants.{File}
-use Rattle.answers.specs.Outcome.{done, bind, Answer, Check, _then_, demand}
+use Rattle.answers.specs.declared.Verdict.the-variants.{Fits}
+use Rattle.answers.specs.Outcome.{done, refused, bind, Answer, _then_, demand}
 use Rattle.answers.proofs.Outcomes.{done-inj, bind-done}
 use Rattle.answers.proofs.Checks.{demand-yes, demand-is, then-is, then-skip}
+use Rattle.numbers.specs.Arithmetic.{zero64}
 use Rattle.lists.specs.Lists.{tab}
 use Rattle.lists.specs.Slots.{fit}
 use Rattle.lists.specs.Floats.{at}
@@ -23,15 +25,17 @@ use Rattle.lists.proofs.Tables.{listed-same, length-tab, getD-tab}
 use Rattle.shape.specs.declared.Shape.{Shape}
 use Rattle.shape.specs.Limits.{mostAxes, within}
 use Rattle.shape.specs.Shapes.{leftOf, pointsOf, rightOf, sizeOk, chainOk, entriesOf}
+use Rattle.chainfile.specs.declared.Read.{Read}
 use Rattle.chainfile.specs.Bytes.{numberAt, u16At, u32At, f64At}
 use Rattle.chainfile.specs.File.{entryStart, bodyStart, fileLength, mark}
-use Rattle.chainfile.specs.Calls.{numbersOk}
-use Rattle.chainfile.specs.Reading.{readHeader, shapeWith, trimmed, shapeIn, entryOk, readTable, readContents, lengthsOk, numbersFrom, readNumbers, Chain, reading}
-use Rattle.chainfile.proofs.Slots.{fit-at, finite-slots}
+use Rattle.chainfile.specs.Calls.{Exit, numbersOk}
+use Rattle.chainfile.specs.Reading.{readHeader, shapeWith, trimmed, shapeIn, entryOk, readTable, readContents, lengthsOk, numbersFrom, readNumbers, Chain, reading, readExit, readCall}
+use Rattle.chainfile.proofs.Slots.{fit-at}
 use Rattle.chainfile.proofs.Turning.{turning-yes, turning-is}
-use Rattle.chainfile.proofs.Alike.{Meets, Alike, meets-ok, ok-meets, alike-size, alike-body, alike-length, alike-meets, alike-entries, alike-numbers, axes-most}
+use Rattle.chainfile.proofs.Shapes.{Meets, Alike, meets-ok, ok-meets, alike-size, alike-meets, alike-entries, axes-most}
 use Rattle.chainfile.proofs.Bytes.{AreDoubles}
-use Rattle.chainfile.proofs.Fields.{Holds}
+use Rattle.chainfile.proofs.Writers.{Sound}
+use Rattle.chainfile.proofs.Fields.{Holds, alike-body, alike-length, alike-numbers}
 
 -- ---- the header
 record Header (bytes : List ℕ) (d : ℕ) : Type 0 where
@@ -54,7 +58,7 @@ header-is bytes d h =
       marked = eqb-is _ _ (demand-is _ _ (b .0));
       clear = eqb-is _ _ (demand-is _ _ (c .0));
       few = ap (within mostAxes) (sym axes) ∙ demand-is _ _ (e .0);
-      axes = axes
+      axes = axes;
     }
 
 header-yes : (bytes : List ℕ) (d : ℕ) → Header bytes d → readHeader bytes ≡ done d
@@ -77,7 +81,7 @@ trimmed-alike s few =
       axes = refl;
       left = λ k lt. sym (place-at (s .d) few k lt (leftOf s));
       points = λ k lt. sym (place-at (s .d) few k lt (pointsOf s));
-      right = λ k lt. sym (place-at (s .d) few k lt (rightOf s))
+      right = λ k lt. sym (place-at (s .d) few k lt (rightOf s));
     }
 
 places-same : (d : ℕ) (f g : ℕ → ℕ) → ((k : ℕ) → k < d → f k ≡ g k) → fit 0 mostAxes (tab d f) ≡ fit 0 mostAxes (tab d g)
@@ -105,7 +109,7 @@ entry-is bytes s k h =
     record {
       sizes = demand-is _ _ (a .0);
       void = eqb-is _ _ (demand-is _ _ (b .0));
-      body = eqb-is _ _ (demand-is _ _ (b .1))
+      body = eqb-is _ _ (demand-is _ _ (b .1));
     }
 
 entry-yes : (bytes : List ℕ) (s : Shape) (k : ℕ) → Entry bytes s k → entryOk bytes s k ≡ done tt
@@ -135,13 +139,14 @@ module _ (bytes : List ℕ) where
       let sh = shapeIn bytes d in
       let a = then-is _ _ s h in
       let b = then-is _ _ s (a .1) in
-      let c = then-is _ _ s (b .1) in
-      (done-inj (c .1),
-      record {
-        there = leb-is _ _ (demand-is _ _ (a .0));
-        entries = λ k lt. entry-is bytes sh k (turning-is (entryOk bytes sh) d 0 (b .0) k zero-le (omega arith));
-        meets = ok-meets sh (c .0)
-      })
+      let c = then-is _ _ s (b .1) in (
+        done-inj (c .1),
+        record {
+          there = leb-is _ _ (demand-is _ _ (a .0));
+          entries = λ k lt. entry-is bytes sh k (turning-is (entryOk bytes sh) d 0 (b .0) k zero-le (rw zero-add lt));
+          meets = ok-meets sh (c .0);
+        },
+      )
 
   table-yes : (s : Shape) → shapeIn bytes (s .d) ≡ s → Table bytes s → readTable bytes (s .d) ≡ done s
   unfolding readTable
@@ -163,7 +168,7 @@ contents-yes bytes s chain m h =
     = record {
       there = omega arith;
       entries = λ k lt. record { sizes = sym (alike-size s t a k lt) ∙ m .sizes k lt; void = h .void k lt; body = h .body k lt ∙ alike-body s t a k lt };
-      meets = alike-meets s t a m
+      meets = alike-meets s t a m;
     } in
     ap (λ (o : Answer ℕ). bind o (readTable bytes)) (header-yes bytes (s .d) header) ∙ table-yes bytes t (shape-in bytes s chain h) table
 
@@ -179,12 +184,6 @@ contents-is bytes s h =
     let d = a .0 in
     let b = table-is bytes d s (a .2) in
     subst (Contents bytes) (b .0) (record { header = header-is bytes d (a .1); table = b .1; found = refl })
-
--- ---- what the two calls ask of a chain
-pub record Sound (s : Shape) (chain : List Float) : Type 0 where
-  pub meets : Meets s
-  pub whole : length chain ≡ entriesOf s
-  pub finites : numbersOk s chain ≡ done tt
 
 -- ---- the numbers
 module _ (bytes : List ℕ) (s : Shape) where
@@ -265,7 +264,7 @@ module _ (bytes : List ℕ) (out : List Float) where
           right = size-is rightOf (λ (k : ℕ). u16At bytes (entryStart k + 4)) (λ k lt. place-at (s .d) few k lt _);
           void = λ k lt. entries k lt .void;
           body = λ k lt. entries k lt .body;
-          numbers = number
+          numbers = number;
         }
 
     accepted : numbersOk s chain ≡ done tt → entriesOf s ≤ length out → Accepted (record { shape = s; numbers = chain })
@@ -275,7 +274,7 @@ module _ (bytes : List ℕ) (out : List Float) where
           holds = holds;
           doubles = λ i lt. subst (λ (x : Float). T (fits binary64 x)) (number i (omega (arith, whole))) (ofBits-fits binary64 (numberAt 8 bytes (entryStart (s .d) + 8 * i)));
           kept = sym (shape-in bytes s chain holds) ∙ contents .found;
-          room = fit
+          room = fit;
         }
 
   pub reading-is : (c : Chain) → reading bytes out ≡ done c → Accepted c
@@ -289,3 +288,16 @@ module _ (bytes : List ℕ) (out : List Float) where
       let n = numbers-is bytes s (e .0) (e .1) in
       subst Accepted (done-inj (e .2))
       (accepted s (e .0) (contents-is bytes s (a .1)) (eqb-is _ _ (demand-is _ _ (l .0))) (n .0) (n .1) (leb-is _ _ (demand-is _ _ (l .1))))
+
+-- ---- an accepted call, and what it leaves
+-- what reading leaves where it answers c
+abbrev pub readAs : List Float → Chain → Exit Read Float
+readAs out c = record { result = record { verdict = Fits; shape = c .shape }; out = fit zero64 (length out) (c .numbers) }
+
+pub read-fits : (bytes : List ℕ) (out : List Float) → readCall bytes out .result .verdict ≡ Fits → (c : Chain) × Accepted bytes out c × (readCall bytes out ≡ readAs out c)
+unfolding readCall readExit
+read-fits bytes out h = go (reading bytes out) refl h
+  where
+    go : (o : Answer Chain) → reading bytes out ≡ o → readExit out o .result .verdict ≡ Fits → (c : Chain) × Accepted bytes out c × (readExit out (reading bytes out) ≡ readAs out c)
+    go (done c) e f = (c, reading-is bytes out c e, ap (readExit out) e)
+    go (refused r) e f = let z : _≡_ {A = ℕ} 0 1 = cc in absurd (omega arith)

@@ -50,7 +50,7 @@ entryOk bytes s k =
     then demand (eqb (u16At bytes (entryStart k + 6)) 0) (File (entryStart k + 6))
     then demand (eqb (u32At bytes (entryStart k + 8)) (bodyStart s k)) (File (entryStart k + 8))
 
--- the table is there, entry by entry, then bonds: refusals 1 and 2 have been ruled out, so that 3 is what `chainOk` can still give
+-- the table is there, entry by entry, then bonds: 1 and 2 are ruled out by then, so 3 is what `chainOk` can still refuse (`bonds-only` of proofs/Shapes.antt)
 unfoldable pub readTable : List ℕ → ℕ → Answer Shape
 readTable bytes d =
     let s = shapeIn bytes d in
@@ -59,7 +59,7 @@ readTable bytes d =
     then chainOk s
     then done s
 
--- the contents, bodies aside
+-- header and table: the contents, bodies aside
 unfoldable pub readContents : List ℕ → Answer Shape
 readContents bytes = bind (readHeader bytes) (readTable bytes)
 
@@ -87,9 +87,9 @@ pub record Chain : Type 0 where
 unfoldable pub reading : List ℕ → List Float → Answer Chain
 reading bytes out =
     bind (readContents bytes) (λ s.
-        lengthsOk s bytes out
-        then bind (readNumbers bytes s) (λ chain.
-            done record { shape = s; numbers = chain }))
+    lengthsOk s bytes out
+    then bind (readNumbers bytes s) (λ chain.
+    done record { shape = s; numbers = chain }))
 
 abbrev pub noShape : Shape
 noShape = record { d = 0; left = replicate mostAxes 0; n = replicate mostAxes 0; right = replicate mostAxes 0 }

@@ -1,24 +1,22 @@
--- Shapes that agree in d and in the sizes of their d cores: what stands in the places from d on decides nothing. Assumes nothing.
-use mathlib.Core.Path.{_≡_, refl, sym, ap, _∙_, subst}
-use Prim.Native.Nat.{ℕ, zero, suc, _+_, _-_, _*_, _≤_, _<_, zero-le}
-use native.Mathlib.Nat.{zero-add, le-refl, mul-le-mul}
+-- Laws of shapes: what an accepted one meets, and that what stands in the places from d on decides nothing. Assumes nothing.
+use mathlib.Core.Path.{_≡_, refl, sym, ap, _∙_}
+use Prim.Native.Nat.{ℕ, zero, suc, _*_, _≤_, _<_, zero-le}
+use native.Mathlib.Nat.{le-refl, mul-le-mul}
 use native.Mathlib.Omega.{arith}
 use mathlib.Core.Bool.{Bool, true, false, _&&_}
-use mathlib.Core.List.{List}
 use lib.Dec.{leb, ltb, eqb}
-use lib.Ieee.{Float}
-use Rattle.answers.specs.declared.Refusal.the-variants.{Axes, Size, Bond, Number}
-use Rattle.answers.specs.Outcome.{done, Check, _then_, demand, demandEach}
-use Rattle.answers.proofs.Checks.{demand-yes, demand-is, then-is, then-skip, each-same, each-yes, each-is}
+use Rattle.answers.specs.declared.Refusal.{Refusal}
+use Rattle.answers.specs.declared.Refusal.the-variants.{Axes, Size, Bond}
+use Rattle.answers.specs.Table.{numberOf}
+use Rattle.answers.specs.Outcome.{done, refused, Check, _then_, demand, demandEach}
+use Rattle.answers.proofs.Outcomes.{done-refused, refused-inj}
+use Rattle.answers.proofs.Checks.{demand-yes, demand-is, then-is, then-skip, each-yes, each-is}
 use Rattle.lists.specs.Lists.{pick}
-use Rattle.lists.specs.Slots.{offset, slot}
-use Rattle.lists.specs.Floats.{allFinite}
-use Rattle.lists.proofs.Tests.{both, and-yes, leb-is, ltb-yes, ltb-is, eqb-is}
+use Rattle.lists.specs.Slots.{offset}
+use Rattle.lists.proofs.Tests.{both, and-yes, leb-is, ltb-is}
 use Rattle.shape.specs.declared.Shape.{Shape}
 use Rattle.shape.specs.Limits.{mostAxes, mostPoints, mostRank, within}
 use Rattle.shape.specs.Shapes.{leftOf, pointsOf, rightOf, atBond, sizeOk, bondOk, shapeOk, chainOk, coreSize, entriesOf}
-use Rattle.chainfile.specs.File.{bodyStart, fileLength}
-use Rattle.chainfile.specs.Calls.{numbersOk}
 
 -- ---- what a shape that is accepted meets
 pub record Meets (s : Shape) : Type 0 where
@@ -50,7 +48,7 @@ module _ (s : Shape) where
         axes = demand-is (within mostAxes (s .d)) Axes (a .0);
         sizes = λ k lt. each-is Size (sizeOk s) (s .d) 0 (b .0) k zero-le (omega arith);
         start = demand-is (eqb (leftOf s 0) 1) (Bond 0) (c .0);
-        bonds = λ k lt. both (bondOk s k) true (each-is Bond (λ (j : ℕ). bondOk s j && true) (s .d) 0 (c .1) k zero-le (omega arith)) .0
+        bonds = λ k lt. both (bondOk s k) true (each-is Bond (λ (j : ℕ). bondOk s j && true) (s .d) 0 (c .1) k zero-le (omega arith)) .0;
       }
 
   pub meets-ok : Meets s → chainOk s ≡ done tt
@@ -60,6 +58,27 @@ module _ (s : Shape) where
       (then-skip sizesOk (startOk then bondsOk) (done tt) (each-yes Size (sizeOk s) (s .d) 0 (λ k a b. m .sizes k (omega arith)))
       (then-skip startOk bondsOk (done tt) (demand-yes (eqb (leftOf s 0) 1) (Bond 0) (m .start))
       (each-yes Bond (λ (k : ℕ). bondOk s k && true) (s .d) 0 (λ k a b. and-yes (bondOk s k) true (m .bonds k (omega arith)) refl))))
+
+-- where 1 and 2 have been ruled out, 3 is the refusal that is left
+each-refused : (r : ℕ → Refusal) (p : ℕ → Bool) (m k : ℕ) (x : Refusal) → demandEach r p m k ≡ refused x → (j : ℕ) × (r j ≡ x)
+unfolding demandEach demand
+each-refused r p zero k x h = absurd (done-refused h)
+each-refused r p (suc m) k x h = go (p k) (each-refused r p m (suc k) x) h
+  where
+    go : (b : Bool) → (demandEach r p m (suc k) ≡ refused x → (j : ℕ) × (r j ≡ x)) → demand b (r k) then demandEach r p m (suc k) ≡ refused x → (j : ℕ) × (r j ≡ x)
+    go true later e = later e
+    go false later e = (k, refused-inj e)
+
+pub bonds-only : (s : Shape) (x : Refusal) → within mostAxes (s .d) ≡ true → ((k : ℕ) → k < s .d → sizeOk s k ≡ true) → chainOk s ≡ refused x → numberOf x ≡ 3
+unfolding shapeOk demand
+bonds-only s x axes sizes h = go (eqb (leftOf s 0) 1) (sym first ∙ h)
+  where
+    go : (b : Bool) → demand b (Bond 0) then bondsOk s ≡ refused x → numberOf x ≡ 3
+    go true e = ap numberOf (sym (each-refused Bond (λ (k : ℕ). bondOk s k && true) (s .d) 0 x e .1))
+    go false e = ap numberOf (sym (refused-inj e))
+
+    first : chainOk s ≡ startOk s then bondsOk s
+    first = then-skip (axesOk s) _ _ (demand-yes _ _ axes) (then-skip (sizesOk s) _ _ (each-yes Size (sizeOk s) (s .d) 0 (λ k a b. sizes k (omega arith))) refl)
 
 -- ---- limits of a shape that is accepted
 module _ (s : Shape) (m : Meets s) where
@@ -128,26 +147,11 @@ module _ (s t : Shape) (a : Alike s t) where
           let e' : ltb (suc k) (t .d) ≡ false = rw (← a .axes) e in
           rw (e, e', a .right k lt)
 
-  pub alike-body : (k : ℕ) → k < s .d → bodyStart s k ≡ bodyStart t k
-  unfolding bodyStart
-  alike-body k lt = omega (arith, a .axes, alike-offset k (omega arith))
-
-  pub alike-length : fileLength s ≡ fileLength t
-  unfolding fileLength
-  alike-length = omega (arith, a .axes, alike-entries)
-
   pub alike-meets : Meets s → Meets t
   alike-meets m =
       record {
         axes = ap (within mostAxes) (sym (a .axes)) ∙ m .axes;
         sizes = λ k lt. sym (alike-size k (omega (arith, a .axes))) ∙ m .sizes k (omega (arith, a .axes));
         start = ap (λ (r : ℕ). eqb r 1) (sym (a .left 0 (axes-least s m))) ∙ m .start;
-        bonds = λ k lt. sym (alike-bond k (omega (arith, a .axes))) ∙ m .bonds k (omega (arith, a .axes))
+        bonds = λ k lt. sym (alike-bond k (omega (arith, a .axes))) ∙ m .bonds k (omega (arith, a .axes));
       }
-
-  pub alike-numbers : (chain : List Float) → numbersOk s chain ≡ numbersOk t chain
-  unfolding numbersOk slot
-  alike-numbers chain =
-      each-same Number (λ (k : ℕ). allFinite (slot (coreSize s) k chain)) (λ (k : ℕ). allFinite (slot (coreSize t) k chain)) (s .d) 0
-      (λ k _ lt. rw (alike-core k (omega arith), alike-offset k (omega arith)))
-      ∙ ap (λ (m : ℕ). demandEach Number (λ (k : ℕ). allFinite (slot (coreSize t) k chain)) m 0) (a .axes)
