@@ -9,12 +9,12 @@ use Rattle.answers.specs.declared.Verdict.{Verdict}
 use Rattle.answers.specs.declared.Verdict.the-variants.{Fits, Refused}
 use Rattle.answers.specs.Outcome.{demand, demandEach}
 use Rattle.numbers.specs.Arithmetic.{zero64, one64}
-use Rattle.lists.specs.Lists.{pick, listed, flat}
+use Rattle.lists.specs.Lists.{listed, flat}
 use Rattle.lists.specs.Slots.{offset, slot, fit}
 use Rattle.lists.specs.Walks.{turning}
 use Rattle.lists.specs.Floats.{allFinite}
 use Rattle.shape.specs.declared.Shape.{Shape}
-use Rattle.shape.specs.Shapes.{shapeOk, sizeOk, bondOk, atBond, coreSize}
+use Rattle.shape.specs.Shapes.{shapeOk, sizeOk, bondOk, coreSize}
 use Rattle.chainfile.specs.declared.Read.{Read}
 use Rattle.chainfile.specs.Bytes.{bytesOf, numberAt}
 use Rattle.chainfile.specs.File.{fileOf, header, tableEntry, bodyStart, fileLength}
@@ -24,11 +24,11 @@ use Rattle.chainfile.specs.Reading.{readCall, readExit, reading, readCon
 
 -- ---- the two calls, with so much room lent
 writes : Shape → List Float → ℕ → Exit Verdict ℕ
-unfolding writeCall writeExit writing shapeOk demand demandEach sizeOk bondOk atBond pick coreSize offset fileLength bodyStart numbersOk slot allFinite fileOf header tableEntry bytesOf toBits ofBits listed flat
+unfolding writeCall writeExit writing shapeOk demand demandEach sizeOk bondOk coreSize offset fileLength bodyStart numbersOk slot allFinite fileOf header tableEntry bytesOf toBits ofBits listed flat
 writes s chain room = writeCall s chain (replicate room 7)
 
 reads : List ℕ → ℕ → Exit Read Float
-unfolding readCall readExit reading readContents readHeader readTable shapeWith shapeIn entryOk turning shapeOk demand demandEach sizeOk bondOk atBond pick coreSize offset fileLength bodyStart lengthsOk readNumbers numbersFrom numberAt ofBits numbersOk slot allFinite listed fit
+unfolding readCall readExit reading readContents readHeader readTable shapeWith shapeIn entryOk turning shapeOk demand demandEach sizeOk bondOk coreSize offset fileLength bodyStart lengthsOk readNumbers numbersFrom numberAt ofBits numbersOk slot allFinite listed fit
 reads bytes room = readCall bytes (replicate room nan)
 
 abbrev shaped : ℕ → List ℕ → List ℕ → List ℕ → Shape

@@ -11,12 +11,11 @@ use Rattle.answers.specs.Table.{numberOf}
 use Rattle.answers.specs.Outcome.{done, refused, Check, _then_, demand, demandEach}
 use Rattle.answers.proofs.Outcomes.{done-refused, refused-inj}
 use Rattle.answers.proofs.Checks.{demand-yes, demand-is, then-is, then-skip, each-yes, each-is}
-use Rattle.lists.specs.Lists.{pick}
 use Rattle.lists.specs.Slots.{offset}
 use Rattle.lists.proofs.Tests.{both, and-yes, leb-is, ltb-is}
 use Rattle.shape.specs.declared.Shape.{Shape}
 use Rattle.shape.specs.Limits.{mostAxes, mostPoints, mostRank, within}
-use Rattle.shape.specs.Shapes.{leftOf, pointsOf, rightOf, atBond, sizeOk, bondOk, shapeOk, chainOk, coreSize, entriesOf}
+use Rattle.shape.specs.Shapes.{leftOf, pointsOf, rightOf, sizeOk, bondOk, shapeOk, chainOk, coreSize, entriesOf}
 
 -- ---- what a shape that is accepted meets
 pub record Meets (s : Shape) : Type 0 where
@@ -136,7 +135,7 @@ module _ (s t : Shape) (a : Alike s t) where
   alike-size k lt = rw (a .left k lt, a .points k lt, a .right k lt)
 
   alike-bond : (k : ℕ) → k < s .d → bondOk s k ≡ bondOk t k
-  unfolding bondOk atBond pick
+  unfolding bondOk
   alike-bond k lt = go (ltb (suc k) (s .d)) refl
     where
       go : (b : Bool) → ltb (suc k) (s .d) ≡ b → bondOk s k ≡ bondOk t k
