@@ -8,8 +8,9 @@ use mathlib.Core.Logic.{⊎-elim}
 use Rattle.answers.specs.declared.Refusal.{Refusal}
 use Rattle.answers.specs.Outcome.{done, refused, Check, _then_, demand, demandEach}
 use Rattle.answers.proofs.Checks.{demand-no, each-yes, each-from}
-use Rattle.lists.specs.Lists.{firstFrom, first}
+use Rattle.lists.specs.Lists.{firstFrom, first, firstNot}
 use Rattle.lists.proofs.Tests.{not-no, not-yes, and-yes}
+use Rattle.lists.proofs.Firsts.{Clear, clear-none, clear-more, first-here, first-done}
 
 -- ---- what the first place at which p holds is
 module _ (p : ℕ → Bool) where
@@ -54,16 +55,44 @@ module _ (p : ℕ → Bool) where
     unfolding first
     first-holds l = from-first 0 n .here (omega arith)
 
+-- ---- the loop that looks for the first place at which p fails, r being what a test of place i answers
+module _ (p : ℕ → Bool) (n : ℕ) where
+  abbrev fails : ℕ → Bool
+  fails i = not (p i)
+
+  -- all below i passed
+  abbrev pub Passed : ℕ → Type 0
+  Passed i = Clear fails n i
+
+  pub passed-none : Passed 0
+  passed-none = clear-none fails n
+
+  pub passed-more : (i : ℕ) (r : Bool) → Passed i → i < n → r ≡ p i → not r ≡ false → Passed (i + 1)
+  passed-more i r e l d h = clear-more fails n i false e l (sym (ap not (sym d) ∙ h)) refl
+
+  pub fails-at : (i : ℕ) (r : Bool) → Passed i → i < n → r ≡ p i → not r ≡ true → i ≡ firstNot p n
+  unfolding firstNot
+  fails-at i r e l d h = first-here fails n i true e l (sym (ap not (sym d) ∙ h)) refl
+
+  pub passed-all : (i : ℕ) → Passed i → i ≤ n → n ≤ i → i ≡ firstNot p n
+  unfolding firstNot
+  passed-all i e h l = first-done fails n i e h l
+
+pub ruleset passing = (passed-none, passed-more, fails-at, passed-all)
+
 -- ---- the first place at which p fails
-module _ (p : ℕ → Bool) (n i : ℕ) (e : i ≡ first (λ (k : ℕ). not (p k)) n) where
+module _ (p : ℕ → Bool) (n i : ℕ) (e : i ≡ firstNot p n) where
   pub fails-most : i ≤ n
-  fails-most = rw e (first-most (λ (k : ℕ). not (p k)) n)
+  unfolding firstNot
+  fails-most = rw e (first-most (fails p n) n)
 
   pub fails-before : (j : ℕ) → j < i → p j ≡ true
-  fails-before j l = not-no (p j) (first-before (λ (k : ℕ). not (p k)) n j (rw e at l))
+  unfolding firstNot
+  fails-before j l = not-no (p j) (first-before (fails p n) n j (rw e at l))
 
   pub fails-here : i < n → p i ≡ false
-  fails-here l = rw e (not-yes (p (first (λ (k : ℕ). not (p k)) n)) (first-holds (λ (k : ℕ). not (p k)) n (rw e at l)))
+  unfolding firstNot
+  fails-here l = rw e (not-yes (p (first (fails p n) n)) (first-holds (fails p n) n (rw e at l)))
 
   -- the check of each place is refused at the first that fails, and passes where there is none
   module _ (r : ℕ → Refusal) where
@@ -79,18 +108,26 @@ module _ (p : ℕ → Bool) (n i : ℕ) (e : i ≡ first (λ (k : ℕ). not (p k
     pub each-passes : n ≤ i → demandEach r p n 0 ≡ done tt
     each-passes l = each-yes r p n 0 (λ j a b. fails-before j (omega arith))
 
+-- the same place for a test that says the same
+pub fails-same : (p q : ℕ → Bool) (n i : ℕ) → ((k : ℕ) → k < n → p k ≡ q k) → i ≡ firstNot p n → i ≡ firstNot q n
+unfolding firstNot
+fails-same p q n i h e =
+    first-is (fails q n) n i (fails-most p n i e) (λ k l. ap not (sym (h k (omega (arith, fails-most p n i e))) ∙ fails-before p n i e k l)) (λ l. ap not (sym (h i l) ∙ fails-here p n i e l))
+
 -- ---- two tests at once: the earlier of the two first places at which one fails
-module _ (p q : ℕ → Bool) (n i j : ℕ) (e : i ≡ first (λ (k : ℕ). not (p k)) n) (f : j ≡ first (λ (k : ℕ). not (q k)) n) where
+module _ (p q : ℕ → Bool) (n i j : ℕ) (e : i ≡ firstNot p n) (f : j ≡ firstNot q n) where
   passed : (k : ℕ) → p k ≡ true → q k ≡ true → not (p k && q k) ≡ false
   passed k a b = ap not (and-yes (p k) (q k) a b)
 
-  pub both-left : i ≤ j → i ≡ first (λ (k : ℕ). not (p k && q k)) n
+  pub both-left : i ≤ j → i ≡ firstNot (λ (k : ℕ). p k && q k) n
+  unfolding firstNot
   both-left l =
       first-is (λ (k : ℕ). not (p k && q k)) n i (fails-most p n i e)
       (λ k lt. passed k (fails-before p n i e k lt) (fails-before q n j f k (omega arith)))
       (λ lt. ap (λ (b : Bool). not (b && q i)) (fails-here p n i e lt))
 
-  pub both-right : j ≤ i → j ≡ first (λ (k : ℕ). not (p k && q k)) n
+  pub both-right : j ≤ i → j ≡ firstNot (λ (k : ℕ). p k && q k) n
+  unfolding firstNot
   both-right l =
       first-is (λ (k : ℕ). not (p k && q k)) n j (fails-most q n j f)
       (λ k lt. passed k (fails-before p n i e k (omega arith)) (fails-before q n j f k lt))
