@@ -26,6 +26,11 @@ module _ (size : ℕ → ℕ) where
   pub offset-done : (j k t : ℕ) → t ≡ offset size j → j ≤ k → k ≤ j → t ≡ offset size k
   offset-done j k t e p q = rw (le-antisymm q p) e
 
+  pub offset-same : (other : ℕ → ℕ) (k : ℕ) → ((j : ℕ) → j < k → size j ≡ other j) → offset size k ≡ offset other k
+  unfolding offset
+  offset-same other zero h = refl
+  offset-same other (suc k) h = cc (offset-same other k (λ j l. h j (omega arith)), h k (le-refl (suc k)))
+
   -- sizes of at most m
   pub offset-most : (m k : ℕ) → ((j : ℕ) → j < k → size j ≤ m) → offset size k ≤ k * m
   unfolding offset

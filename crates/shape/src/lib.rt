@@ -14,7 +14,9 @@ ghost use Rattle.shape.specs.Cores.{coreWith, coreAt, pointsAt, withCore
 
 // The limits of the scope, named once.
 pub const MOST_AXES: usize = 16;
+
 pub const MOST_POINTS: usize = 64;
+
 pub const MOST_RANK: usize = 8;
 
 // d cores; core k has the sizes left[k], n[k], right[k]. Both ranks of a bond stand in it, since a chain in memory may
