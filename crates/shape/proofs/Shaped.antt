@@ -27,6 +27,11 @@ pub record Shaped (s : Shape) : Type 0 where
 within-is : (most x : ℕ) → within most x ≡ true → (1 ≤ x) × (x ≤ most)
 within-is most x e = let w = both (leb 1 x) (leb x most) e in (leb-is 1 x (w .0), leb-is x most (w .1))
 
+-- a verdict in code that it fits says that the check passes
+pub fits-passes : (c : Check) (v : Verdict) → v ≡ verdictOf c → v ≡ Fits → c ≡ done tt
+fits-passes (done tt) v e f = refl
+fits-passes (refused r) v e f = let z : _≡_ {A = ℕ} 0 1 = cc in let n : ⊥ = omega arith in absurd n
+
 module _ (s : Shape) where
   size-is : (k : ℕ) → sizeOk s k ≡ true → ((1 ≤ leftOf s k) × (leftOf s k ≤ mostRank)) × ((1 ≤ pointsOf s k) × (pointsOf s k ≤ mostPoints)) × ((1 ≤ rightOf s k) × (rightOf s k ≤ mostRank))
   unfolding sizeOk
@@ -75,11 +80,10 @@ module _ (s : Shape) where
 
   -- from a verdict in code that it fits
   pub fits-shaped : (kept : ℕ → Bool) (v : Verdict) → v ≡ verdictOf (shapeOk s kept) → v ≡ Fits → Shaped s
-  fits-shaped kept v e f = shaped kept (passed (shapeOk s kept) (sym e ∙ f))
-    where
-      passed : (c : Check) → verdictOf c ≡ Fits → c ≡ done tt
-      passed (done tt) h = refl
-      passed (refused r) h = let z : _≡_ {A = ℕ} 0 1 = cc in let n : ⊥ = omega arith in absurd n
+  fits-shaped kept v e f = shaped kept (fits-passes (shapeOk s kept) v e f)
+
+  pub fits-sized : (kept : ℕ → Bool) (v : Verdict) → v ≡ verdictOf (shapeOk s kept) → v ≡ Fits → SizesWithin s
+  fits-sized kept v e f = fits-shaped kept v e f .sizes
 
   -- what else is asked of a bond matters only for the bonds that there are
   pub shape-same : (p q : ℕ → Bool) → ((k : ℕ) → k < s .d → p k ≡ q k) → shapeOk s p ≡ shapeOk s q
