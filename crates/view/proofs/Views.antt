@@ -3,6 +3,7 @@ use mathlib.Core.Path.{_≡_, refl, sym, ap, _∙_}
 use Prim.Native.Nat.{ℕ, suc, _+_, _-_, _≤_, _<_, min}
 use native.Mathlib.Omega.{arith}
 use mathlib.Core.Bool.{Bool, true, false, _&&_}
+use mathlib.Core.Logic.{_⊎_, ⊎-elim}
 use mathlib.Core.List.{List}
 use lib.Dec.{ltb}
 use lib.Ieee.{Float, nan}
@@ -106,3 +107,32 @@ module _ (s : Shape) (k : ℕ) where
   spot-here v x e f l d = d ∙ sym (spot-is (fits-passes (chainOk s) v e f) l)
 
 pub ruleset spots = (spot-refused, spot-beyond, spot-here)
+
+-- ---- a view of an accepted chain's core shows its entries, and nothing else
+module _ (chain : RefT (List Float)) (s : Shape) (k : ℕ) (ok : chainOk s ≡ done tt) (room : entriesOf s ≤ length (now chain)) (lt : k < s .d) where
+  abbrev l : List Float
+  l = now chain
+
+  at-spot : (il im ir : ℕ) → seen (viewOf chain s k) il im ir ≡ seenAt l (offset (coreSize s) k) (leftOf s k) (pointsOf s k) (rightOf s k) il im ir
+  at-spot il im ir = ap (λ (x : Spot). seenAt l (x .start) (x .rl) (x .n) (x .rr) il im ir) (spot-is s k ok lt)
+
+  slot-at : (j : ℕ) → j < coreSize s k → at (slot (coreSize s) k l) j ≡ at l (offset (coreSize s) k + j)
+  unfolding slot
+  slot-at j h = getD-take (coreSize s k) (drop (offset (coreSize s) k) l) j nan h ∙ getD-drop (offset (coreSize s) k) l j nan
+
+  pub view-entry : (il im ir : ℕ) → il < leftOf s k → im < pointsOf s k → ir < rightOf s k → seen (viewOf chain s k) il im ir ≡ Number (entry (coreAt s l k) il im ir)
+  unfolding entry coreAt coreSize
+  view-entry il im ir a b c =
+      let j = place (pointsOf s k) (rightOf s k) il im ir in
+      let h : j < coreSize s k = place-lt (leftOf s k) (pointsOf s k) (rightOf s k) il im ir a b c in
+      let e = offset-suc (coreSize s) k in
+      let m = offset-mono (coreSize s) (suc k) (s .d) lt in
+      at-spot il im ir
+      ∙ sym (inside l (offset (coreSize s) k) (leftOf s k) (pointsOf s k) (rightOf s k) il im ir j (omega arith) a b c (omega arith))
+      ∙ ap Number (sym (slot-at j h))
+
+  pub view-outside : (il im ir : ℕ) → (leftOf s k ≤ il) ⊎ ((pointsOf s k ≤ im) ⊎ (rightOf s k ≤ ir)) → seen (viewOf chain s k) il im ir ≡ Outside
+  view-outside il im ir h =
+      let o = offset (coreSize s) k in
+      at-spot il im ir
+      ∙ sym (⊎-elim (outside-left l o (leftOf s k) (pointsOf s k) (rightOf s k) il im ir) (⊎-elim (outside-points l o (leftOf s k) (pointsOf s k) (rightOf s k) il im ir) (outside-right l o (leftOf s k) (pointsOf s k) (rightOf s k) il im ir)) h)
