@@ -7,13 +7,12 @@ use mathlib.Core.Bool.{Bool, true, false}
 use borrow.Author.Tests.{leb-false}
 use lib.Dec.{leb}
 use Rattle.lists.proofs.Tests.{leb-is}
-use mathlib.Core.List.{List}
 use lib.ListN.{length, getD}
 use lib.Ieee.{Float, nan}
 use Rattle.lists.specs.Lists.{grid}
 use Rattle.lists.proofs.Cells.{cell-lt}
 use Rattle.lists.proofs.Tables.{length-joined, getD-joined, length-grid, getD-grid}
-use Rattle.shape.specs.Cores.{Core, coreWith, place, entry, block}
+use Rattle.shape.specs.Cores.{coreWith, place, entry, block}
 
 place-is : (n rr il im ir : ℕ) → place n rr il im ir ≡ il * (n * rr) + (im * rr + ir)
 unfolding place

@@ -6,14 +6,14 @@ use mathlib.Core.Bool.{Bool, true, cond, _&&_}
 use lib.Dec.{leb, eqb}
 use Rattle.answers.specs.declared.Refusal.the-variants.{Axes, Size, Bond}
 use Rattle.answers.specs.declared.Verdict.{Verdict}
-use Rattle.answers.specs.declared.Verdict.the-variants.{Fits, Refused}
+use Rattle.answers.specs.declared.Verdict.the-variants.{Fits}
 use Rattle.answers.specs.Outcome.{done, refused, Check, _then_, demand, demandEach, verdictOf}
 use Rattle.answers.proofs.Checks.{demand-is, then-is, each-same, each-is}
 use Rattle.lists.proofs.Tests.{ltb-yes, ltb-no, leb-is, eqb-is, both}
 use Rattle.shape.specs.declared.Shape.{Shape}
 use Rattle.shape.specs.Limits.{mostAxes, mostPoints, mostRank, within}
 use Rattle.shape.specs.Shapes.{leftOf, pointsOf, rightOf, sizeOk, bondOk, shapeOk}
-use Rattle.shape.specs.Sizes.{PointsWithin, SizesWithin}
+use Rattle.shape.specs.Sizes.{SizesWithin}
 
 pub record Shaped (s : Shape) : Type 0 where
   pub sizes : SizesWithin s

@@ -16,7 +16,6 @@ use Rattle.answers.specs.declared.Verdict.{Verdict}
 use Rattle.answers.specs.declared.Verdict.the-variants.{Fits, Refused}
 use Rattle.answers.specs.Outcome.{done, refused, Answer, Check, _then_, demand, verdictOf, heldOr}
 use Rattle.answers.proofs.Checks.{demand-yes, demand-no, then-skip}
-use Rattle.lists.specs.Lists.{pick}
 use Rattle.lists.specs.Slots.{offset, slot}
 use Rattle.lists.specs.Floats.{at}
 use Rattle.lists.proofs.Tests.{ltb-yes, ltb-no, and-yes}
@@ -27,7 +26,6 @@ use Rattle.shape.specs.Shapes.{leftOf, pointsOf, rightOf, chainOk, coreSize, en
 use Rattle.shape.specs.Cores.{place, entry, coreAt}
 use Rattle.shape.proofs.Places.{place-lt}
 use Rattle.shape.proofs.Shaped.{fits-passes}
-use Rattle.view.specs.declared.Seen.{Seen}
 use Rattle.view.specs.declared.Seen.the-variants.{Number, Outside}
 use Rattle.view.specs.declared.Spot.{Spot}
 use Rattle.view.specs.View.{nowhere, coreSpot, spotOf, viewOf, seenAt, seen}
