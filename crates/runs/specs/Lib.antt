@@ -1,0 +1,6 @@
+pub mod Kept
+pub mod Work
+pub mod Checks
+pub mod Requests
+pub mod Call
+pub mod Sequence
