@@ -11,4 +11,5 @@ pub mod Tests
 pub mod Floats
 -- slots and walks
 pub mod Slots
+pub mod Written
 pub mod Walks

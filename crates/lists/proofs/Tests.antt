@@ -54,6 +54,13 @@ both false b e = absurd (true≢false (sym e))
 pub and-yes : (a b : Bool) → a ≡ true → b ≡ true → a && b ≡ true
 and-yes a b p q = ap (λ (x : Bool). x && b) p ∙ q
 
+pub and-first : (a b c : Bool) → a ≡ true → b ≡ c → a && b ≡ c
+and-first a b c e h = ap (λ (x : Bool). x && b) e ∙ h
+
+pub and-last : (a b : Bool) → b ≡ true → a && b ≡ a
+and-last true b e = e
+and-last false b e = refl
+
 pub not-no : (b : Bool) → not b ≡ false → b ≡ true
 not-no true e = refl
 not-no false e = sym e
