@@ -23,7 +23,7 @@ use Rattle.product.specs.Product.{startSums}
 use Rattle.stepping.specs.Zones.{axisAt, Rules}
 use Rattle.stepping.specs.Steps.{stepFrom}
 use Rattle.runs.specs.Kept.{Inputs, Stepped, Summed, Kept, running, blank, bare, zonesFrom, carryAt, sumsAt, weighedFrom}
-use Rattle.runs.specs.Work.{keepStep, keepSums, sumZone, restep, resum, workFrom}
+use Rattle.runs.specs.Work.{keepStep, keepSums, sumZone, restep, resum, sumFrom, workFrom}
 use Rattle.runs.specs.Checks.{inputsLent, loneFinite, zoneFinite, loneOk, inReachAt, freshOk, freshRun}
 
 -- ---- the checks
@@ -101,12 +101,15 @@ abbrev pub keptBy : {R : Rules} {i : Inputs} → Trace R i → Kept
 keptBy {R} {i} T = running i (steppedBy i (T .cuts)) (summedBy i (T .sums))
 
 pub traced : (R : Rules) (i : Inputs) (k : Kept) → freshRun R (done tt) i ≡ done k → (T : Trace R i) × (keptBy T ≡ k)
-unfolding freshRun workFrom restep resum blank bare carryAt sumsAt
+unfolding freshRun workFrom sumFrom restep resum blank bare carryAt sumsAt
 traced R i k e =
+    let t0 = blank i .stepped in
+    let u0 = blank i .summed in
     let A = then-is (freshOk R (done tt) i) (workFrom R (blank i) 0) k e in
-    let B = bind-done (restep R (blank i) 0) (λ k'. resum R k' 0) k (A .1) in
-    let C = bind-done (stepFrom R (i .set) (i .shape .d) 0 none (zonesFrom i 0)) (λ tr. done (running i (steppedBy i tr) (blank i .summed))) (B .0) (B .1) in
-    let p : running i (steppedBy i (C .0)) (blank i .summed) ≡ B .0 = done-inj (C .2) in
-    let h : resum R (running i (steppedBy i (C .0)) (blank i .summed)) 0 ≡ done k = ap (λ (x : Kept). resum R x 0) p ∙ B .2 in
-    let D = bind-done (walk (sumZone R) 0 startSums (weighedFrom i (steppedBy i (C .0)) 0)) (λ e. done (running i (steppedBy i (C .0)) (summedBy i e))) k h in
-    (record { ok = passed R i (A .0); cuts = C .0; stepped = C .1; sums = D .0; summed = D .1 }, done-inj (D .2))
+    let B = bind-done (restep R i t0 0) (λ t. sumFrom R (running i t u0) 0) k (A .1) in
+    let C = bind-done (stepFrom R (i .set) (i .shape .d) 0 none (zonesFrom i 0)) (λ tr. done (steppedBy i tr)) (B .0) (B .1) in
+    let t = steppedBy i (C .0) in
+    let h : sumFrom R (running i t u0) 0 ≡ done k = ap (λ (x : Stepped). sumFrom R (running i x u0) 0) (done-inj (C .2)) ∙ B .2 in
+    let D = bind-done (resum R i t u0 0) (λ u. done (running i t u)) k h in
+    let E = bind-done (walk (sumZone R) 0 startSums (weighedFrom i t 0)) (λ e. done (summedBy i e)) (D .0) (D .1) in
+    (record { ok = passed R i (A .0); cuts = C .0; stepped = C .1; sums = E .0; summed = E .1 }, ap (λ (u : Summed). running i t u) (done-inj (E .2)) ∙ done-inj (D .2))

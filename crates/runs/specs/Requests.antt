@@ -17,7 +17,7 @@ use Rattle.axes.specs.declared.Axis.{Axis}
 use Rattle.axes.specs.Axes.{axisFinite, axisOk}
 use Rattle.stepping.specs.Zones.{axisAt, Rules}
 use Rattle.runs.specs.Kept.{Inputs, Kept, running}
-use Rattle.runs.specs.Work.{resum, workFrom}
+use Rattle.runs.specs.Work.{sumFrom, workFrom}
 use Rattle.runs.specs.Checks.{rankOk, inputsLent, keptLent, loneFinite, zoneFinite, keptFinite, loneOk, inReachAt}
 
 -- a zone, and its new core's numbers, its new axis record or its new weights
@@ -88,7 +88,7 @@ module _ (R : Rules) where
   abbrev pub redo : Request → Kept → Answer Kept
   redo (newCore z xs) k = workFrom R k z
   redo (newAxis z a) k = workFrom R k z
-  redo (newWeights z ws) k = resum R k z
+  redo (newWeights z ws) k = sumFrom R k z
 
   unfoldable pub replace : Check → Kept → Request → Answer Kept
   replace room k q = replaceOk room k q then redo q (running (present (k .inputs) q) (k .stepped) (k .summed))

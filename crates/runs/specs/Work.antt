@@ -14,7 +14,7 @@ use Rattle.shape.specs.Cores.{Core}
 use Rattle.rounding.specs.Rounding.{Carry, none, some, Cut}
 use Rattle.stepping.specs.Zones.{Rules}
 use Rattle.stepping.specs.Steps.{stepFrom}
-use Rattle.runs.specs.Kept.{Stepped, Summed, Kept, running, bondSize, carrySize, sumSize, zonesFrom, carryAt, sumsAt, weighedFrom}
+use Rattle.runs.specs.Kept.{Inputs, Stepped, Summed, Kept, running, bondSize, carrySize, sumSize, zonesFrom, carryAt, sumsAt, weighedFrom}
 
 -- ---- what the walks leave, into the slots from z on; unused room of a slot is +0
 -- what a bond hands on: one rank and its numbers, right of the last core nothing
@@ -48,20 +48,15 @@ module _ (R : Rules) where
   sumZone k e p = bind (R .weigh k (p .0) (p .1) e) (λ e'. done (e', tt))
 
   -- all shifts from z on, then the scaling, then the bonds, from the carry left of z
-  unfoldable pub restep : Kept → ℕ → Answer Kept
-  restep k z =
-      let i = k .inputs in
-      let s = i .shape in
-      bind (stepFrom R (i .set) (s .d) z (carryAt s (k .stepped) z) (zonesFrom i z)) (λ tr.
-      done (running i (keepStep s z tr (k .stepped)) (k .summed)))
+  unfoldable pub restep : Inputs → Stepped → ℕ → Answer Stepped
+  restep i t z = bind (stepFrom R (i .set) (i .shape .d) z (carryAt (i .shape) t z) (zonesFrom i z)) (λ tr. done (keepStep (i .shape) z tr t))
 
   -- the sums from z on, over the cores that the run holds, from the sum left of z
-  unfoldable pub resum : Kept → ℕ → Answer Kept
-  resum k z =
-      let i = k .inputs in
-      let s = i .shape in
-      bind (walk sumZone z (sumsAt s (k .stepped) (k .summed) z) (weighedFrom i (k .stepped) z)) (λ tr.
-      done (running i (k .stepped) (keepSums s z tr (k .summed))))
+  unfoldable pub resum : Inputs → Stepped → Summed → ℕ → Answer Summed
+  resum i t u z = bind (walk sumZone z (sumsAt (i .shape) t u z) (weighedFrom i t z)) (λ tr. done (keepSums (i .shape) z tr u))
+
+  unfoldable pub sumFrom : Kept → ℕ → Answer Kept
+  sumFrom k z = bind (resum (k .inputs) (k .stepped) (k .summed) z) (λ u. done (running (k .inputs) (k .stepped) u))
 
   unfoldable pub workFrom : Kept → ℕ → Answer Kept
-  workFrom k z = bind (restep k z) (λ k'. resum k' z)
+  workFrom k z = bind (restep (k .inputs) (k .stepped) z) (λ t. sumFrom (running (k .inputs) t (k .summed)) z)
