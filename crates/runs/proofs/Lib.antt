@@ -1,3 +1,5 @@
 pub mod Sound
 pub mod Trace
 pub mod Held
+pub mod Before
+pub mod Same
