@@ -3,3 +3,4 @@ pub mod Trace
 pub mod Held
 pub mod Before
 pub mod Same
+pub mod Found
