@@ -4,3 +4,4 @@ pub mod Held
 pub mod Before
 pub mod Same
 pub mod Found
+pub mod OneRequest
