@@ -5,3 +5,5 @@ pub mod Before
 pub mod Same
 pub mod Found
 pub mod OneRequest
+pub mod Accepted
+pub mod Demand3

@@ -36,17 +36,19 @@ pub record Passed (R : Rules) (i : Inputs) : Type 0 where
   pub axes : (k : ℕ) → k < i .shape .d → axisOk (axisAt (i .axes) k) ≡ true
   pub reach : (k : ℕ) → k < i .shape .d → inReachAt R i k ≡ true
 
-pub passed : (R : Rules) (i : Inputs) → freshOk R (done tt) i ≡ done tt → Passed R i
+-- they say this, and that the call had its room
+pub passed : (R : Rules) (room : Check) (i : Inputs) → freshOk R room i ≡ done tt → Passed R i × (room ≡ done tt)
 unfolding freshOk
-passed R i e =
+passed R room i e =
     let a = then-is _ _ tt e in
     let b = then-is _ _ tt (a .1) in
-    let c = then-is _ _ tt (b .1) in
+    let m = then-is _ _ tt (b .1) in
+    let c = then-is _ _ tt (m .1) in
     let f = then-is _ _ tt (c .1) in
     let g = then-is _ _ tt (f .1) in
     let h = then-is _ _ tt (g .1) in
     let d = i .shape .d in
-    record {
+    (record {
       shape = a .0;
       lent = b .0;
       lone = demand-is (loneFinite (i .set)) (Number 0) (c .0);
@@ -54,7 +56,7 @@ passed R i e =
       mild = demand-is (loneOk (i .set)) (Setting 0) (g .0);
       axes = λ k lt. each-is Setting (λ (j : ℕ). axisOk (axisAt (i .axes) j)) d 0 (h .0) k (omega arith) (omega arith);
       reach = λ k lt. each-is Reach (inReachAt R i) d 0 (h .1) k (omega arith) (omega arith);
-    }
+    }, m .0)
 
 -- refusal 5 of source and weights, as lengths and back
 pub record Lent (i : Inputs) : Type 0 where
@@ -112,4 +114,4 @@ traced R i k e =
     let h : sumFrom R (running i t u0) 0 ≡ done k = ap (λ (x : Stepped). sumFrom R (running i x u0) 0) (done-inj (C .2)) ∙ B .2 in
     let D = bind-done (resum R i t u0 0) (λ u. done (running i t u)) k h in
     let E = bind-done (walk (sumZone R) 0 startSums (weighedFrom i t 0)) (λ e. done (summedBy i e)) (D .0) (D .1) in
-    (record { ok = passed R i (A .0); cuts = C .0; stepped = C .1; sums = E .0; summed = E .1 }, ap (λ (u : Summed). running i t u) (done-inj (E .2)) ∙ done-inj (D .2))
+    (record { ok = passed R (done tt) i (A .0) .0; cuts = C .0; stepped = C .1; sums = E .0; summed = E .1 }, ap (λ (u : Summed). running i t u) (done-inj (E .2)) ∙ done-inj (D .2))
