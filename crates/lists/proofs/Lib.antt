@@ -5,6 +5,7 @@ pub mod Tables
 pub mod Turns
 pub mod Firsts
 pub mod Picks
+pub mod Counts
 pub mod Over
 -- tests, and lists of f64
 pub mod Tests
