@@ -6,14 +6,13 @@ use mathlib.Core.Bool.{true}
 use mathlib.Core.List.{List}
 use lib.ListN.{length}
 use lib.Ieee.{Float, lt}
-use Rattle.answers.specs.declared.Part.{Part}
 use Rattle.answers.specs.declared.Part.the-variants.{Spectrum, Factor}
 use Rattle.answers.specs.Outcome.{done, making}
-use Rattle.answers.proofs.Outcomes.{bind-done, done-inj, making-is}
+use Rattle.answers.proofs.Outcomes.{bind-done, done-inj}
 use Rattle.lists.specs.Floats.{at, allFinite, stored}
 use Rattle.lists.proofs.Counts.{count-most}
 use Rattle.lists.proofs.Tables.{length-grid}
-use Rattle.lists.proofs.Floats.{stored-is}
+use Rattle.lists.proofs.Floats.{making-stored}
 use Rattle.shape.specs.Cores.{Core, coreWith}
 use Rattle.shape.proofs.Places.{block-length}
 use Rattle.bond.specs.Sweeps.{eig, eye, diagonalized}
@@ -27,10 +26,6 @@ rank-least eps n ss = omega arith
 pub rank-most : (eps : Float) (n : ℕ) (ss : List Float) → 1 ≤ n → keptRank eps n ss ≤ n
 unfolding keptRank
 rank-most eps n ss one = let m = count-most (λ (r : ℕ). lt (thresholdOf eps (at ss 0)) (at ss r)) n in omega arith
-
--- numbers that were stored for core k are the numbers made, and finite
-making-stored : (part : Part) (k : ℕ) (l m : List Float) → making part k (stored l) ≡ done m → (l ≡ m) × (allFinite m ≡ true)
-making-stored part k l m h = stored-is l m (making-is part k (stored l) m h)
 
 -- the core c cut
 pub record CutFrom (c : Core) (b : Bond) : Type 0 where
