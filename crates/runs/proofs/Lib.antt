@@ -7,3 +7,4 @@ pub mod Found
 pub mod OneRequest
 pub mod Accepted
 pub mod Demand3
+pub mod Rules
