@@ -10,7 +10,7 @@ use Rattle.answers.proofs.Checks.{demand-is, then-is, each-same, each-is}
 use Rattle.lists.proofs.Tests.{ltb-yes, leb-is, eqb-is, both}
 use Rattle.shape.specs.declared.Shape.{Shape}
 use Rattle.shape.specs.Limits.{mostAxes, mostPoints, mostRank, within}
-use Rattle.shape.specs.Shapes.{leftOf, pointsOf, rightOf, sizeOk, bondOk, shapeOk, chainOk}
+use Rattle.shape.specs.Shapes.{leftOf, pointsOf, rightOf, sizeOk, bondOk, shapeOk}
 
 pub record Shaped (s : Shape) : Type 0 where
   pub least : 1 ≤ s .d
@@ -33,9 +33,10 @@ module _ (s : Shape) where
       eqb-is (rightOf s k) (leftOf s (suc k))
       (sym (ap (λ (b : Bool). cond b (eqb (rightOf s k) (leftOf s (suc k))) (eqb (rightOf s k) 1)) (ltb-yes (suc k) (s .d) lt)) ∙ e)
 
-  pub shaped : chainOk s ≡ done tt → Shaped s
+  -- whatever else is asked of its bonds
+  pub shaped : (kept : ℕ → Bool) → shapeOk s kept ≡ done tt → Shaped s
   unfolding shapeOk
-  shaped e =
+  shaped kept e =
       let a = then-is _ _ tt e in
       let b = then-is _ _ tt (a .1) in
       let c = then-is _ _ tt (b .1) in
@@ -45,7 +46,7 @@ module _ (s : Shape) where
         most = leb-is (s .d) mostAxes (w .1);
         first = eqb-is (leftOf s 0) 1 (demand-is (eqb (leftOf s 0) 1) (Bond 0) (c .0));
         right = λ k lt. right-least k (each-is Size (sizeOk s) (s .d) 0 (b .0) k (omega arith) (omega arith));
-        joins = λ k lt. bond-joins k lt (both (bondOk s k) true (each-is Bond (λ (j : ℕ). bondOk s j && true) (s .d) 0 (c .1) k (omega arith) (omega arith)) .0);
+        joins = λ k lt. bond-joins k lt (both (bondOk s k) (kept k) (each-is Bond (λ (j : ℕ). bondOk s j && kept j) (s .d) 0 (c .1) k (omega arith) (omega arith)) .0);
       }
 
   -- what else is asked of a bond matters only for the bonds that there are
