@@ -66,7 +66,7 @@ no-sums = ([], tt)
 
 module _ (R : Rules) (S : Sound R) (i : Inputs) (T : Trace R i) where
   pub sizes : Shaped (i .shape)
-  sizes = shaped (i .shape) (T .ok .shape)
+  sizes = shaped (i .shape) (λ (k : ℕ). true) (T .ok .shape)
 
   -- ---- what the step's walk left of each zone
   abbrev Fine : ℕ → Core → Type 0

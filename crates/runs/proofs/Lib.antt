@@ -8,3 +8,4 @@ pub mod OneRequest
 pub mod Accepted
 pub mod Demand3
 pub mod Rules
+pub mod Untouched
