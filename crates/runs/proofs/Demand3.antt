@@ -81,7 +81,7 @@ module _ (R : Rules) (S : Sound R) where
   answers-same i m k F q O =
       let T = traced R i k (F .ran) in
       let all = F .array in
-      let most = sizes R S i (T .0) .most in
+      let most = sizes R S i (T .0 .step) .most in
       ap (λ (x : Kept). replace R (done tt) x q) (sym (T .1)) ∙ one-request R S i (T .0) (omega arith) q O
 
   next : (i : Inputs) (m : Room) (k : Kept) → Fresh R i m k → (c : Asked) → Fresh R (takenUp (endOf R k c .result .verdict) i (c .request)) m (keptAfter (endOf R k c))

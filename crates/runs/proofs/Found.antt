@@ -49,37 +49,37 @@ module _ (R : Rules) (S : Sound R) (i : Inputs) (T : Trace R i) where
   s = i .shape
 
   abbrev t : Stepped
-  t = steppedBy i (T .cuts)
+  t = steppedBy i (T .step .cuts)
 
   abbrev u : Summed
   u = summedBy i (T .sums)
 
   ranks-pass : (k : ℕ) → k < i .shape .d → rankOk s t k ≡ true
   unfolding rankOk
-  ranks-pass k lt = at-bond s k (within (rightOf s k) (rankAt t k)) (λ l. let f = rank-fits R S i T k l in and-yes _ _ (leb-yes 1 (rankAt t k) (f .0)) (leb-yes (rankAt t k) (rightOf s k) (f .1))) (ltb (suc k) (s .d)) refl
+  ranks-pass k lt = at-bond s k (within (rightOf s k) (rankAt t k)) (λ l. let f = rank-fits R S i (T .step) k l in and-yes _ _ (leb-yes 1 (rankAt t k) (f .0)) (leb-yes (rankAt t k) (rightOf s k) (f .1))) (ltb (suc k) (s .d)) refl
 
   kept-finite : (k : ℕ) → k < i .shape .d → keptFinite s t u k ≡ true
   unfolding keptFinite
   kept-finite k lt =
-      and-yes _ _ (core-finite R S i T k lt)
-      (and-yes _ _ (at-bond s k (allFinite (keptCarry s t k)) (carry-finite R S i T k) (ltb (suc k) (s .d)) refl)
+      and-yes _ _ (core-finite R S i (T .step) k lt)
+      (and-yes _ _ (at-bond s k (allFinite (keptCarry s t k)) (carry-finite R S i (T .step) k) (ltb (suc k) (s .d)) refl)
       (sum-finite R S i T k lt))
 
   pub slices-pass : keptLent s (t .chain) (t .carries) (u .sums) ≡ done tt
   unfolding keptLent keepStep keepSums blank bare
   slices-pass =
-      let L = cuts-length R S i T in
-      then-skip _ _ _ (demand-yes _ (Length 2) (eqb-yes (length (t .chain)) (entriesOf s) (written-length (coreSize s) zero64 (s .d) (λ (r : Carry × Cut). r .1 .core .entries) (T .cuts) L)))
-      (then-skip _ _ _ (demand-yes _ (Length 3) (eqb-yes (length (t .carries)) (allCarries s) (written-length (carrySize s) zero64 (s .d) (λ (r : Carry × Cut). numbersIn (r .0)) (T .cuts) L)))
+      let L = cuts-length R S i (T .step) in
+      then-skip _ _ _ (demand-yes _ (Length 2) (eqb-yes (length (t .chain)) (entriesOf s) (written-length (coreSize s) zero64 (s .d) (λ (r : Carry × Cut). r .1 .core .entries) (T .step .cuts) L)))
+      (then-skip _ _ _ (demand-yes _ (Length 3) (eqb-yes (length (t .carries)) (allCarries s) (written-length (carrySize s) zero64 (s .d) (λ (r : Carry × Cut). numbersIn (r .0)) (T .step .cuts) L)))
       (demand-yes _ (Length 4) (eqb-yes (length (u .sums)) (allSums s) (written-length (sumSize s) zero64 (s .d) (λ (r : List Float × Unit {0}). r .0) (T .sums) (sums-length R S i T)))))
 
   pub shape-passes : shapeOk s (rankOk s t) ≡ done tt
-  shape-passes = shape-same s (rankOk s t) (λ (k : ℕ). true) ranks-pass ∙ T .ok .shape
+  shape-passes = shape-same s (rankOk s t) (λ (k : ℕ). true) ranks-pass ∙ T .step .ok .shape
 
   pub found-passes : (q : Request) → InOrder (i .shape) q → replaceOk R (done tt) (keptBy T) q ≡ partPasses R i q
   unfolding replaceOk numbersOk partPasses
   found-passes q O =
-      let P = T .ok in
+      let P = T .step .ok in
       let d = s .d in
       then-skip _ _ _ shape-passes
       (then-skip _ _ _ (demand-yes (ltb (zoneOf q) d) Zone (ltb-yes (zoneOf q) d (O .inside)))

@@ -50,7 +50,7 @@ module _ (R : Rules) (S : Sound R) (i : Inputs) (T : Trace R i) where
   s = i .shape
 
   lent : Lent i
-  lent = lent-is i (T .ok .lent)
+  lent = lent-is i (T .step .ok .lent)
 
   -- a fresh run's checks on changed inputs, of which 6 and 7 and 8 are known
   changed-passes : (axes : List Axis) (source weights : List Float) (six seven : ℕ → Bool) (eight : Check)
@@ -62,17 +62,17 @@ module _ (R : Rules) (S : Sound R) (i : Inputs) (T : Trace R i) where
   unfolding freshOk
   changed-passes axes source weights six seven eight len six-is seven-is eight-is =
       let j = changed i axes source weights in
-      then-skip _ _ _ (T .ok .shape)
+      then-skip _ _ _ (T .step .ok .shape)
       (then-skip _ _ _ (lent-passes j len)
-      (then-skip _ _ _ (demand-yes (loneFinite (i .set)) (Number 0) (T .ok .lone))
+      (then-skip _ _ _ (demand-yes (loneFinite (i .set)) (Number 0) (T .step .ok .lone))
       (then-on _ _ _ _ (each-same Number (zoneFinite j) six (i .shape .d) 0 (λ k a b. six-is k (omega arith)))
-      (then-skip _ _ _ (demand-yes (loneOk (i .set)) (Setting 0) (T .ok .mild))
+      (then-skip _ _ _ (demand-yes (loneOk (i .set)) (Setting 0) (T .step .ok .mild))
       (then-on _ _ _ _ (each-same Setting (λ (k : ℕ). axisOk (axisAt axes k)) seven (i .shape .d) 0 (λ k a b. seven-is k (omega arith))) eight-is)))))
 
   -- zones that did not change reach as they did
   reach-same : (axes : List Axis) (source weights : List Float) (k : ℕ) → k < i .shape .d → zoneAt (changed i axes source weights) k ≡ zoneAt i k → inReachAt R (changed i axes source weights) k ≡ true
   unfolding inReachAt reachesAt zoneAt
-  reach-same axes source weights k lt e = ap (R .reaches (i .set)) e ∙ T .ok .reach k lt
+  reach-same axes source weights k lt e = ap (R .reaches (i .set)) e ∙ T .step .ok .reach k lt
 
   reach-from : (axes : List Axis) (source weights : List Float) (z : ℕ) → z < i .shape .d → ((k : ℕ) → k < z → zoneAt (changed i axes source weights) k ≡ zoneAt i k)
       → demandEach Reach (inReachAt R (changed i axes source weights)) (i .shape .d) 0 ≡ demandEach Reach (inReachAt R (changed i axes source weights)) (i .shape .d - z) z
@@ -114,7 +114,7 @@ module _ (R : Rules) (S : Sound R) (i : Inputs) (T : Trace R i) where
     core-finite : (k : ℕ) → k < i .shape .d → zoneFinite (changed i (i .axes) source' (i .weights)) k ≡ partFinite (newCore z xs) k
     unfolding zoneFinite coreFinite
     core-finite k lt =
-        let F = fine-zone i k (T .ok .fine k lt) in
+        let F = fine-zone i k (T .step .ok .fine k lt) in
         let rest = and-yes _ _ (F .axis) (F .weights) in
         at-zone k z _ (allFinite xs) (λ e. and-last _ _ rest ∙ core-here k e) (λ ne. and-yes _ _ (ap (λ (c : Core). allFinite (c .entries)) (core-other k ne) ∙ F .core) rest)
 
@@ -123,7 +123,7 @@ module _ (R : Rules) (S : Sound R) (i : Inputs) (T : Trace R i) where
     core-one =
         let q = newCore z xs in
         let L : Lent (present i q) = record { source = put-length (coreSize s) z xs (i .source) long source-room ∙ lent .source; weights = lent .weights } in
-        let F = changed-passes (i .axes) source' (i .weights) (partFinite q) (partOk q) (shiftsOk R (present i q) q) L core-finite (T .ok .axes) (reach-from (i .axes) source' (i .weights) z (O .inside) core-agree) in
+        let F = changed-passes (i .axes) source' (i .weights) (partFinite q) (partOk q) (shiftsOk R (present i q) q) L core-finite (T .step .ok .axes) (reach-from (i .axes) source' (i .weights) z (O .inside) core-agree) in
         then-on _ _ _ _ (found-passes R S i T q O ∙ sym F) (sym (work-same R S i T z (O .inside) (i .axes) source' (i .weights) core-agree (λ k lt. refl)))
 
   -- ---- an axis record; there is a record for each zone
@@ -144,13 +144,13 @@ module _ (R : Rules) (S : Sound R) (i : Inputs) (T : Trace R i) where
     axis-finite : (k : ℕ) → k < i .shape .d → zoneFinite (changed i axes' (i .source) (i .weights)) k ≡ partFinite (newAxis z a) k
     unfolding zoneFinite
     axis-finite k lt =
-        let F = fine-zone i k (T .ok .fine k lt) in
+        let F = fine-zone i k (T .step .ok .fine k lt) in
         at-zone k z _ (axisFinite a)
         (λ e. and-first _ _ _ (F .core) (and-last _ _ (F .weights) ∙ ap axisFinite (axis-here k e)))
         (λ ne. and-yes _ _ (F .core) (and-yes _ _ (ap axisFinite (axis-other k ne) ∙ F .axis) (F .weights)))
 
     axis-mild : (k : ℕ) → k < i .shape .d → axisOk (axisAt axes' k) ≡ partOk (newAxis z a) k
-    axis-mild k lt = at-zone k z _ (axisOk a) (λ e. ap axisOk (axis-here k e)) (λ ne. ap axisOk (axis-other k ne) ∙ T .ok .axes k lt)
+    axis-mild k lt = at-zone k z _ (axisOk a) (λ e. ap axisOk (axis-here k e)) (λ ne. ap axisOk (axis-other k ne) ∙ T .step .ok .axes k lt)
 
     axis-one : replace R (done tt) (keptBy T) (newAxis z a) ≡ freshRun R (done tt) (present i (newAxis z a))
     unfolding replace freshRun partPasses
@@ -186,7 +186,7 @@ module _ (R : Rules) (S : Sound R) (i : Inputs) (T : Trace R i) where
     weights-finite : (k : ℕ) → k < i .shape .d → zoneFinite (changed i (i .axes) (i .source) weights') k ≡ partFinite (newWeights z ws) k
     unfolding zoneFinite
     weights-finite k lt =
-        let F = fine-zone i k (T .ok .fine k lt) in
+        let F = fine-zone i k (T .step .ok .fine k lt) in
         at-zone k z _ (allFinite ws)
         (λ e. and-first _ _ _ (F .core) (and-first _ _ _ (F .axis) (ap allFinite (weights-here k e))))
         (λ ne. and-yes _ _ (F .core) (and-yes _ _ (F .axis) (ap allFinite (weights-other k ne) ∙ F .weights)))
@@ -197,7 +197,7 @@ module _ (R : Rules) (S : Sound R) (i : Inputs) (T : Trace R i) where
         let q = newWeights z ws in
         let L : Lent (present i q) = record { source = lent .source; weights = put-length (pointSize s) z ws (i .weights) wide weights-room ∙ lent .weights } in
         let E = each-yes Reach (inReachAt R (present i q)) (i .shape .d) 0 (λ k a b. reach-same (i .axes) (i .source) weights' k (omega arith) (weights-agree k)) in
-        let F = changed-passes (i .axes) (i .source) weights' (partFinite q) (partOk q) (done tt) L weights-finite (T .ok .axes) E in
+        let F = changed-passes (i .axes) (i .source) weights' (partFinite q) (partOk q) (done tt) L weights-finite (T .step .ok .axes) E in
         then-on _ _ _ _ (found-passes R S i T q O ∙ sym F) (sym (sums-same R S i T z (O .inside) (i .axes) (i .source) weights' weights-agree (λ k lt. weights-other k (λ e. omega arith))))
 
   pub one-request : i .shape .d ≤ length (i .axes) → (q : Request) → InOrder (i .shape) q → replace R (done tt) (keptBy T) q ≡ freshRun R (done tt) (present i q)

@@ -30,7 +30,7 @@ use Rattle.stepping.proofs.Restart.{step-restart}
 use Rattle.runs.specs.Kept.{Inputs, Stepped, Summed, Kept, running, bondSize, carrySize, sumSize, bare, blank, zoneAt, zonesFrom, rightRank, keptCore, carryAt, sumsAt, weighedAt, weighedFrom}
 use Rattle.runs.specs.Work.{rankIn, numbersIn, keepStep, keepSums, sumZone, restep, resum, sumFrom, workFrom}
 use Rattle.runs.proofs.Sound.{Sound}
-use Rattle.runs.proofs.Trace.{Trace, steppedBy, summedBy, keptBy}
+use Rattle.runs.proofs.Trace.{StepTrace, Trace, steppedBy, summedBy, keptBy}
 use Rattle.runs.proofs.Held.{sizes, cuts-length, sums-length, carry-read, sums-read}
 use Rattle.runs.proofs.Before.{bond-count, Roomy, core-before}
 
@@ -44,22 +44,22 @@ unfolding keepSums
 sums-again s z tr c u e lt = let le : Prim.Native.Nat._≤_ z (s .d) = omega arith in rw written-again
 
 -- ---- a fresh run has room for its zones
-pub step-roomy : (R : Rules) (S : Sound R) (i : Inputs) (T : Trace R i) → Roomy (i .shape) (steppedBy i (T .cuts))
+pub step-roomy : (R : Rules) (S : Sound R) (i : Inputs) (P : StepTrace R i) → Roomy (i .shape) (steppedBy i (P .cuts))
 unfolding keepStep blank bare
-step-roomy R S i T =
+step-roomy R S i P =
     let s = i .shape in
-    let len = cuts-length R S i T in
-    let all : 0 + length (T .cuts) ≡ s .d = zero-add (length (T .cuts)) ∙ len in
-    let one = sizes R S i T .least in
-    let most = sizes R S i T .most in
+    let len = cuts-length R S i P in
+    let all : 0 + length (P .cuts) ≡ s .d = zero-add (length (P .cuts)) ∙ len in
+    let one = sizes R S i P .least in
+    let most = sizes R S i P .most in
     let bonds = bond-count s one in
     let n = length-replicate mostAxes (let x : ℕ = 0 in x) in
     let b = length-replicate mostAxes false in
-    let ranks = written-from (bondSize s) 0 (s .d) (λ (r : Carry × Cut). rankIn (r .0)) 0 (T .cuts) (replicate mostAxes 0) all (omega arith) .long in
-    let sweeps = written-from (bondSize s) 0 (s .d) (λ (r : Carry × Cut). r .1 .counts) 0 (T .cuts) (replicate mostAxes 0) all (omega arith) .long in
-    let settled = written-from (bondSize s) false (s .d) (λ (r : Carry × Cut). r .1 .flags) 0 (T .cuts) (replicate mostAxes false) all (omega arith) .long in
-    let chain = written-length (coreSize s) zero64 (s .d) (λ (r : Carry × Cut). r .1 .core .entries) (T .cuts) len in
-    let carries = written-length (carrySize s) zero64 (s .d) (λ (r : Carry × Cut). numbersIn (r .0)) (T .cuts) len in
+    let ranks = written-from (bondSize s) 0 (s .d) (λ (r : Carry × Cut). rankIn (r .0)) 0 (P .cuts) (replicate mostAxes 0) all (omega arith) .long in
+    let sweeps = written-from (bondSize s) 0 (s .d) (λ (r : Carry × Cut). r .1 .counts) 0 (P .cuts) (replicate mostAxes 0) all (omega arith) .long in
+    let settled = written-from (bondSize s) false (s .d) (λ (r : Carry × Cut). r .1 .flags) 0 (P .cuts) (replicate mostAxes false) all (omega arith) .long in
+    let chain = written-length (coreSize s) zero64 (s .d) (λ (r : Carry × Cut). r .1 .core .entries) (P .cuts) len in
+    let carries = written-length (carrySize s) zero64 (s .d) (λ (r : Carry × Cut). numbersIn (r .0)) (P .cuts) len in
     record { ranks = omega arith; sweeps = omega arith; settled = omega arith; chain = omega arith; carries = omega arith }
 
 -- ---- the inputs i, with other axis records, numbers and weights
@@ -78,7 +78,7 @@ module _ (R : Rules) (S : Sound R) (i : Inputs) (T : Trace R i) (z : ℕ) (insid
   s = i .shape
 
   abbrev t : Stepped
-  t = steppedBy i (T .cuts)
+  t = steppedBy i (T .step .cuts)
 
   abbrev u : Summed
   u = summedBy i (T .sums)
@@ -91,11 +91,11 @@ module _ (R : Rules) (S : Sound R) (i : Inputs) (T : Trace R i) (z : ℕ) (insid
       let len : length (zonesFrom i 0) ≡ d = listed-length (d - 0) 0 (zoneAt i) ∙ sub-zero d in
       let keep : List (Carry × Cut) → Answer Stepped = λ c. done (keepStep s 0 c (blank i .stepped)) in
       ap (λ (l : List Zone). bind (stepFrom R (i .set) d 0 none l) keep) (all-from d z (zoneAt j) (zoneAt i) inside agree)
-      ∙ ap (λ (o : Answer (List (Carry × Cut))). bind o keep) (step-restart R (i .set) d none (zonesFrom i 0) (T .cuts) (T .stepped) z (omega arith) (zonesFrom j z))
-      ∙ bind-assoc (stepFrom R (i .set) d z (stateAt none (T .cuts) z) (zonesFrom j z)) (λ c. done (take z (T .cuts) ++ c)) keep
-      ∙ bind-cong (stepFrom R (i .set) d z (stateAt none (T .cuts) z) (zonesFrom j z)) (λ c. keep (take z (T .cuts) ++ c)) (λ c. done (keepStep s z c t))
-      (λ c _. ap done (sym (keep-again s z (T .cuts) c (blank i .stepped) (cuts-length R S i T) inside)))
-      ∙ ap (λ (b : Carry). bind (stepFrom R (i .set) d z b (zonesFrom j z)) (λ c. done (keepStep s z c t))) (sym (carry-read R S i T z inside))
+      ∙ ap (λ (o : Answer (List (Carry × Cut))). bind o keep) (step-restart R (i .set) d none (zonesFrom i 0) (T .step .cuts) (T .step .ran) z (omega arith) (zonesFrom j z))
+      ∙ bind-assoc (stepFrom R (i .set) d z (stateAt none (T .step .cuts) z) (zonesFrom j z)) (λ c. done (take z (T .step .cuts) ++ c)) keep
+      ∙ bind-cong (stepFrom R (i .set) d z (stateAt none (T .step .cuts) z) (zonesFrom j z)) (λ c. keep (take z (T .step .cuts) ++ c)) (λ c. done (keepStep s z c t))
+      (λ c _. ap done (sym (keep-again s z (T .step .cuts) c (blank i .stepped) (cuts-length R S i (T .step)) inside)))
+      ∙ ap (λ (b : Carry). bind (stepFrom R (i .set) d z b (zonesFrom j z)) (λ c. done (keepStep s z c t))) (sym (carry-read R S i (T .step) z inside))
 
   -- the sums left of y over other cores that agree before it
   sums-agree : (t' : Stepped) (y : ℕ) → ((k : ℕ) → k < y → weighedAt j t' k ≡ weighedAt i t k) → sumsAt s t u y ≡ sumsAt s t' u y
@@ -111,7 +111,7 @@ module _ (R : Rules) (S : Sound R) (i : Inputs) (T : Trace R i) (z : ℕ) (insid
       let len : length (weighedFrom i t 0) ≡ d = listed-length (d - 0) 0 (weighedAt i t) ∙ sub-zero d in
       let keep : List (List Float × Unit {0}) → Answer Summed = λ c. done (keepSums s 0 c (blank i .summed)) in
       ap (λ (l : List (Core × List Float)). bind (walk (sumZone R) 0 startSums l) keep) (all-from d z (weighedAt j t') (weighedAt i t) inside agree)
-      ∙ ap (λ (o : Answer (List (List Float × Unit {0}))). bind o keep) (walk-restart (sumZone R) 0 startSums (weighedFrom i t 0) (T .sums) (T .summed) z (omega arith) (weighedFrom j t' z))
+      ∙ ap (λ (o : Answer (List (List Float × Unit {0}))). bind o keep) (walk-restart (sumZone R) 0 startSums (weighedFrom i t 0) (T .sums) (T .ran) z (omega arith) (weighedFrom j t' z))
       ∙ ap (λ (k : ℕ). bind (bind (walk (sumZone R) k (stateAt startSums (T .sums) z) (weighedFrom j t' z)) (λ c. done (take z (T .sums) ++ c))) keep) (zero-add z)
       ∙ bind-assoc (walk (sumZone R) z (stateAt startSums (T .sums) z) (weighedFrom j t' z)) (λ c. done (take z (T .sums) ++ c)) keep
       ∙ bind-cong (walk (sumZone R) z (stateAt startSums (T .sums) z) (weighedFrom j t' z)) (λ c. keep (take z (T .sums) ++ c)) (λ c. done (keepSums s z c u))
@@ -126,7 +126,7 @@ module _ (R : Rules) (S : Sound R) (i : Inputs) (T : Trace R i) (z : ℕ) (insid
   unfolding restep
   before even t' e k lt =
       let A = bind-done (stepFrom R (i .set) (i .shape .d) z (carryAt s t z) (zonesFrom j z)) (λ c. done (keepStep s z c t)) t' e in
-      weights-agree t' k (ap (λ (x : Stepped). keptCore s x k) (sym (done-inj (A .2))) ∙ core-before s t (step-roomy R S i T) z inside (A .0) k lt) (even k lt)
+      weights-agree t' k (ap (λ (x : Stepped). keptCore s x k) (sym (done-inj (A .2))) ∙ core-before s t (step-roomy R S i (T .step)) z inside (A .0) k lt) (even k lt)
 
   -- a core or an axis record anew: step and sums from z on
   pub work-same : ((k : ℕ) → k < z → zoneAt j k ≡ zoneAt i k) → ((k : ℕ) → k < z → pointsAt s weights k ≡ pointsAt s (i .weights) k)
@@ -142,7 +142,7 @@ module _ (R : Rules) (S : Sound R) (i : Inputs) (T : Trace R i) (z : ℕ) (insid
   unfolding restep carryAt
   stepped-same agree =
       ap (λ (l : List Zone). bind (stepFrom R (i .set) (i .shape .d) 0 none l) (λ c. done (steppedBy i c))) (listed-same (i .shape .d - 0) 0 (zoneAt j) (zoneAt i) (λ k p q. agree k))
-      ∙ ap (λ (o : Answer (List (Carry × Cut))). bind o (λ c. done (steppedBy i c))) (T .stepped)
+      ∙ ap (λ (o : Answer (List (Carry × Cut))). bind o (λ c. done (steppedBy i c))) (T .step .ran)
 
   -- weights anew: the sums from z on
   pub sums-same : ((k : ℕ) → zoneAt j k ≡ zoneAt i k) → ((k : ℕ) → k < z → pointsAt s weights k ≡ pointsAt s (i .weights) k)

@@ -92,15 +92,20 @@ steppedBy i tr = keepStep (i .shape) 0 tr (blank i .stepped)
 abbrev pub summedBy : Inputs → List (List Float × Unit {0}) → Summed
 summedBy i e = keepSums (i .shape) 0 e (blank i .summed)
 
-pub record Trace (R : Rules) (i : Inputs) : Type 0 where
+-- a step that was not refused, on inputs that pass the checks
+pub record StepTrace (R : Rules) (i : Inputs) : Type 0 where
   pub ok : Passed R i
   pub cuts : List (Carry × Cut)
-  pub stepped : stepFrom R (i .set) (i .shape .d) 0 none (zonesFrom i 0) ≡ done cuts
+  pub ran : stepFrom R (i .set) (i .shape .d) 0 none (zonesFrom i 0) ≡ done cuts
+
+-- and the sums over its cores
+pub record Trace (R : Rules) (i : Inputs) : Type 0 where
+  pub step : StepTrace R i
   pub sums : List (List Float × Unit {0})
-  pub summed : walk (sumZone R) 0 startSums (weighedFrom i (steppedBy i cuts) 0) ≡ done sums
+  pub ran : walk (sumZone R) 0 startSums (weighedFrom i (steppedBy i (step .cuts)) 0) ≡ done sums
 
 abbrev pub keptBy : {R : Rules} {i : Inputs} → Trace R i → Kept
-keptBy {R} {i} T = running i (steppedBy i (T .cuts)) (summedBy i (T .sums))
+keptBy {R} {i} T = running i (steppedBy i (T .step .cuts)) (summedBy i (T .sums))
 
 pub traced : (R : Rules) (i : Inputs) (k : Kept) → freshRun R (done tt) i ≡ done k → (T : Trace R i) × (keptBy T ≡ k)
 unfolding freshRun workFrom sumFrom restep resum blank bare carryAt sumsAt
@@ -114,4 +119,4 @@ traced R i k e =
     let h : sumFrom R (running i t u0) 0 ≡ done k = ap (λ (x : Stepped). sumFrom R (running i x u0) 0) (done-inj (C .2)) ∙ B .2 in
     let D = bind-done (resum R i t u0 0) (λ u. done (running i t u)) k h in
     let E = bind-done (walk (sumZone R) 0 startSums (weighedFrom i t 0)) (λ e. done (summedBy i e)) (D .0) (D .1) in
-    (record { ok = passed R (done tt) i (A .0) .0; cuts = C .0; stepped = C .1; sums = E .0; summed = E .1 }, ap (λ (u : Summed). running i t u) (done-inj (E .2)) ∙ done-inj (D .2))
+    (record { step = record { ok = passed R (done tt) i (A .0) .0; cuts = C .0; ran = C .1 }; sums = E .0; ran = E .1 }, ap (λ (u : Summed). running i t u) (done-inj (E .2)) ∙ done-inj (D .2))
