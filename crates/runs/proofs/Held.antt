@@ -7,6 +7,7 @@ use mathlib.Core.Bool.{Bool, true, false, cond}
 use mathlib.Core.List.{List, [], map}
 use lib.Dec.{ltb}
 use lib.ListN.{length, take, getD}
+use lib.Seq.{getD-take}
 use lib.Ieee.{Float, nan}
 use Rattle.numbers.specs.Arithmetic.{zero64}
 use Rattle.numbers.specs.Finite.{finite}
@@ -16,7 +17,7 @@ use Rattle.lists.specs.Lists.{listed, tab}
 use Rattle.lists.specs.Slots.{offset, slot, fit, write}
 use Rattle.lists.specs.Walks.{every, walk, stateAt}
 use Rattle.lists.specs.Floats.{at, allFinite}
-use Rattle.lists.proofs.Tests.{ltb-yes, ltb-is}
+use Rattle.lists.proofs.Tests.{ltb-yes, ltb-no, ltb-is}
 use Rattle.lists.proofs.Tables.{listed-length}
 use Rattle.lists.proofs.Floats.{finite-take, finite-fit, finite-getD}
 use Rattle.lists.proofs.Slots.{fit-length, fit-used}
@@ -260,3 +261,22 @@ module _ (R : Rules) (S : Sound R) (i : Inputs) (T : Trace R i) where
       let r = sizes R S i (T .step) .right k (omega arith) in
       let l = fit-length zero64 n (getD (T .sums) k no-sums .0) in
       ap finite (figure-slot k (omega arith)) ∙ finite-getD (fit zero64 n (getD (T .sums) k no-sums .0)) 0 nan (omega arith) (finite-fit n (getD (T .sums) k no-sums .0) (sum-at k (omega arith) .1))
+
+  -- and the number that the walk over the sums ends with
+  pub figure-read : summedBy i (T .sums) .figure ≡ at (stateAt startSums (T .sums) (length (T .sums))) 0
+  figure-read =
+      let one = sizes R S i (T .step) .least in
+      let k = i .shape .d - 1 in
+      let t = steppedBy i (T .step .cuts) in
+      let n = rightOf (i .shape) k in
+      let x = getD (T .sums) k no-sums .0 in
+      let here : k < i .shape .d = omega arith in
+      let end : suc k ≡ i .shape .d = omega arith in
+      let least = sizes R S i (T .step) .right k here in
+      let full : rightRank (i .shape) t k ≡ n = ap (λ (b : Bool). cond b (rankAt t k) n) (ltb-no (suc k) (i .shape .d) (omega arith)) in
+      let long : length x ≡ n = sum-at k here .0 ∙ full in
+      let len = sums-length in
+      figure-slot k end
+      ∙ sym (getD-take (length x) (fit zero64 n x) 0 nan (omega arith))
+      ∙ ap (λ (l : List Float). at l 0) (fit-used zero64 n x (omega arith) ∙ sym (state-at startSums (T .sums) k no-sums (omega arith)))
+      ∙ ap (λ (j : ℕ). at (stateAt startSums (T .sums) j) 0) (end ∙ sym len)

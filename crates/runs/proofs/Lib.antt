@@ -9,3 +9,4 @@ pub mod Accepted
 pub mod Demand3
 pub mod Rules
 pub mod Untouched
+pub mod StepThenInner

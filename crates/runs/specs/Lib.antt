@@ -4,3 +4,4 @@ pub mod Checks
 pub mod Requests
 pub mod Call
 pub mod Sequence
+pub mod StepThenInner
