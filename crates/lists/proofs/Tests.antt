@@ -43,6 +43,13 @@ ltb-no m n h = fails (ltb m n) (λ e. let l = ltb-is m n e in omega arith)
 pub ltb-not : (m n : ℕ) → ltb m n ≡ false → n ≤ m
 ltb-not m n e = let h : ¬ (m < n) = λ l. true≢false (sym (ltb-yes m n l) ∙ e) in omega arith
 
+pub below-or-not : {X : Type 0} (m n : ℕ) → (m < n → X) → (n ≤ m → X) → X
+below-or-not {X} m n below not-below = go (ltb m n) refl
+  where
+    go : (b : Bool) → ltb m n ≡ b → X
+    go true e = below (ltb-is m n e)
+    go false e = not-below (ltb-not m n e)
+
 pub eqb-not : (m n : ℕ) → eqb m n ≡ false → ¬ (m ≡ n)
 eqb-not m n e h = true≢false (sym (eqb-yes m n h) ∙ e)
 

@@ -3,13 +3,11 @@ use mathlib.Core.Path.{_≡_, refl, sym, ap, _∙_}
 use Prim.Native.Nat.{ℕ, zero, suc, _+_, _≤_, _<_}
 use native.Mathlib.Nat.{zero-add}
 use native.Mathlib.Omega.{arith}
-use mathlib.Core.Bool.{Bool, true, false}
 use mathlib.Core.List.{List, [], _∷_, _++_, map, map-append}
-use lib.Dec.{ltb}
 use lib.ListN.{length, take, drop, getD, replicate, length-map, length-replicate, List·getD-map}
 use lib.Seq.{getD-take, getD-drop}
 use Rattle.lists.specs.Slots.{offset, slot, put, fit, write}
-use Rattle.lists.proofs.Tests.{ltb-is, ltb-not}
+use Rattle.lists.proofs.Tests.{below-or-not}
 use Rattle.lists.proofs.Slots.{offset-mono, slot-put-before, slot-put-behind, write-write, write-slot, write-before, write-behind, write-length}
 
 module _ {A : Type 0} (size : ℕ → ℕ) where
@@ -18,11 +16,7 @@ module _ {A : Type 0} (size : ℕ → ℕ) where
   getD-slot k l j o lt = getD-take (size k) (drop (offset size k) l) j o lt ∙ getD-drop (offset size k) l j o
 
   pub slot-put-other : (z : ℕ) (x l : List A) → length x ≡ size z → offset size (suc z) ≤ length l → (k : ℕ) → ¬ (k ≡ z) → slot size k (put size z x l) ≡ slot size k l
-  slot-put-other z x l fits room k ne = go (ltb k z) refl
-    where
-      go : (b : Bool) → ltb k z ≡ b → slot size k (put size z x l) ≡ slot size k l
-      go true e = slot-put-before size z x l fits room k (ltb-is k z e)
-      go false e = slot-put-behind size z x l fits room k (let h = ltb-not k z e in omega arith)
+  slot-put-other z x l fits room k ne = below-or-not k z (λ lt. slot-put-before size z x l fits room k lt) (λ ge. slot-put-behind size z x l fits room k (omega arith))
 
 pub map-take : {A B : Type 0} (f : A → B) (z : ℕ) (l : List A) → map f (take z l) ≡ take z (map f l)
 map-take f zero l = refl
