@@ -96,7 +96,7 @@ module _ (R : Rules) (S : Sound R) where
 
       go : (o : Answer Kept) → replace R room k q ≡ o → Fresh R (takenUp (verdictOf o) i (c .request)) m (keptAfter (replaceEnd k (c .scratch) o))
       go (done k') e =
-          let A = accepted R room k k' q e in
+          let A = accepted R room k k' q e .0 in
           let O : InOrder (i .shape) q = subst (λ (x : Inputs). InOrder (x .shape) q) (fresh-inputs R i k (F .ran)) (A .order) in
           record {
             ran = sym (answers-same i m k F q O) ∙ ap (λ (x : Check). replace R x k q) (sym (A .scratch)) ∙ e;

@@ -10,3 +10,5 @@ pub mod Demand3
 pub mod Rules
 pub mod Untouched
 pub mod StepThenInner
+pub mod AlikeRuns
+pub mod UnusedRoom

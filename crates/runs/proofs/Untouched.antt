@@ -144,10 +144,11 @@ module _ (R : Rules) (k : Kept) (q : Request) (scratch : List Float) where
   untouched A e =
       let room = scratchLent (k .inputs .shape) (scratchPlace q) scratch in
       let D = fits-done (replace R room k q) e in
-      let P = accepted R room k (D .0) q (D .1) in
+      let W = accepted R room k (D .0) q (D .1) in
+      let P = W .0 in
       let L = slices-are (k .inputs .shape) (k .stepped .chain) (k .stepped .carries) (k .summed .sums) (P .slices) in
       let M = roomy k A (shaped (k .inputs .shape) (rankOk (k .inputs .shape) (k .stepped)) (P .shape)) L in
-      subst (λ (o : Answer Kept). Left k (keptAfter (replaceEnd k scratch o)) q) (sym (D .1)) (redone-left R k (D .0) q (P .order) M (L .sums-long) (P .work))
+      subst (λ (o : Answer Kept). Left k (keptAfter (replaceEnd k scratch o)) q) (sym (D .1)) (redone-left R k (D .0) q (P .order) M (L .sums-long) (W .1))
 
   -- refused: record and slices are as they were
   pub refused-leaves : (r : Refusal) → replaceBy R k q scratch .result .verdict ≡ Refused r → keptAfter (replaceBy R k q scratch) ≡ k
