@@ -24,7 +24,7 @@ use Rattle.runs.specs.Requests.{Request, newCore, newAxis, newWeights, p
 use Rattle.runs.specs.Call.{FreshEnd, Room, roomOk, freshEnd, freshBy, scratchPlace, replaceEnd, replaceBy}
 use Rattle.runs.specs.Sequence.{keptAfterFresh, keptAfter, leaving, AsFresh, Asked, takenUp, endOf, keptAfterAll, presentAfterAll}
 use Rattle.runs.proofs.Sound.{Sound}
-use Rattle.runs.proofs.Trace.{Trace, passed, traced}
+use Rattle.runs.proofs.Trace.{Trace, passed, traced, keptBy}
 use Rattle.runs.proofs.Held.{sizes}
 use Rattle.runs.proofs.Found.{InOrder}
 use Rattle.runs.proofs.OneRequest.{one-request}
@@ -74,6 +74,10 @@ module _ (R : Rules) where
   kept-from i m k all H =
       let same : keptAfterFresh i (freshBy R i m) ≡ k = ap (keptAfterFresh i) (H .end) ∙ ap (λ (j : Inputs). keptAfterFresh j (leaving m k)) (sym (H .inputs)) in
       subst (Fresh i m) same (first i m all (ap (λ (e : FreshEnd). e .result .verdict) (H .end)))
+
+  -- a run that is as fresh, taken apart
+  pub trace-of : (i : Inputs) (m : Room) (k : Kept) → length (i .axes) ≡ mostAxes → AsFresh R i m k → (T : Trace R i) × (keptBy T ≡ k)
+  trace-of i m k all H = traced R i k (kept-from i m k all H .ran)
 
 module _ (R : Rules) (S : Sound R) where
   -- one replacement answers as a fresh run with the new part in

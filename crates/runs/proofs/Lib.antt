@@ -12,3 +12,5 @@ pub mod Untouched
 pub mod StepThenInner
 pub mod AlikeRuns
 pub mod UnusedRoom
+pub mod NotInOrder
+pub mod Calls
