@@ -14,3 +14,4 @@ pub mod AlikeRuns
 pub mod UnusedRoom
 pub mod NotInOrder
 pub mod Calls
+pub mod Computed

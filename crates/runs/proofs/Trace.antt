@@ -47,16 +47,18 @@ passed R room i e =
     let f = then-is _ _ tt (c .1) in
     let g = then-is _ _ tt (f .1) in
     let h = then-is _ _ tt (g .1) in
-    let d = i .shape .d in
-    (record {
-      shape = a .0;
-      lent = b .0;
-      lone = demand-is (loneFinite (i .set)) (Number 0) (c .0);
-      fine = λ k lt. each-is Number (zoneFinite i) d 0 (f .0) k (omega arith) (omega arith);
-      mild = demand-is (loneOk (i .set)) (Setting 0) (g .0);
-      axes = λ k lt. each-is Setting (λ (j : ℕ). axisOk (axisAt (i .axes) j)) d 0 (h .0) k (omega arith) (omega arith);
-      reach = λ k lt. each-is Reach (inReachAt R i) d 0 (h .1) k (omega arith) (omega arith);
-    }, m .0)
+    let d = i .shape .d in (
+      record {
+        shape = a .0;
+        lent = b .0;
+        lone = demand-is (loneFinite (i .set)) (Number 0) (c .0);
+        fine = λ k lt. each-is Number (zoneFinite i) d 0 (f .0) k (omega arith) (omega arith);
+        mild = demand-is (loneOk (i .set)) (Setting 0) (g .0);
+        axes = λ k lt. each-is Setting (λ (j : ℕ). axisOk (axisAt (i .axes) j)) d 0 (h .0) k (omega arith) (omega arith);
+        reach = λ k lt. each-is Reach (inReachAt R i) d 0 (h .1) k (omega arith) (omega arith);
+      },
+      m .0,
+    )
 
 -- refusal 5 of source and weights, as lengths and back
 pub record Lent (i : Inputs) : Type 0 where

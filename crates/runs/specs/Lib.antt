@@ -5,3 +5,4 @@ pub mod Requests
 pub mod Call
 pub mod Sequence
 pub mod StepThenInner
+pub mod Cases
