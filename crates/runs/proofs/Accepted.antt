@@ -1,8 +1,7 @@
 -- What the checks of an accepted replacement say, on any run, also one that others wrote to. Assumes nothing of the rules.
 use mathlib.Core.Path.{_≡_}
-use lib.Dec.{ltb}
 use Rattle.answers.specs.declared.Refusal.the-variants.{Zone, Length}
-use Rattle.answers.specs.Outcome.{done, Check, demand}
+use Rattle.answers.specs.Outcome.{done, Check}
 use Rattle.answers.proofs.Checks.{demand-is, then-is}
 use Rattle.lists.proofs.Tests.{ltb-is}
 use Rattle.shape.specs.Shapes.{shapeOk}

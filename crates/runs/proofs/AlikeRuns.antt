@@ -13,7 +13,7 @@ use Rattle.answers.specs.declared.Refusal.the-variants.{Zone, Length, Number}
 use Rattle.answers.specs.Outcome.{Answer, done, refused, Check, _then_, demand}
 use Rattle.answers.proofs.Checks.{then-on, each-same}
 use Rattle.lists.specs.Slots.{slot}
-use Rattle.lists.specs.Floats.{at, allFinite}
+use Rattle.lists.specs.Floats.{allFinite}
 use Rattle.lists.proofs.Tests.{ltb-is, below-or-not}
 use Rattle.lists.proofs.Slots.{write-alike}
 use Rattle.lists.proofs.Written.{written-from}

@@ -13,7 +13,7 @@ use Rattle.stepping.specs.Zones.{rules}
 use Rattle.runs.specs.Kept.{Inputs, Kept, recordOf}
 use Rattle.runs.specs.Requests.{newCore, newAxis, newWeights}
 use Rattle.runs.specs.Call.{Room, freshCall, replaceCoreCall, replaceAxisCall, replaceWeightsCall}
-use Rattle.runs.specs.Sequence.{keptAfterFresh, leaving, AsFresh, Asked, endOf, keptAfterAll, presentAfterAll}
+use Rattle.runs.specs.Sequence.{keptAfterFresh, leaving, Asked, endOf, keptAfterAll, presentAfterAll}
 use Rattle.runs.proofs.Rules.{rules-sound}
 use Rattle.runs.proofs.Demand3.{demand3}
 

@@ -1,9 +1,7 @@
 -- DEMAND 3. Of the rules only `Sound` is used.
 use mathlib.Core.Path.{_≡_, refl, sym, ap, _∙_, subst}
-use Prim.Native.Nat.{ℕ, _≤_}
 use native.Mathlib.Omega.{arith}
 use mathlib.Core.List.{List, [], _∷_}
-use lib.Dec.{eqb}
 use lib.ListN.{length, length-set}
 use lib.Ieee.{Float}
 use Rattle.answers.specs.declared.Refusal.the-variants.{Length}
@@ -28,7 +26,7 @@ use Rattle.runs.proofs.Trace.{Trace, passed, traced, keptBy}
 use Rattle.runs.proofs.Held.{sizes}
 use Rattle.runs.proofs.Found.{InOrder}
 use Rattle.runs.proofs.OneRequest.{one-request}
-use Rattle.runs.proofs.Accepted.{Accepted, accepted}
+use Rattle.runs.proofs.Accepted.{accepted}
 
 present-shape : (i : Inputs) (q : Request) → present i q .shape ≡ i .shape
 present-shape i (newCore z xs) = refl

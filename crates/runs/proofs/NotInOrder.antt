@@ -1,15 +1,14 @@
 -- What a replacement answers whose zone number or lengths are not in order, on a run that is as fresh: the refusals that a fresh run cannot give. Of the rules only `Sound` is used.
 use mathlib.Core.Path.{_≡_, refl, sym, ap, _∙_}
-use Prim.Native.Nat.{ℕ, _≤_, _<_}
+use Prim.Native.Nat.{_≤_, _<_}
 use mathlib.Core.Bool.{Bool, false}
 use mathlib.Core.List.{List}
-use lib.Dec.{ltb, eqb}
 use lib.ListN.{length}
 use lib.Ieee.{Float}
 use Rattle.answers.specs.declared.Refusal.{Refusal}
 use Rattle.answers.specs.declared.Refusal.the-variants.{Zone, Length}
 use Rattle.answers.specs.declared.Verdict.the-variants.{Refused}
-use Rattle.answers.specs.Outcome.{Answer, done, refused, Check, demand, verdictOf}
+use Rattle.answers.specs.Outcome.{refused, Check, demand, verdictOf}
 use Rattle.lists.proofs.Tests.{ltb-yes, ltb-no, eqb-no}
 use Rattle.shape.specs.Limits.{mostAxes, scratchFor}
 use Rattle.shape.specs.Shapes.{entriesOf}

@@ -1,21 +1,20 @@
 -- A fresh run taken apart: what its checks say of the inputs, and what its two walks left. Assumes nothing of the rules.
-use mathlib.Core.Path.{_≡_, sym, ap, _∙_}
+use mathlib.Core.Path.{_≡_, ap, _∙_}
 use Prim.Native.Nat.{ℕ, _<_}
 use native.Mathlib.Omega.{arith}
 use mathlib.Core.Bool.{true, _&&_}
 use mathlib.Core.List.{List}
-use lib.Dec.{eqb}
 use lib.ListN.{length}
 use lib.Ieee.{Float}
 use Rattle.answers.specs.declared.Refusal.the-variants.{Length, Number, Setting, Reach}
-use Rattle.answers.specs.Outcome.{done, bind, Check, _then_, demand}
+use Rattle.answers.specs.Outcome.{done, Check}
 use Rattle.answers.proofs.Outcomes.{bind-done, done-inj}
 use Rattle.answers.proofs.Checks.{demand-yes, demand-is, then-is, then-skip, each-is}
 use Rattle.lists.specs.Walks.{walk}
 use Rattle.lists.specs.Floats.{allFinite}
 use Rattle.lists.proofs.Tests.{eqb-yes, eqb-is, both}
 use Rattle.shape.specs.Shapes.{chainOk, entriesOf, allPoints}
-use Rattle.shape.specs.Cores.{coreAt, pointsAt}
+use Rattle.shape.specs.Cores.{pointsAt}
 use Rattle.axes.specs.Axes.{axisFinite, axisOk}
 use Rattle.rounding.specs.Rounding.{Carry, none, Cut}
 use Rattle.rounding.specs.Call.{coreFinite}

@@ -10,7 +10,7 @@ use Rattle.numbers.specs.Arithmetic.{zero64}
 use Rattle.answers.specs.declared.Refusal.the-variants.{Length}
 use Rattle.answers.specs.declared.Refusal.{Refusal}
 use Rattle.answers.specs.declared.Verdict.the-variants.{Fits, Refused}
-use Rattle.answers.specs.Outcome.{Answer, done, refused, bind, verdictOf}
+use Rattle.answers.specs.Outcome.{Answer, done, refused, verdictOf}
 use Rattle.answers.proofs.Outcomes.{bind-done, done-inj, fits-done}
 use Rattle.answers.proofs.Checks.{demand-is, then-is}
 use Rattle.lists.specs.Walks.{walk}
@@ -33,7 +33,7 @@ use Rattle.runs.specs.Requests.{Request, newCore, newAxis, newWeights, z
 use Rattle.runs.specs.Call.{scratchPlace, replaceEnd, replaceBy}
 use Rattle.runs.specs.Sequence.{keptAfter}
 use Rattle.runs.proofs.Found.{InOrder}
-use Rattle.runs.proofs.Accepted.{Accepted, accepted}
+use Rattle.runs.proofs.Accepted.{accepted}
 use Rattle.runs.proofs.Before.{bond-count, Roomy}
 
 -- ---- what is left
