@@ -25,11 +25,13 @@ use Rattle.shape.specs.Cores.{Core, coreWith, coreAt, coresOf, pointsAt}
 use Rattle.axes.specs.declared.Axis.{Axis}
 use Rattle.rounding.specs.Rounding.{Carry, none, Cut, coresIn}
 use Rattle.product.specs.Product.{startSums, sumAxis, sums, inner}
+use Rattle.stepping.specs.declared.Settings.{Settings}
 use Rattle.stepping.specs.Zones.{Zone, zone, axisAt, zonesOf, Rules, rules}
 use Rattle.stepping.specs.Steps.{holding, shiftZone, scaleZone, roundZone, stepFrom, step}
 use Rattle.runs.specs.Kept.{Inputs, Stepped, Kept, running, blank, bare, zoneAt, zonesFrom, rankAt, leftRank, rightRank, keptCore, carryAt, sumsAt, weighedAt, weighedFrom}
 use Rattle.runs.specs.Work.{sumZone, restep, resum, sumFrom, workFrom}
 use Rattle.runs.specs.Checks.{freshOk, freshRun}
+use Rattle.runs.specs.Call.{Room, roomOk, freshEnd, freshBy, freshCall}
 use Rattle.runs.specs.StepThenInner.{paired, stepThenInner}
 use Rattle.runs.proofs.Sound.{Sound, volume, rankOn, Sized}
 use Rattle.runs.proofs.Rules.{rules-sound, rules-sized}
@@ -210,3 +212,14 @@ fresh-is room i = bind-cong (freshOk rules room i) (λ _. workFrom rules (blank 
     bind-assoc walked (λ tr. done (steppedBy i tr)) (λ t. sumFrom rules (running i t (blank i .summed)) 0)
     ∙ bind-cong walked (λ tr. sumFrom rules (running i (steppedBy i tr) (blank i .summed)) 0) rest (λ tr h. summed-is i (record { ok = ok; cuts = tr; ran = h }))
     ∙ ap (λ (o : Answer (List (Carry × Cut))). bind o rest) (sym (step-is i)))
+
+-- and so of the call
+pub fresh-call-is : (s : Shape) (axes : List Axis) (t : Settings) (source weights chain carries sums scratch : List Float)
+    → let i : Inputs = record { shape = s; axes = axes; set = t; source = source; weights = weights } in
+    let m : Room = record { chain = chain; carries = carries; sums = sums; scratch = scratch } in
+    freshCall s axes t source weights chain carries sums scratch ≡ freshEnd i m (freshOk rules (roomOk s m) i then stepThenInner i)
+unfolding freshBy
+fresh-call-is s axes t source weights chain carries sums scratch =
+    let i : Inputs = record { shape = s; axes = axes; set = t; source = source; weights = weights } in
+    let m : Room = record { chain = chain; carries = carries; sums = sums; scratch = scratch } in
+    ap (freshEnd i m) (fresh-is (roomOk s m) i)
