@@ -3,7 +3,7 @@ use mathlib.Core.Path.{refl}
 use lib.Ieee.{add, sub, mul, div, neg, lt, le, eq, ofInt, ofBits, toBits}
 use Rattle.answers.specs.Outcome.{demand, demandEach}
 use Rattle.numbers.specs.Floor.{floorOf}
-use Rattle.numbers.specs.Residue.{wrap}
+use Rattle.numbers.specs.Residues.{wrap}
 use Rattle.numbers.specs.Root.{rootIn, wholeRoot, rootOfUnits, rootOf}
 use Rattle.numbers.specs.Whole.{wholeOf, fractionOf}
 use Rattle.lists.specs.Floats.{sumOn, sumTo, sumRows, allFinite, firstNotFinite, stored}

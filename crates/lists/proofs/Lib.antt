@@ -7,9 +7,11 @@ pub mod Firsts
 pub mod Picks
 pub mod Counts
 pub mod Over
+pub mod Seen
 -- tests, and lists of f64
 pub mod Tests
 pub mod Floats
+pub mod Sums
 -- slots and walks
 pub mod Slots
 pub mod Written

@@ -43,4 +43,3 @@ module _ {A : Type 0} where
 
     pub fills-all : (i : ℕ) → length d ≤ i → over i all d ≡ all
     fills-all i l = over-all i all d (length-replicate (length d) v) (rw length-replicate l)
-

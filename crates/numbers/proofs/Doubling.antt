@@ -1,6 +1,6 @@
 -- From 14 digits to 28, 54 and 108: what `root` hands to `refine`, and what it has from it. Assumes nothing.
 use mathlib.Core.Path.{_≡_, sym, ap, _∙_, subst}
-use Prim.Native.Nat.{ℕ, _+_, _-_, _*_, _^_, _≤_, _<_}
+use Prim.Native.Nat.{ℕ, _+_, _*_, _^_, _≤_, _<_}
 use native.Mathlib.Nat.{le-trans, lt-of-lt-of-le, mul-le-mul-left, mul-assoc, add-mul}
 use native.Mathlib.Omega.{arith}
 use Rattle.numbers.specs.Steps.{Leaves, Refinable}

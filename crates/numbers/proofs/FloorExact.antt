@@ -1,6 +1,6 @@
 -- `floorOf x` of a finite x is the one whole number c, with x's sign, that has ±c ≤ x < ±c + 1. Assumes nothing.
 use mathlib.Core.Path.{_≡_, refl, sym, ap, _∙_, subst}
-use Prim.Native.Nat.{ℕ, zero, suc, _+_, _-_, _*_, _/_, _%_, _^_, _≤_, _<_, zero-le}
+use Prim.Native.Nat.{ℕ, zero, suc, _+_, _*_, _/_, _%_, _^_, _≤_, _<_, zero-le}
 use native.Mathlib.Nat.{le-trans, le-of-eq, le-antisymm, le-of-suc-le-suc, lt-of-lt-of-le, lt-of-le-of-lt, mul-one, mul-assoc, mul-comm, mul-right-comm, suc-mul, add-mul, mul-le-mul-right, mul-lt-mul-of-pos-right, lt-of-mul-lt-mul-right, le-of-mul-le-mul-right, add-le-add, le-refl, div-add-mod', div-one, mod-one, mod-lt, div-mul-le-self, div-le-self, zero-mul}
 use native.Mathlib.Omega.{arith}
 use mathlib.Core.Bool.{Bool, true, false, cond}
@@ -43,13 +43,16 @@ value s m (pos k) h =
     (e ∙ sym (mul-one (m * 2 ^ (k + 1074)))))
 value s m (negsuc k) h = round-whole binary64 s (cut s (m * 1) (2 ^ suc k)) (le-trans (cut-le s (m * 1) (2 ^ suc k)) (few-more (m * 1 / 2 ^ suc k) m (le-trans (div-le-self (m * 1) (2 ^ suc k)) (le-of-eq (mul-one m))) (digits-few s m (negsuc k) h)))
 
-floor-is : (s : Bool) (m : ℕ) (e : ℤ) → floorOf (fin s m e) ≡ round binary64 s (cut s (m * up e) (down e)) 1
+pub floor-is : (s : Bool) (m : ℕ) (e : ℤ) → floorOf (fin s m e) ≡ round binary64 s (cut s (m * up e) (down e)) 1
 unfolding floorOf
 floor-is s m e = refl
 
+pub floor-value : (s : Bool) (m : ℕ) (e : ℤ) → T (fits binary64 (fin s m e)) → HasValue (floorOf (fin s m e)) s (cut s (m * up e) (down e)) 1
+floor-value s m e h = rw (floor-is s m e) (value s m e h)
+
 -- ---- ±c ≤ x < ±c + 1
 -- c is a / b cut to a whole number
-around : (s : Bool) (a b : ℕ) → 0 < b → cond s ((a ≤ cut s a b * b) × (cut s a b * b < a + b)) ((cut s a b * b ≤ a) × (a < cut s a b * b + b))
+pub around : (s : Bool) (a b : ℕ) → 0 < b → cond s ((a ≤ cut s a b * b) × (cut s a b * b < a + b)) ((cut s a b * b ≤ a) × (a < cut s a b * b + b))
 around false a b B = (div-mul-le-self a b, omega (arith, div-add-mod' a b, mod-lt a B))
 around true a b B = go (eqb (a % b) 0) (eqb→eq (a % b) 0) (eqb-false (a % b) 0)
   where
@@ -97,7 +100,7 @@ below s m e h =
     record {
       held = subst (λ (v : Float). T (fits binary64 v)) (sym (floor-is s m e)) (round-fits binary64 s c 1);
       c = c;
-      whole = subst (λ (v : Float). HasValue v s c 1) (sym (floor-is s m e)) (value s m e h);
+      whole = floor-value s m e h;
       within = within s (m * up e) (down e) (unitsIn (fin s m e)) (down-pos e) (units-exact s m e h .1);
     }
 

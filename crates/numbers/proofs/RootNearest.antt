@@ -1,18 +1,20 @@
 -- `rootOfUnits u` is the f64 nearest to the root of u units. Assumes nothing.
-use mathlib.Core.Path.{_≡_}
+use mathlib.Core.Path.{_≡_, refl, sym, subst}
 use Prim.Native.Nat.{ℕ, suc, _+_, _-_, _*_, _/_, _%_, _^_, _≤_, _<_}
-use native.Mathlib.Nat.{le-of-lt, lt-of-lt-of-le, zero-lt-suc, mul-pos}
+use native.Mathlib.Nat.{le-antisymm, lt-trans, lt-irrefl, add-comm, le-of-lt, lt-of-lt-of-le, zero-lt-suc, mul-pos}
 use native.Mathlib.Omega.{arith}
-use mathlib.Core.Bool.{true, false}
+use mathlib.Core.Bool.{Bool, true, false}
+use borrow.Author.Tests.{ltb-false}
 use lib.IntN.{ℤ}
-use lib.Dec.{T}
+use lib.Dec.{T, ltb}
 use lib.Pow.{pow-pos, pow-mono, shl-lt}
-use lib.Ieee.{Float, nan, inf, fin, binary64, odd, fits, lt}
-use lib.Ieee.Fits.{odd-fits}
+use lib.Ieee.{Float, nan, inf, fin, binary64, up, down, odd, fits, lt}
+use lib.Ieee.Fits.{odd-fits, down-pos}
 use lib.Ieee.Exact.{HasValue, odd-sign}
 use lib.Ieee.Positive.{positive, positive-of-value}
 use Rattle.numbers.specs.Value.{unitsIn, plain}
 use Rattle.numbers.specs.Root.{wholeRoot, rootOfUnits, NearestRoot}
+use Rattle.numbers.proofs.Values.{value-unique}
 use Rattle.numbers.proofs.Units.{Digits, digits, units-of, lt-units, below-top, few-zeros}
 use Rattle.numbers.proofs.WholeRoot.{IsRoot, whole-root-ok}
 use Rattle.numbers.proofs.RootPattern.{bounds, root-at}
@@ -96,3 +98,37 @@ nearest m e f =
     let d = digits false (suc m) e f in
     let j : d .k ≤ 2097 = few-zeros (suc m) (d .k) (zero-lt-suc m) (rw (d .is) at (below-top false (suc m) e f)) in
     rw (d .is) (nearest-at (suc m * 2 ^ (d .k)) (scaled (suc m) (d .k) (zero-lt-suc m) (d .few) j) x (d .is))
+
+-- ---- no other f64 is as near
+apart : (x r s : Float) → NearestRoot x r → NearestRoot x s → T (lt r s) → ⊥
+apart x r s p q h =
+    let a = p .over s (q .held) (positive-plain s (q .above-zero)) h in
+    let b = q .under r (p .held) (positive-plain r (p .above-zero)) h in
+    lt-irrefl (4 * (unitsIn x * 2 ^ 1074)) (lt-trans a (rw (add-comm (unitsIn s) (unitsIn r)) at b))
+
+pub only : (x r s : Float) → NearestRoot x r → NearestRoot x s → r ≡ s
+unfolding lt
+only x nan s p q = absurd (p .above-zero)
+only x (inf t) s p q = absurd (p .above-zero)
+only x (fin true m e) s p q = absurd (p .above-zero)
+only x (fin false m e) nan p q = absurd (q .above-zero)
+only x (fin false m e) (inf t) p q = absurd (q .above-zero)
+only x (fin false m e) (fin true n d) p q = absurd (q .above-zero)
+only x (fin false m e) (fin false n d) p q = go (ltb a b) (ltb b a) refl refl
+  where
+    r : Float
+    r = fin false m e
+
+    s : Float
+    s = fin false n d
+
+    a : ℕ
+    a = m * up e * down d
+
+    b : ℕ
+    b = n * up d * down e
+
+    go : (i j : Bool) → ltb a b ≡ i → ltb b a ≡ j → r ≡ s
+    go true j h k = absurd (apart x r s p q (subst T (sym h) tt))
+    go false true h k = absurd (apart x s r q p (subst T (sym k) tt))
+    go false false h k = value-unique binary64 r s false (m * up e) (down e) (down-pos e) (p .held) (q .held) (refl, refl) (refl, le-antisymm (ltb-false a b h) (ltb-false b a k))

@@ -12,7 +12,7 @@ use borrow.Author.Tests.{lt-leb}
 use Rattle.numbers.specs.Magnitude.{magnitudeOf}
 use Rattle.numbers.proofs.Patterns.{by-bits, is-nan, no-nan, three}
 
-odd-magnitude : (d : ℕ) (s : Bool) (q k l : ℕ) → odd d false q k l ≡ magnitudeOf (odd d s q k l)
+pub odd-magnitude : (d : ℕ) (s : Bool) (q k l : ℕ) → odd d false q k l ≡ magnitudeOf (odd d s q k l)
 unfolding magnitudeOf odd
 odd-magnitude d s zero k l = refl
 odd-magnitude d s (suc q) k l = refl

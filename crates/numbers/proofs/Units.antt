@@ -1,50 +1,25 @@
 -- A finite f64 as a whole number of units of 2 ^ -1074. Assumes nothing.
 use mathlib.Core.Path.{_≡_, refl, sym, ap, _∙_, subst}
-use Prim.Native.Nat.{ℕ, zero, suc, _+_, _-_, _*_, _/_, _%_, _^_, _≤_, _<_}
-use native.Mathlib.Nat.{le-trans, le-of-eq, le-of-suc-le-suc, lt-of-lt-of-le, lt-of-le-of-lt, lt-of-not-le, not-le-of-lt, lt-irrefl, zero-mul, mul-one, one-mul, mul-comm, mul-assoc, mul-right-comm, mul-pos, mul-le-mul-right, mul-lt-mul-of-pos-right, lt-of-mul-lt-mul-right, mul-div-cancel}
-use native.Mathlib.Omega.{arith}
-use mathlib.Core.Bool.{Bool, true, false, _&&_}
-use lib.IntN.{ℤ, pos, negsuc}
-use lib.Dec.{T, leb, ltb, eqb, ltb→lt, leb→le}
-use lib.Pow.{pow-add, pow-pos, pow-mono, pow-lt}
+use Prim.Native.Nat.{ℕ, zero, suc, _*_, _/_, _^_, _≤_, _<_}
+use native.Mathlib.Nat.{le-trans, le-of-eq, le-of-suc-le-suc, lt-of-lt-of-le, lt-of-le-of-lt, lt-of-not-le, not-le-of-lt, zero-mul, one-mul, mul-comm, mul-assoc, mul-right-comm, mul-pos, mul-le-mul-right, mul-lt-mul-of-pos-right, lt-of-mul-lt-mul-right, mul-div-cancel}
+use mathlib.Core.Bool.{Bool, true, false}
+use lib.IntN.{ℤ}
+use lib.Dec.{T, ltb→lt}
+use lib.Pow.{pow-add, pow-pos, pow-mono}
 use lib.Ieee.{Float, nan, inf, fin, binary64, up, down, fits, lt}
-use lib.Ieee.Fits.{and-l, and-r, down-pos}
+use lib.Ieee.Fits.{down-pos}
 use lib.Ieee.Exact.{HasValue}
 use Rattle.numbers.specs.Value.{unitsIn, plain}
+use Rattle.numbers.proofs.Values.{fit, whole-units}
 
 -- ---- what it is to fit
-module _ (s : Bool) (m : ℕ) (e : ℤ) where
-  abbrev uneven : Bool
-  uneven = eqb (suc m % 2) 1
-
-  abbrev short : Bool
-  short = ltb (suc m) (2 ^ 53)
-
-  abbrev high : Bool
-  high = leb (down e) (2 ^ 1074)
-
-  abbrev under : Bool
-  under = ltb (suc m * up e) (2 ^ 1024 * down e)
-
-  is-short : T (fits binary64 (fin s (suc m) e)) → suc m < 2 ^ 53
-  unfolding fits
-  is-short h = ltb→lt (suc m) (2 ^ 53) (and-r uneven short (and-l (uneven && short) high (and-l (uneven && short && high) under h)))
-
-  is-high : T (fits binary64 (fin s (suc m) e)) → down e ≤ 2 ^ 1074
-  unfolding fits
-  is-high h = leb→le (down e) (2 ^ 1074) (and-r (uneven && short) high (and-l (uneven && short && high) under h))
-
-  is-under : T (fits binary64 (fin s (suc m) e)) → suc m * up e < 2 ^ 1024 * down e
-  unfolding fits
-  is-under h = ltb→lt (suc m * up e) (2 ^ 1024 * down e) (and-r (uneven && short && high) under h)
-
 pub digits-few : (s : Bool) (m : ℕ) (e : ℤ) → T (fits binary64 (fin s m e)) → m < 2 ^ 53
 digits-few s zero e h = pow-pos 53
-digits-few s (suc m) e h = is-short s m e h
+digits-few s (suc m) e h = fit binary64 s m e h .small
 
 pub not-over : (s : Bool) (m : ℕ) (e : ℤ) → T (fits binary64 (fin s m e)) → m * up e < 2 ^ 1024 * down e
 not-over s zero e h = subst (λ (x : ℕ). x < 2 ^ 1024 * down e) (sym (zero-mul (up e))) (mul-pos (pow-pos 1024) (down-pos e))
-not-over s (suc m) e h = is-under s m e h
+not-over s (suc m) e h = fit binary64 s m e h .under
 
 -- ---- units
 pub units-of : (x : Float) (s : Bool) (a : ℕ) → HasValue x s a (2 ^ 1074) → unitsIn x ≡ a
@@ -52,17 +27,10 @@ units-of nan s a h = absurd h
 units-of (inf t) s a h = absurd h
 units-of (fin t m e) s a h = ap (λ (x : ℕ). x / down e) (h .1) ∙ mul-div-cancel a (down-pos e)
 
-pow-le-back : (a l : ℕ) → 2 ^ a ≤ 2 ^ l → a ≤ l
-pow-le-back a l h = le-of-suc-le-suc (lt-of-not-le (λ (g : suc l ≤ a). lt-irrefl (2 ^ l) (lt-of-lt-of-le (pow-lt g) h)))
-
-place : (m : ℕ) (e : ℤ) → down e ≤ 2 ^ 1074 → (j : ℕ) × (m * up e * 2 ^ 1074 ≡ m * 2 ^ j * down e)
-place m (pos k) h = (k + 1074, mul-assoc m (2 ^ k) (2 ^ 1074) ∙ ap (λ (x : ℕ). m * x) (sym (pow-add 2 k 1074)) ∙ sym (mul-one (m * 2 ^ (k + 1074))))
-place m (negsuc k) h =
-    let l : suc k ≤ 1074 = pow-le-back (suc k) 1074 h in
-    let e : 1074 ≡ 1074 - suc k + suc k = omega arith in (
-      1074 - suc k,
-      ap (λ (x : ℕ). x * 2 ^ 1074) (mul-one m) ∙ ap (λ (x : ℕ). m * x) (ap (λ (x : ℕ). 2 ^ x) e ∙ pow-add 2 (1074 - suc k) (suc k)) ∙ sym (mul-assoc m (2 ^ (1074 - suc k)) (2 ^ suc k)),
-    )
+place : (s : Bool) (m : ℕ) (e : ℤ) → T (fits binary64 (fin s (suc m) e)) → (j : ℕ) × (suc m * up e * 2 ^ 1074 ≡ suc m * 2 ^ j * down e)
+place s m e h =
+    let w = whole-units 1074 e (fit binary64 s m e h .fine) in
+    (w .0, mul-assoc (suc m) (up e) (2 ^ 1074) ∙ ap (λ (x : ℕ). suc m * x) (w .1) ∙ sym (mul-assoc (suc m) (2 ^ (w .0)) (down e)))
 
 -- a finite f64 is n * 2 ^ k units, for an n of 53 digits
 pub record Digits (x : Float) (n : ℕ) : Type 0 where
@@ -77,15 +45,15 @@ module _ (s : Bool) where
       v : HasValue (fin s zero e) s 0 (2 ^ 1074)
       v = (refl, ap (λ (x : ℕ). x * 2 ^ 1074) (zero-mul (up e)) ∙ zero-mul (2 ^ 1074) ∙ sym (zero-mul (down e)))
   units-exact (suc m) e h =
-      let p = place (suc m) e (is-high s m e h) in
+      let p = place s m e h in
       let v : HasValue (fin s (suc m) e) s (suc m * 2 ^ (p .0)) (2 ^ 1074) = (refl, p .1) in
       subst (λ (a : ℕ). HasValue (fin s (suc m) e) s a (2 ^ 1074)) (sym (units-of (fin s (suc m) e) s (suc m * 2 ^ (p .0)) v)) v
 
   pub digits : (m : ℕ) (e : ℤ) → T (fits binary64 (fin s m e)) → Digits (fin s m e) m
   digits zero e h = record { k = 0; few = pow-pos 53; is = units-of (fin s zero e) s 0 (refl, ap (λ (x : ℕ). x * 2 ^ 1074) (zero-mul (up e)) ∙ zero-mul (2 ^ 1074) ∙ sym (zero-mul (down e))) }
   digits (suc m) e h =
-      let p = place (suc m) e (is-high s m e h) in
-      record { k = p .0; few = is-short s m e h; is = units-of (fin s (suc m) e) s (suc m * 2 ^ (p .0)) (refl, p .1) }
+      let p = place s m e h in
+      record { k = p .0; few = digits-few s (suc m) e h; is = units-of (fin s (suc m) e) s (suc m * 2 ^ (p .0)) (refl, p .1) }
 
 -- the order of two f64 is that of their units
 cross : (a da b db u v L : ℕ) → a * L ≡ u * da → b * L ≡ v * db → 0 < L → a * db < b * da → u < v

@@ -1,7 +1,8 @@
--- The test for a finite number. Definitions only.
+-- Finite numbers. Definitions only.
 use mathlib.Core.Bool.{Bool, true, false}
 use lib.Ieee.{Float, nan, inf, fin}
 
+-- neither a NaN nor an infinity
 abbrev pub finite : Float → Bool
 finite nan = false
 finite (inf s) = false

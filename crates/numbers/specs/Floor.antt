@@ -7,7 +7,7 @@ use lib.Ieee.{Float, nan, inf, fin, binary64, fits, up, down, round}
 use lib.Ieee.Exact.{HasValue}
 use Rattle.numbers.specs.Value.{unitsIn}
 
--- ---- the claim, which `floor-right` of proofs/Theorems.antt proves of `floorOf`
+-- ---- the claim, which `floor-right` of proofs/Theorems.antt proves of `floorOf`, and `floor-only` of nothing else
 
 -- ±c ≤ ±u < ±c + 1, where c is a whole number and u counts units of 2 ^ -1074
 abbrev pub Within : Bool → ℕ → ℕ → Type 0

@@ -7,7 +7,7 @@ use lib.Ieee.{Float, nan, inf, fin, binary64, fits, lt, size, odd}
 use lib.Ieee.Positive.{positive}
 use Rattle.numbers.specs.Value.{unitsIn, plain}
 
--- ---- the claim, which `root-right` of proofs/Theorems.antt proves of `rootOf`
+-- ---- the claim, which `root-right` of proofs/Theorems.antt proves of `rootOf`, and `root-only` of nothing else
 
 -- √x is nearer to r than to any other f64 y, since the middle (r + y) / 2 lies on y's side of √x. Both orders are strict, so √x is never just between two f64.
 -- In units √x is the root of unitsIn x * 2 ^ 1074. A y with a sign is further away than 0.

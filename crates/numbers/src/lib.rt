@@ -1,11 +1,23 @@
-// Square roots, whole parts and magnitudes of f64, by the digits of their bit patterns.
+// What the work needs of single numbers: whether an f64 is finite, its square root, magnitude and floor by the
+// digits of its bit pattern, the floor as an integer with what is left above it, and integers modulo n.
 ghost use mathlib.Core.Path.{_≡_};
 ghost use Prim.Native.Nat.{_+_, _*_, _^_, _≤_, _<_};
+ghost use lib.IntN.{pos, _+ℤ_, _-ℤ_};
 ghost use lib.Ieee.{binary64, ofBits};
+ghost use Rattle.numbers.specs.Finite.{finite};
 ghost use Rattle.numbers.specs.Root.{rootOf, rootOfUnits};
 ghost use Rattle.numbers.specs.Steps.{unitsOf, Parted, Leaves, Refinable, CutTo};
 ghost use Rattle.numbers.specs.Floor.{floorOf};
 ghost use Rattle.numbers.specs.Magnitude.{magnitudeOf};
+ghost use Rattle.numbers.specs.Whole.{signed, inReach, wholeParts, fractionOf};
+ghost use Rattle.numbers.specs.Residues.{wrap};
+
+// Whether x is neither a NaN nor an infinity: of those x - x is a NaN, of any other +0.
+pub fn is_finite(x: f64) -> bool
+    ensures { λ r. ⌜ r ≡ finite x ⌝ }
+{
+    x - x == 0.0
+}
 
 // A whole root and what its square leaves.
 struct Rooted {
@@ -233,4 +245,75 @@ pub fn floor(x: f64) -> f64
         return x;
     }
     f64::from_bits(bits >> 63 << 63 | whole_bits(size, bits >> 63 == 1))
+}
+
+// A whole number by its sign and its size.
+pub struct WholeNumber {
+    pub below: bool,
+    pub size: usize,
+}
+
+// Whether x is at most 2^31 in size, which no NaN is.
+pub fn in_reach(x: f64) -> bool
+    ensures { λ r. ⌜ r ≡ inReach x ⌝ }
+{
+    if x >= -2147483648.0 {
+        return x <= 2147483648.0;
+    }
+    false
+}
+
+// The floor of an x within reach as an integer, and 0 for any other x.
+pub fn whole(x: f64) -> WholeNumber
+    ensures { λ r. ⌜ r ≡ wholeParts x ⌝ }
+{
+    if in_reach(x) {
+        let y = floor(x);
+        let size = magnitude(y) as usize;
+        return WholeNumber {
+            below: y < 0.0,
+            size,
+        };
+    }
+    WholeNumber {
+        below: false,
+        size: 0,
+    }
+}
+
+// What x has above its floor. The floor -0 becomes +0, as it does on the way through an integer.
+pub fn fraction(x: f64) -> f64
+    ensures { λ r. ⌜ r ≡ fractionOf x ⌝ }
+{
+    if is_finite(x) {
+        return x - (floor(x) + 0.0);
+    }
+    x
+}
+
+// i + s modulo n.
+pub fn ahead(i: usize, s: usize, n: usize) -> usize
+    requires { ⌜ (0 < n) × (i ≤ 2 ^ 32) × (s ≤ 2 ^ 32) ⌝ }
+    ensures { λ r. ⌜ r ≡ wrap n (pos i +ℤ pos s) ⌝ }
+{
+    (i + s) % n
+}
+
+// i - s modulo n.
+pub fn behind(i: usize, s: usize, n: usize) -> usize
+    requires { ⌜ (0 < n) × (n ≤ 2 ^ 32) × (i ≤ 2 ^ 32) ⌝ }
+    ensures { λ r. ⌜ r ≡ wrap n (pos i -ℤ pos s) ⌝ }
+{
+    (i + (n - s % n)) % n
+}
+
+// i plus a whole number, modulo n.
+pub fn stepped(i: usize, by: WholeNumber, n: usize) -> usize
+    requires { ⌜ (0 < n) × (n ≤ 2 ^ 32) × (i ≤ 2 ^ 32) × (by .size ≤ 2 ^ 32) ⌝ }
+    ensures { λ r. ⌜ r ≡ wrap n (pos i +ℤ signed (by .below) (by .size)) ⌝ }
+{
+    if by.below {
+        return behind(i, by.size, n);
+    }
+    ahead(i, by.size, n)
 }

@@ -1,13 +1,13 @@
 -- The shift of one core along its axis, and the scaling of core 0 (001: `step`). Definitions only.
 use Prim.Native.Nat.{ℕ, _-_}
-use mathlib.Core.Bool.{Bool, true, _&&_, _||_}
+use mathlib.Core.Bool.{Bool, true, _||_}
 use mathlib.Core.List.{List, map}
 use lib.Dec.{leb}
 use lib.IntN.{pos}
 use lib.Ieee.{Float, binary64, neg, le, eq, ofInt}
-use Rattle.numbers.specs.Arithmetic.{plus, minus, times, over, zero64, one64, two64, farthest64}
+use Rattle.numbers.specs.Arithmetic.{plus, minus, times, over, zero64, one64, two64}
 use Rattle.numbers.specs.Root.{rootOf}
-use Rattle.numbers.specs.Whole.{wholeOf, fractionOf}
+use Rattle.numbers.specs.Whole.{wholeOf, fractionOf, inReach}
 use Rattle.answers.specs.declared.Part.the-variants.{Entry}
 use Rattle.answers.specs.Outcome.{Answer, done, making}
 use Rattle.lists.specs.Lists.{pick}
@@ -36,10 +36,10 @@ shiftOf x tau n =
     let dx = spacing x n in
     pick (le dx zero64 || eq h zero64) stay (by (over h dx))
 
--- refusal 8 spares a core that stays and a ratio of at most 2^31 in size; what is not a number is not spared
-abbrev pub inReach : Shift → Bool
-inReach stay = true
-inReach (by ratio) = le (neg farthest64) ratio && le ratio farthest64
+-- refusal 8 spares a core that stays, and a ratio of at most 2^31 in size
+abbrev pub reaches : Shift → Bool
+reaches stay = true
+reaches (by ratio) = inReach ratio
 
 -- every entry anew: s0 and the fraction of the ratio, and of minus the ratio
 unfoldable pub shifted : Core → Float → List Float

@@ -4,8 +4,7 @@ use mathlib.Core.List.{List, [], _∷_}
 use lib.IntN.{ℤ, pos, _+ℤ_, _-ℤ_}
 use lib.Ieee.{Float, neg}
 use Rattle.numbers.specs.Arithmetic.{plus, minus, times, one64, two64, half64, quarter64, sixth64}
-use Rattle.numbers.specs.Whole.{wholeOf, fractionOf}
-use Rattle.numbers.specs.Residue.{wrap}
+use Rattle.numbers.specs.Residues.{wrap}
 use Rattle.lists.specs.Floats.{at, sumOn}
 
 -- the four weights of a fraction, the products in this order

@@ -8,7 +8,7 @@ use Rattle.numbers.specs.Arithmetic.{zero64}
 use Rattle.answers.specs.Outcome.{Answer}
 use Rattle.shape.specs.Cores.{Core}
 use Rattle.axes.specs.declared.Axis.{Axis}
-use Rattle.shift.specs.Shifts.{Shift, shiftOf, inReach, moveCore, scaled}
+use Rattle.shift.specs.Shifts.{shiftOf, reaches, moveCore, scaled}
 use Rattle.rounding.specs.Rounding.{Carry, Cut, roundCore}
 use Rattle.product.specs.Product.{contractAt}
 use Rattle.stepping.specs.declared.Settings.{Settings}
@@ -44,7 +44,7 @@ pub record Rules : Type 0 where
 
 unfoldable pub rules : Rules
 rules = record {
-  reaches = λ t z. inReach (shiftOf (z .axis) (t .tau) (z .core .n));
+  reaches = λ t z. reaches (shiftOf (z .axis) (t .tau) (z .core .n));
   shift = λ t k z. moveCore k (shiftOf (z .axis) (t .tau) (z .core .n)) (z .core);
   scale = λ t l. scaled (t .tau) (t .c) l;
   round = λ t more k s c. roundCore (t .eps) more k s c;

@@ -1,7 +1,7 @@
 -- `numbers::guess` meets its contract: its floats are numbers, and its digits few. Assumes nothing.
 use mathlib.Core.Path.{sym, subst}
 use mathlib.Core.Bool.{false, not}
-use Prim.Native.Nat.{ℕ, _/_, _-_, _^_, _≤_}
+use Prim.Native.Nat.{ℕ, _/_, _^_, _≤_}
 use native.Mathlib.Nat.{le-trans, le-of-lt}
 use native.Mathlib.Omega.{arith}
 use lib.Dec.{T, lit≤}

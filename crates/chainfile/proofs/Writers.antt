@@ -1,0 +1,71 @@
+-- What writing accepts, and what an accepted call leaves. Assumes nothing.
+use mathlib.Core.Path.{_≡_, refl, sym, ap, _∙_}
+use Prim.Native.Nat.{ℕ, _<_, zero-le}
+use native.Mathlib.Omega.{arith}
+use mathlib.Core.Bool.{true}
+use mathlib.Core.List.{List}
+use lib.ListN.{length}
+use lib.Seq.{take-all}
+use lib.Ieee.{Float, nan}
+use Rattle.answers.specs.declared.Refusal.the-variants.{Number}
+use Rattle.answers.specs.declared.Verdict.the-variants.{Fits}
+use Rattle.answers.specs.Outcome.{done, refused, Answer}
+use Rattle.answers.proofs.Outcomes.{done-inj}
+use Rattle.answers.proofs.Checks.{demand-yes, demand-is, then-is, then-skip, each-is}
+use Rattle.numbers.specs.Finite.{finite}
+use Rattle.lists.specs.Slots.{slot}
+use Rattle.lists.specs.Floats.{at, allFinite}
+use Rattle.lists.proofs.Tests.{eqb-yes, eqb-is}
+use Rattle.lists.proofs.Floats.{finite-getD}
+use Rattle.shape.specs.declared.Shape.{Shape}
+use Rattle.shape.specs.Shapes.{coreSize, entriesOf}
+use Rattle.chainfile.specs.File.{fileLength, fileOf}
+use Rattle.chainfile.specs.Calls.{numbersOk}
+use Rattle.chainfile.specs.Writing.{writing, writeExit, writeCall}
+use Rattle.chainfile.proofs.Slots.{finite-slots}
+use Rattle.chainfile.proofs.Shapes.{Meets, meets-ok, ok-meets}
+
+-- ---- what both calls ask of a chain
+pub record Sound (s : Shape) (chain : List Float) : Type 0 where
+  pub meets : Meets s
+  pub whole : length chain ≡ entriesOf s
+  pub finites : numbersOk s chain ≡ done tt
+
+pub sound-finite : (s : Shape) (chain : List Float) → Sound s chain → (i : ℕ) → i < entriesOf s → finite (at chain i) ≡ true
+unfolding numbersOk
+sound-finite s chain ok i lt =
+    let slots = each-is Number (λ (k : ℕ). allFinite (slot (coreSize s) k chain)) (s .d) 0 (ok .finites) in
+    let all : allFinite chain ≡ true
+    = ap allFinite (sym (take-all (entriesOf s) chain (omega (arith, ok .whole)))) ∙ finite-slots (coreSize s) chain (s .d) (λ k l. slots k zero-le (omega arith)) in
+    finite-getD chain i nan (omega (arith, ok .whole)) all
+
+-- ---- writing
+module _ (s : Shape) (chain : List Float) (out : List ℕ) where
+  writing-is : (file : List ℕ) → writing s chain out ≡ done file → Sound s chain × (length out ≡ fileLength s) × (fileOf s chain ≡ file)
+  unfolding writing
+  writing-is file h =
+      let a = then-is _ _ file h in
+      let b = then-is _ _ file (a .1) in
+      let c = then-is _ _ file (b .1) in
+      let e = then-is _ _ file (c .1) in
+      (record { meets = ok-meets s (a .0); whole = eqb-is _ _ (demand-is _ _ (b .0)); finites = e .0 }, eqb-is _ _ (demand-is _ _ (c .0)), done-inj (e .1))
+
+  pub writing-yes : Sound s chain → length out ≡ fileLength s → writing s chain out ≡ done (fileOf s chain)
+  unfolding writing
+  writing-yes ok long =
+      then-skip _ _ _ (meets-ok s (ok .meets))
+      (then-skip _ _ _ (demand-yes _ _ (eqb-yes _ _ (ok .whole)))
+      (then-skip _ _ _ (demand-yes _ _ (eqb-yes _ _ long)) (then-skip _ _ _ (ok .finites) refl)))
+
+-- ---- a call that was accepted, and what it leaves
+pub write-fits : (s : Shape) (chain : List Float) (out : List ℕ) → writeCall s chain out .result ≡ Fits
+    → Sound s chain × (length out ≡ fileLength s) × (writeCall s chain out ≡ record { result = Fits; out = fileOf s chain })
+unfolding writeCall writeExit
+write-fits s chain out h = go (writing s chain out) refl h
+  where
+    go : (o : Answer (List ℕ)) → writing s chain out ≡ o → writeExit out o .result ≡ Fits
+        → Sound s chain × (length out ≡ fileLength s) × (writeExit out (writing s chain out) ≡ record { result = Fits; out = fileOf s chain })
+    go (done file) e f =
+        let w = writing-is s chain out file e in
+        (w .0, w .1, ap (writeExit out) (e ∙ ap done (sym (w .2))))
+    go (refused r) e f = let z : _≡_ {A = ℕ} 0 1 = cc in absurd (omega arith)

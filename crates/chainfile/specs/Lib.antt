@@ -1,0 +1,5 @@
+pub mod Bytes
+pub mod File
+pub mod Calls
+pub mod Writing
+pub mod Reading

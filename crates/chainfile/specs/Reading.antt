@@ -1,0 +1,104 @@
+-- Reading a chain file. The call is lent the file's bytes (position 0) and an output with room for at least N numbers (position 1).
+-- A read beyond the end counts as 0, but none decides anything: a header, a table and bodies are looked into only behind the check that they are there. Definitions only.
+use Prim.Native.Nat.{ℕ, _+_, _*_}
+use mathlib.Core.List.{List}
+use lib.Dec.{leb, eqb}
+use lib.ListN.{length, replicate}
+use lib.Ieee.{Float}
+use Rattle.answers.specs.declared.Refusal.the-variants.{Axes, Size, Length, File}
+use Rattle.answers.specs.declared.Verdict.the-variants.{Fits, Refused}
+use Rattle.answers.specs.Outcome.{done, refused, bind, Answer, Check, _then_, demand}
+use Rattle.numbers.specs.Arithmetic.{zero64}
+use Rattle.lists.specs.Lists.{tab}
+use Rattle.lists.specs.Slots.{fit}
+use Rattle.lists.specs.Walks.{turning}
+use Rattle.shape.specs.declared.Shape.{Shape}
+use Rattle.shape.specs.Limits.{mostAxes, within}
+use Rattle.shape.specs.Shapes.{leftOf, pointsOf, rightOf, sizeOk, chainOk, entriesOf}
+use Rattle.chainfile.specs.declared.Read.{Read}
+use Rattle.chainfile.specs.Bytes.{u16At, u32At, f64At}
+use Rattle.chainfile.specs.File.{entryStart, bodyStart, fileLength, mark}
+use Rattle.chainfile.specs.Calls.{Exit, numbersOk}
+
+-- ---- the header: it answers d
+unfoldable pub readHeader : List ℕ → Answer ℕ
+readHeader bytes =
+    demand (leb 8 (length bytes)) (File (length bytes))
+    then demand (eqb (u32At bytes 0) (u32At mark 0)) (File 0)
+    then demand (eqb (u16At bytes 6) 0) (File 6)
+    then demand (within mostAxes (u16At bytes 4)) Axes
+    then done (u16At bytes 4)
+
+-- ---- the table: it answers the shape
+-- d cores of these sizes; the places of its arrays from d on are 0
+unfoldable pub shapeWith : ℕ → (ℕ → ℕ) → (ℕ → ℕ) → (ℕ → ℕ) → Shape
+shapeWith d left n right = record { d = d; left = fit 0 mostAxes (tab d left); n = fit 0 mostAxes (tab d n); right = fit 0 mostAxes (tab d right) }
+
+-- the shape as files keep it
+unfoldable pub trimmed : Shape → Shape
+trimmed s = shapeWith (s .d) (leftOf s) (pointsOf s) (rightOf s)
+
+-- the sizes that a table of d entries gives
+unfoldable pub shapeIn : List ℕ → ℕ → Shape
+shapeIn bytes d =
+    shapeWith d (λ (k : ℕ). u16At bytes (entryStart k)) (λ (k : ℕ). u16At bytes (entryStart k + 2)) (λ (k : ℕ). u16At bytes (entryStart k + 4))
+
+-- entry k: sizes, zero, offset
+unfoldable pub entryOk : List ℕ → Shape → ℕ → Check
+entryOk bytes s k =
+    demand (sizeOk s k) (Size k)
+    then demand (eqb (u16At bytes (entryStart k + 6)) 0) (File (entryStart k + 6))
+    then demand (eqb (u32At bytes (entryStart k + 8)) (bodyStart s k)) (File (entryStart k + 8))
+
+-- the table is there, entry by entry, then bonds: 1 and 2 are ruled out by then, so 3 is what `chainOk` can still refuse (`bonds-only` of proofs/Shapes.antt)
+unfoldable pub readTable : List ℕ → ℕ → Answer Shape
+readTable bytes d =
+    let s = shapeIn bytes d in
+    demand (leb (entryStart d) (length bytes)) (File (length bytes))
+    then turning d 0 (λ (k : ℕ) _. entryOk bytes s k) tt
+    then chainOk s
+    then done s
+
+-- header and table: the contents, bodies aside
+unfoldable pub readContents : List ℕ → Answer Shape
+readContents bytes = bind (readHeader bytes) (readTable bytes)
+
+-- ---- the lengths
+unfoldable pub lengthsOk : Shape → List ℕ → List Float → Check
+lengthsOk s bytes out =
+    demand (eqb (length bytes) (fileLength s)) (File (length bytes))
+    then demand (leb (entriesOf s) (length out)) (Length 1)
+
+-- ---- the numbers
+-- m numbers from byte p on
+unfoldable pub numbersFrom : List ℕ → ℕ → ℕ → List Float
+numbersFrom bytes p m = tab m (λ (i : ℕ). f64At bytes (p + 8 * i))
+
+unfoldable pub readNumbers : List ℕ → Shape → Answer (List Float)
+readNumbers bytes s =
+    let chain = numbersFrom bytes (entryStart (s .d)) (entriesOf s) in
+    numbersOk s chain then done chain
+
+-- ---- all of it
+pub record Chain : Type 0 where
+  pub shape : Shape
+  pub numbers : List Float
+
+unfoldable pub reading : List ℕ → List Float → Answer Chain
+reading bytes out =
+    bind (readContents bytes) (λ s.
+    lengthsOk s bytes out
+    then bind (readNumbers bytes s) (λ chain.
+    done record { shape = s; numbers = chain }))
+
+abbrev pub noShape : Shape
+noShape = record { d = 0; left = replicate mostAxes 0; n = replicate mostAxes 0; right = replicate mostAxes 0 }
+
+-- accepted: the numbers at the front of the output, +0 in the rest; refused, the output is unwritten
+unfoldable pub readExit : List Float → Answer Chain → Exit Read Float
+readExit out (done c) = record { result = record { verdict = Fits; shape = c .shape }; out = fit zero64 (length out) (c .numbers) }
+readExit out (refused r) = record { result = record { verdict = Refused r; shape = noShape }; out = out }
+
+-- THE CALL
+unfoldable pub readCall : List ℕ → List Float → Exit Read Float
+readCall bytes out = readExit out (reading bytes out)

@@ -1,0 +1,32 @@
+-- Writing a chain file. The call is lent the chain (position 0) and an output of exactly the file's length (position 1). Definitions only.
+use Prim.Native.Nat.{ℕ}
+use mathlib.Core.List.{List}
+use lib.Dec.{eqb}
+use lib.ListN.{length}
+use lib.Ieee.{Float}
+use Rattle.answers.specs.declared.Refusal.the-variants.{Length}
+use Rattle.answers.specs.declared.Verdict.{Verdict}
+use Rattle.answers.specs.declared.Verdict.the-variants.{Fits, Refused}
+use Rattle.answers.specs.Outcome.{done, refused, Answer, _then_, demand}
+use Rattle.shape.specs.declared.Shape.{Shape}
+use Rattle.shape.specs.Shapes.{chainOk, entriesOf}
+use Rattle.chainfile.specs.File.{fileLength, fileOf}
+use Rattle.chainfile.specs.Calls.{Exit, numbersOk}
+
+-- refusals 1 to 3, 5 and 6 in the table's order, then the file
+unfoldable pub writing : Shape → List Float → List ℕ → Answer (List ℕ)
+writing s chain out =
+    chainOk s
+    then demand (eqb (length chain) (entriesOf s)) (Length 0)
+    then demand (eqb (length out) (fileLength s)) (Length 1)
+    then numbersOk s chain
+    then done (fileOf s chain)
+
+-- refused, the output is unwritten
+unfoldable pub writeExit : List ℕ → Answer (List ℕ) → Exit Verdict ℕ
+writeExit out (done file) = record { result = Fits; out = file }
+writeExit out (refused r) = record { result = Refused r; out = out }
+
+-- THE CALL
+unfoldable pub writeCall : Shape → List Float → List ℕ → Exit Verdict ℕ
+writeCall s chain out = writeExit out (writing s chain out)

@@ -1,0 +1,16 @@
+-- `lists::all_finite` meets its contract. Assumes nothing.
+use Prim.Native.Nat.{_≤_, _-_}
+use lib.ListN.{length}
+use Rattle.lists.proofs.Turns.{turns}
+use Rattle.lists.proofs.Seen.{Flag, flags}
+use Rattle.lists.proofs.all_finite.Statement.{statement}
+use Rattle.lists.proofs.all_finite.Tie as tie
+
+abbrev Inv-loop : tie.InvT-loop
+Inv-loop s all₀ i₀ all i = (i ≤ length s) × Flag s i all
+
+abbrev μ-loop : tie.MeasureT-loop
+μ-loop s all₀ i₀ all i = length s - i
+
+pub all-finite-spec : {M : Type 1} → statement M
+all-finite-spec = tie.close (tie.spec Inv-loop μ-loop (λ c. search (turns, flags)) (λ c. search turns) (λ c. search turns) (λ c κs. search turns) (λ c. search turns) (λ c. search turns) (λ c. search (turns, flags)) (λ c. search (turns, flags)))

@@ -1,0 +1,8 @@
+-- `lists::stored` meets its contract. Assumes nothing.
+use Rattle.lists.proofs.Turns.{turns}
+use Rattle.lists.proofs.Seen.{stages}
+use Rattle.lists.proofs.stored.Statement.{statement}
+use Rattle.lists.proofs.stored.Tie as tie
+
+pub stored-spec : {M : Type 1} → statement M
+stored-spec = tie.close (tie.spec (λ c κs. search turns) (λ c. search (turns, stages)) (λ c κs. search turns) (λ c. search (turns, stages)))

@@ -1,0 +1,96 @@
+-- Jacobi passes over stored columns, with their count (004: `jacobi_sweep_all`, `apply_jacobi_rotation`). Definitions only.
+use Prim.Native.Nat.{ℕ, zero, suc}
+use mathlib.Core.Bool.{Bool, true, false, _||_}
+use mathlib.Core.List.{List}
+use lib.Ieee.{Float, binary64, le, ofBits}
+use Rattle.numbers.specs.Arithmetic.{times, over, zero64}
+use Rattle.numbers.specs.Magnitude.{magnitudeOf}
+use Rattle.numbers.specs.Root.{rootOf}
+use Rattle.answers.specs.Outcome.{Made, done, bind}
+use Rattle.lists.specs.Lists.{pick, grid, pairs}
+use Rattle.lists.specs.Walks.{along}
+use Rattle.lists.specs.Floats.{cell, sumTo, stored}
+use Rattle.bond.specs.Rotation.{tangentOf, slopeOf, cosineOf, turnedAt}
+use Rattle.bond.specs.Sweeps.{eye}
+
+-- the slab's columns and the basis' columns, each column after column
+pub record Svd : Type 0 where
+  pub columns : List Float
+  pub basis : List Float
+
+abbrev pub svd : List Float → List Float → Svd
+svd a v = record { columns = a; basis = v }
+
+-- ---- one rotation
+-- columns p and q turned, of n columns of m numbers each
+unfoldable pub turnStored : ℕ → ℕ → ℕ → ℕ → Float → Float → List Float → List Float
+turnStored m n p q c s a = grid n m (λ (col row : ℕ). turnedAt p q c s (λ (k : ℕ). cell m a k row) col)
+
+-- the columns, then the basis; both are stored once all of this is done
+unfoldable pub turned : ℕ → ℕ → ℕ → ℕ → Float → Float → Svd → Made Svd
+turned m n p q c s e =
+    bind (stored (turnStored m n p q c s (e .columns))) (λ a.
+    bind (stored (turnStored n n p q c s (e .basis))) (λ v.
+    done (svd a v)))
+
+-- the sum over the rows, ascending, of column p times column q
+unfoldable pub dot : ℕ → List Float → ℕ → ℕ → Float
+dot m a p q = sumTo m (λ (row : ℕ). times (cell m a p row) (cell m a q row))
+
+-- 1e-14
+abbrev pub tolerance64 : Float
+tolerance64 = ofBits binary64 0x3d06_849b_86a1_2b9b
+
+-- a pair is skipped where sq = sqrt(bp*bq) is at most zero, or alpha/sq at most 1e-14 in size; what isn't a number is neither, so that pair is turned
+unfoldable pub skipped : Float → Float → Float → Bool
+skipped alpha bp bq =
+    let sq = rootOf (times bp bq) in
+    le sq zero64 || le (magnitudeOf (over alpha sq)) tolerance64
+
+-- what a pass leaves, and whether it turned no pair
+pub record Pass : Type 0 where
+  pub svd : Svd
+  pub quiet : Bool
+
+abbrev pub passed : Svd → Bool → Pass
+passed e b = record { svd = e; quiet = b }
+
+unfoldable pub rotate : ℕ → ℕ → ℕ → ℕ → Pass → Made Pass
+rotate m n p q x =
+    let a = x .svd .columns in
+    let alpha = dot m a p q in
+    let bp = dot m a p p in
+    let bq = dot m a q q in
+    let t = tangentOf (slopeOf bp bq alpha) in
+    let c = cosineOf t in
+    pick (skipped alpha bp bq) (done x) (bind (turned m n p q c (times c t) (x .svd)) (λ e. done (passed e false)))
+
+-- ---- passes
+-- p < q in order
+unfoldable pub pass : ℕ → ℕ → Svd → Made Pass
+pass m n e = along (pairs n) (λ (x : ℕ × ℕ). rotate m n (x .0) (x .1)) (passed e true)
+
+-- the passes made, and the columns and the basis then
+pub record Passes : Type 0 where
+  pub count : ℕ
+  pub svd : Svd
+
+abbrev pub made : ℕ → Svd → Passes
+made c e = record { count = c; svd = e }
+
+-- at most `left` more passes after c of them; b says whether the last one was quiet
+unfoldable pub passesFrom : ℕ → Bool → ℕ → ℕ → ℕ → Svd → Made Passes
+passesFrom zero b m n c e = done (made c e)
+passesFrom (suc left) true m n c e = done (made c e)
+passesFrom (suc left) false m n c e = bind (pass m n e) (λ x. passesFrom left (x .quiet) m n (suc c) (x .svd))
+
+abbrev pub mostPasses : ℕ
+mostPasses = 100
+
+-- at most 100 passes, a quiet one being the last
+unfoldable pub orthogonalized : ℕ → ℕ → Svd → Made Passes
+orthogonalized m n e = passesFrom mostPasses false m n 0 e
+
+-- the columns of a slab of m rows and n columns, and the basis before any rotation
+unfoldable pub start : ℕ → ℕ → List Float → Svd
+start m n s = svd (grid n m (λ (col row : ℕ). cell n s row col)) (eye n)
