@@ -1,6 +1,6 @@
 -- THE RESTART, in memory: on inputs that differ from those of a fresh run at zone z and behind it only, the work from z on, from the carry and the sum that the run holds there, leaves what the work from zone 0 on a blank run leaves, or refuses alike. Of the rules only `Sound` is used.
 use mathlib.Core.Path.{_≡_, refl, sym, ap, _∙_}
-use Prim.Native.Nat.{ℕ, zero, suc, _+_, _-_, _<_}
+use Prim.Native.Nat.{ℕ, zero, suc, _+_, _-_, _≤_, _<_}
 use native.Mathlib.Nat.{zero-add, sub-zero}
 use native.Mathlib.Omega.{arith}
 use mathlib.Core.Bool.{false}
@@ -36,11 +36,11 @@ use Rattle.runs.proofs.Before.{bond-count, Roomy, core-before}
 -- ---- what was kept, and what is kept anew from z on
 pub keep-again : (s : Shape) (z : ℕ) (tr c : List (Carry × Cut)) (t : Stepped) → length tr ≡ s .d → z < s .d → keepStep s z c (keepStep s 0 tr t) ≡ keepStep s 0 (take z tr ++ c) t
 unfolding keepStep
-keep-again s z tr c t e lt = let le : Prim.Native.Nat._≤_ z (s .d) = omega arith in search (written-again, e, le)
+keep-again s z tr c t e lt = let le : z ≤ s .d = omega arith in search (written-again, e, le)
 
 pub sums-again : (s : Shape) (z : ℕ) (tr c : List (List Float × Unit {0})) (u : Summed) → length tr ≡ s .d → z < s .d → keepSums s z c (keepSums s 0 tr u) ≡ keepSums s 0 (take z tr ++ c) u
 unfolding keepSums
-sums-again s z tr c u e lt = let le : Prim.Native.Nat._≤_ z (s .d) = omega arith in rw written-again
+sums-again s z tr c u e lt = let le : z ≤ s .d = omega arith in rw written-again
 
 -- ---- a fresh run has room for its zones
 pub step-roomy : (R : Rules) (S : Sound R) (i : Inputs) (P : StepTrace R i) → Roomy (i .shape) (steppedBy i (P .cuts))
