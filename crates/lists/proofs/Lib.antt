@@ -6,6 +6,7 @@ pub mod Turns
 pub mod Loops
 pub mod Strips
 pub mod Firsts
+pub mod Demands
 pub mod Picks
 pub mod Counts
 pub mod Over

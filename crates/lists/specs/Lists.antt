@@ -1,6 +1,6 @@
 -- Lists by index, and counting loops. Definitions only.
 use Prim.Native.Nat.{ℕ, zero, suc, _+_, _-_}
-use mathlib.Core.Bool.{Bool, true, false, cond}
+use mathlib.Core.Bool.{Bool, true, false, cond, not}
 use mathlib.Core.List.{List, [], _∷_, _++_}
 use lib.ListN.{length, take, drop}
 
@@ -43,6 +43,10 @@ firstFrom p lo (suc d) = cond (p lo) lo (firstFrom p (suc lo) d)
 -- the first below n, or n
 unfoldable pub first : (ℕ → Bool) → ℕ → ℕ
 first p n = firstFrom p 0 n
+
+-- the first below n at which p fails, or n
+unfoldable pub firstNot : (ℕ → Bool) → ℕ → ℕ
+firstNot p n = first (λ (i : ℕ). not (p i)) n
 
 -- how many i below n there are at which p holds
 unfoldable pub count : (ℕ → Bool) → ℕ → ℕ
