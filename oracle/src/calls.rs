@@ -40,7 +40,12 @@ pub fn round(cores: &mut [TtCore<f64>], eps: f64) -> Result<Bonds, Refused> {
     let mut rust = cores.to_vec();
     let mut bonds = Bonds::default();
     for k in 0..cores.len() - 1 {
-        let TtCore { r_left, n, r_right, data } = cores[k].clone();
+        let TtCore {
+            r_left,
+            n,
+            r_right,
+            data,
+        } = cores[k].clone();
         let sweeps = gram_ev(&data, r_left * n, r_right);
         if !sweeps.finite {
             return Err(Refused::NotFinite(k));
@@ -51,7 +56,12 @@ pub fn round(cores: &mut [TtCore<f64>], eps: f64) -> Result<Bonds, Refused> {
         let carry = tt_core::diag_times_vt(&s, &v, s.len(), r_right);
         demand_finite(&u, k)?;
         demand_finite(&carry, k)?;
-        cores[k] = TtCore { r_left, n, r_right: s.len(), data: u };
+        cores[k] = TtCore {
+            r_left,
+            n,
+            r_right: s.len(),
+            data: u,
+        };
         tt_core::absorb_left(&carry, &mut cores[k + 1], s.len());
         demand_finite(&cores[k + 1].data, k + 1)?;
     }
@@ -67,13 +77,19 @@ pub fn inner(state: &TtState<f64>, weights: &[Vec<f64>]) -> Result<f64, Refused>
         sums = tt_chernoff::contract_step(core, f, &sums);
         demand_finite(&sums, k)?;
     }
-    assert!(same(&sums, &[state.inner_separable(weights)]), "inner is not the Rust's");
+    assert!(
+        same(&sums, &[state.inner_separable(weights)]),
+        "inner is not the Rust's"
+    );
     Ok(sums[0])
 }
 
 /// h and dx of axis j
 fn distances(rule: &TtChernoff<f64>, tau: f64, n: usize, j: usize) -> (f64, f64) {
-    (2.0 * (rule.a[j] * tau).sqrt() + rule.b[j] * tau, rule.dx(j, n))
+    (
+        2.0 * (rule.a[j] * tau).sqrt() + rule.b[j] * tau,
+        rule.dx(j, n),
+    )
 }
 
 /// The first axis whose core doesn't stay and whose shift is too far.
@@ -104,19 +120,30 @@ pub fn step(rule: &TtChernoff<f64>, tau: f64, state: &mut TtState<f64>) -> Resul
     demand_finite(&state.cores[0].data, 0)?;
     let bonds = round(&mut state.cores, rule.eps_round)?;
     rule.step(tau, &mut rust);
-    assert!(same_chain(&state.cores, &rust.cores), "step is not the Rust's");
+    assert!(
+        same_chain(&state.cores, &rust.cores),
+        "step is not the Rust's"
+    );
     Ok(bonds)
 }
 
 /// `evolve`, with the last step's counts
-pub fn evolve(rule: &TtChernoff<f64>, t_final: f64, steps: usize, state: &mut TtState<f64>) -> Result<Bonds, Refused> {
+pub fn evolve(
+    rule: &TtChernoff<f64>,
+    t_final: f64,
+    steps: usize,
+    state: &mut TtState<f64>,
+) -> Result<Bonds, Refused> {
     let mut rust = state.clone();
     let mut bonds = Bonds::default();
     for _ in 0..steps {
         bonds = step(rule, t_final / steps as f64, state)?;
     }
     rule.evolve(t_final, steps, &mut rust);
-    assert!(same_chain(&state.cores, &rust.cores), "evolve is not the Rust's");
+    assert!(
+        same_chain(&state.cores, &rust.cores),
+        "evolve is not the Rust's"
+    );
     Ok(bonds)
 }
 
@@ -127,7 +154,9 @@ pub fn pair(state: &mut TtState<f64>, eps: f64) -> Result<usize, Refused> {
     let slab = tt_coupled_pair::contract_slab(left, right, rl, left.r_right, rr, nj, nk, nj * nk);
     demand_finite(&slab, 0)?;
     let (rows, columns) = (rl * nj, nk * rr);
-    let mut work: Vec<f64> = (0..rows * columns).map(|at| slab[at % rows * columns + at / rows]).collect();
+    let mut work: Vec<f64> = (0..rows * columns)
+        .map(|at| slab[at % rows * columns + at / rows])
+        .collect();
     let mut basis = tt_dense_expm::mat_eye(columns);
     let passes = sweep_all(&mut work, &mut basis, rows, columns);
     if !passes.finite {
@@ -136,7 +165,10 @@ pub fn pair(state: &mut TtState<f64>, eps: f64) -> Result<usize, Refused> {
     let (_, values, rank) = tt_dense_expm::sort_sv_descending(&work, rows, columns, eps);
     demand_finite(&values, 0)?;
     tt_coupled_pair::split_slab_into_cores(state, 0, 1, &slab, rl, rr, nj, nk, nj * nk, eps);
-    assert!(state.cores[0].r_right == rank, "the pair's rank is not the Rust's");
+    assert!(
+        state.cores[0].r_right == rank,
+        "the pair's rank is not the Rust's"
+    );
     if rank > 8 {
         return Err(Refused::Rank(rank));
     }

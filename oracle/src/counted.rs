@@ -65,7 +65,11 @@ fn sweep(g: &mut [f64], v: &mut [f64], n: usize) -> bool {
 /// The columns of v in the order of the falling values.
 fn in_order(values: &[f64], v: &[f64], n: usize) -> (Vec<f64>, Vec<f64>) {
     let mut order: Vec<usize> = (0..n).collect();
-    order.sort_by(|&a, &b| values[b].partial_cmp(&values[a]).unwrap_or(core::cmp::Ordering::Equal));
+    order.sort_by(|&a, &b| {
+        values[b]
+            .partial_cmp(&values[a])
+            .unwrap_or(core::cmp::Ordering::Equal)
+    });
     let sorted = order.iter().map(|&i| values[i]).collect();
     let columns = (0..n * n).map(|at| v[at / n * n + order[at % n]]).collect();
     (sorted, columns)
@@ -84,8 +88,15 @@ pub fn gram_ev(a: &[f64], m: usize, n: usize) -> Sweeps {
     let values: Vec<f64> = (0..n).map(|i| g[i * n + i].max(0.0).sqrt()).collect();
     let (sorted, columns) = in_order(&values, &v, n);
     let (rust_values, rust_columns) = tt_core::jacobi_gram_ev(a, m, n);
-    assert!(same(&sorted, &rust_values) && same(&columns, &rust_columns), "gram_ev is not the Rust's");
-    Sweeps { made, settled: settled(&g, n), finite: finite && all_finite(&values) }
+    assert!(
+        same(&sorted, &rust_values) && same(&columns, &rust_columns),
+        "gram_ev is not the Rust's"
+    );
+    Sweeps {
+        made,
+        settled: settled(&g, n),
+        finite: finite && all_finite(&values),
+    }
 }
 
 /// What `jacobi_sweep_all` did.
@@ -113,7 +124,8 @@ fn pass(work: &mut [f64], v: &mut [f64], m: usize, n: usize) -> (bool, bool) {
             }
             quiet = false;
             tt_dense_expm::apply_jacobi_rotation(work, v, m, n, p, q, 2.0, alpha, bp, bq);
-            finite &= all_finite(&work[p * m..(p + 1) * m]) && all_finite(&work[q * m..(q + 1) * m]);
+            finite &=
+                all_finite(&work[p * m..(p + 1) * m]) && all_finite(&work[q * m..(q + 1) * m]);
             finite &= all_finite(&v[p * n..(p + 1) * n]) && all_finite(&v[q * n..(q + 1) * n]);
         }
     }
@@ -133,6 +145,9 @@ pub fn sweep_all(work: &mut [f64], v: &mut [f64], m: usize, n: usize) -> Passes 
         finite &= whole;
         made += 1;
     }
-    assert!(same(work, &rust_work) && same(v, &rust_v), "sweep_all is not the Rust's");
+    assert!(
+        same(work, &rust_work) && same(v, &rust_v),
+        "sweep_all is not the Rust's"
+    );
     Passes { made, finite }
 }

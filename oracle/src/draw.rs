@@ -91,12 +91,16 @@ fn number(r: &mut Random, manner: Manner) -> f64 {
 /// Columns 1 and on, made from those before.
 fn relate(r: &mut Random, manner: Manner, rows: usize, columns: usize, data: &mut [f64]) {
     let kept = 1 + r.below(columns);
-    let factors: Vec<f64> = (0..columns).map(|_| r.of(&[1.0, -1.0, 2.0, 0.0, 0.3])).collect();
+    let factors: Vec<f64> = (0..columns)
+        .map(|_| r.of(&[1.0, -1.0, 2.0, 0.0, 0.3]))
+        .collect();
     for row in 0..rows {
         for j in 0..columns {
             let at = row * columns + j;
             data[at] = match manner {
-                Manner::Level if row % columns == j && row < rows / columns.min(rows) * columns => r.of(&[1.0, -1.0]),
+                Manner::Level if row % columns == j && row < rows / columns.min(rows) * columns => {
+                    r.of(&[1.0, -1.0])
+                }
                 Manner::Level => zero(r),
                 Manner::Deficient if j >= kept => data[row * columns + j % kept] * factors[j],
                 Manner::Near if j > 0 => data[row * columns] + r.signed() * 1e-9,
@@ -107,12 +111,24 @@ fn relate(r: &mut Random, manner: Manner, rows: usize, columns: usize, data: &mu
     }
 }
 
-pub fn core(r: &mut Random, manner: Manner, scale: f64, r_left: usize, n: usize, r_right: usize) -> TtCore<f64> {
+pub fn core(
+    r: &mut Random,
+    manner: Manner,
+    scale: f64,
+    r_left: usize,
+    n: usize,
+    r_right: usize,
+) -> TtCore<f64> {
     let rows = r_left * n;
     let mut data: Vec<f64> = (0..rows * r_right).map(|_| number(r, manner)).collect();
     relate(r, manner, rows, r_right, &mut data);
     data.iter_mut().for_each(|x| *x *= scale);
-    TtCore { r_left, n, r_right, data }
+    TtCore {
+        r_left,
+        n,
+        r_right,
+        data,
+    }
 }
 
 /// The scales of the cores: 1, or powers of ten whose product stays within 1e-160 to 1e150, or any such powers.
@@ -136,7 +152,9 @@ pub fn scales(r: &mut Random, cores: usize) -> Vec<f64> {
 pub fn manners(r: &mut Random, cores: usize) -> Vec<Manner> {
     let one = r.of(&MANNERS);
     let each = r.one_in(3);
-    (0..cores).map(|_| if each { r.of(&MANNERS) } else { one }).collect()
+    (0..cores)
+        .map(|_| if each { r.of(&MANNERS) } else { one })
+        .collect()
 }
 
 pub fn chain(r: &mut Random, most: &Most) -> Vec<TtCore<f64>> {
@@ -161,7 +179,13 @@ pub fn chain(r: &mut Random, most: &Most) -> Vec<TtCore<f64>> {
 /// One list of numbers an axis, as long as its core's n.
 pub fn weights(r: &mut Random, cores: &[TtCore<f64>]) -> Vec<Vec<f64>> {
     let way = r.below(6);
-    let manner = r.of(&[Manner::Plain, Manner::Whole, Manner::Mixed, Manner::Wild, Manner::Sparse]);
+    let manner = r.of(&[
+        Manner::Plain,
+        Manner::Whole,
+        Manner::Mixed,
+        Manner::Wild,
+        Manner::Sparse,
+    ]);
     let list = |r: &mut Random, n: usize| {
         let unit = r.below(n);
         (0..n)
@@ -177,12 +201,16 @@ pub fn weights(r: &mut Random, cores: &[TtCore<f64>]) -> Vec<Vec<f64>> {
 
 pub fn eps(r: &mut Random) -> f64 {
     let any = r.unit();
-    r.of(&[0.0, 0.0, 0.0, -0.0, 1e-12, 1e-12, 1e-3, 0.5, 0.5, 1.0, 2.0, any, 1e300])
+    r.of(&[
+        0.0, 0.0, 0.0, -0.0, 1e-12, 1e-12, 1e-3, 0.5, 0.5, 1.0, 2.0, any, 1e300,
+    ])
 }
 
 pub fn tau(r: &mut Random) -> f64 {
     let any = r.unit();
-    r.of(&[1.0, 1.0, 1.0, 1.0, 0.5, 0.25, any, any, 0.01, 0.0, -0.0, 1e10, 1e-300])
+    r.of(&[
+        1.0, 1.0, 1.0, 1.0, 0.5, 0.25, any, any, 0.01, 0.0, -0.0, 1e10, 1e-300,
+    ])
 }
 
 pub fn reaction(r: &mut Random) -> f64 {
@@ -216,7 +244,10 @@ fn speeds(r: &mut Random, tau: f64) -> (f64, f64) {
     match r.below(15) {
         0..=4 => (r.unit(), 0.0),
         5..=7 => (r.unit(), r.signed()),
-        8 => (0.25 * f64::from(r.between(0, 9)), f64::from(r.between(-3, 3))),
+        8 => (
+            0.25 * f64::from(r.between(0, 9)),
+            f64::from(r.between(-3, 3)),
+        ),
         9 => (0.25, 0.0),
         10 => (zero(r), zero(r)),
         11 => (0.0, -r.unit()),
@@ -228,9 +259,19 @@ fn speeds(r: &mut Random, tau: f64) -> (f64, f64) {
 
 /// With a tau of 1, shifts about 2^31 points, the most there may be, and those that overflow or cancel at infinity.
 fn edge(r: &mut Random, n: usize) -> Axis {
-    let far = r.of(&[2147483648.0, 2147483648.0, 2147483647.5, 2147483648.0000005, 1e308]);
+    let far = r.of(&[
+        2147483648.0,
+        2147483648.0,
+        2147483647.5,
+        2147483648.0000005,
+        1e308,
+    ]);
     let (a, b) = (r.of(&[0.0, 0.0, 0.0, 1e308]), r.of(&[1.0, -1.0]) * far);
-    Axis { a, b, domain: (0.0, n as f64 - 1.0) }
+    Axis {
+        a,
+        b,
+        domain: (0.0, n as f64 - 1.0),
+    }
 }
 
 pub fn axis(r: &mut Random, tau: f64, n: usize) -> Axis {
@@ -238,23 +279,45 @@ pub fn axis(r: &mut Random, tau: f64, n: usize) -> Axis {
         return edge(r, n);
     }
     let (a, b) = speeds(r, tau);
-    Axis { a, b, domain: domain(r, n) }
+    Axis {
+        a,
+        b,
+        domain: domain(r, n),
+    }
 }
 
 /// Two neighbouring cores whose slab has 1 to 64 rows and columns.
 pub fn pair(r: &mut Random, most: &Most) -> [TtCore<f64>; 2] {
-    let (left, middle, right) = (count(r, most.rank), count(r, most.rank), count(r, most.rank));
+    let (left, middle, right) = (
+        count(r, most.rank),
+        count(r, most.rank),
+        count(r, most.rank),
+    );
     let nj = count(r, most.size / left.min(most.size));
     let nk = count(r, most.size / right.min(most.size));
     let (scales, manners) = (scales(r, 2), manners(r, 2));
-    [core(r, manners[0], scales[0], left, nj, middle), core(r, manners[1], scales[1], middle, nk, right)]
+    [
+        core(r, manners[0], scales[0], left, nj, middle),
+        core(r, manners[1], scales[1], middle, nk, right),
+    ]
 }
 
 /// Any bit pattern that IEEE 754 has, and those about which a root or a floor turns.
 pub fn any_float(r: &mut Random) -> f64 {
     let bits = r.next();
     let small = r.between(-4000, 4000);
-    let special = [0.0, -0.0, 1.0, -1.0, f64::INFINITY, f64::NEG_INFINITY, f64::NAN, f64::MAX, f64::MIN_POSITIVE, 5e-324];
+    let special = [
+        0.0,
+        -0.0,
+        1.0,
+        -1.0,
+        f64::INFINITY,
+        f64::NEG_INFINITY,
+        f64::NAN,
+        f64::MAX,
+        f64::MIN_POSITIVE,
+        5e-324,
+    ];
     match r.below(8) {
         0..=2 => f64::from_bits(bits),
         3 => f64::from_bits(bits >> 1),
@@ -283,5 +346,15 @@ pub fn fraction(r: &mut Random) -> f64 {
     let any = r.unit();
     let low = any * ten_to(r.between(-40, 0));
     let eighths = f64::from(r.between(0, 8)) / 8.0;
-    r.of(&[any, any, any, low, eighths, 0.0, 1.0, 1.0 - f64::EPSILON / 2.0, f64::MIN_POSITIVE])
+    r.of(&[
+        any,
+        any,
+        any,
+        low,
+        eighths,
+        0.0,
+        1.0,
+        1.0 - f64::EPSILON / 2.0,
+        f64::MIN_POSITIVE,
+    ])
 }

@@ -33,7 +33,10 @@ fn ended(line: &mut Line, cores: &[TtCore<f64>], end: Result<Bonds, Refused>) {
         Ok(bonds) => {
             let ranks: Vec<usize> = cores.iter().map(|c| c.r_right).collect();
             let settled: Vec<u8> = bonds.settled.iter().map(|&b| u8::from(b)).collect();
-            line.words("ranks", &ranks).words("sweeps", &bonds.sweeps).words("settled", &settled).chain(cores);
+            line.words("ranks", &ranks)
+                .words("sweeps", &bonds.sweeps)
+                .words("settled", &settled)
+                .chain(cores);
         }
     }
 }
@@ -47,9 +50,14 @@ fn round(r: &mut Random, most: &Most, line: &mut Line) {
 }
 
 fn inner(r: &mut Random, most: &Most, line: &mut Line) {
-    let state = TtState { cores: draw::chain(r, most) };
+    let state = TtState {
+        cores: draw::chain(r, most),
+    };
     let weights = draw::weights(r, &state.cores);
-    line.shape(&state.cores).chain(&state.cores).floats("weights", &weights.concat()).answer();
+    line.shape(&state.cores)
+        .chain(&state.cores)
+        .floats("weights", &weights.concat())
+        .answer();
     match calls::inner(&state, &weights) {
         Ok(figure) => _ = line.float("figure", figure),
         Err(why) => refused(line, &why),
@@ -59,9 +67,16 @@ fn inner(r: &mut Random, most: &Most, line: &mut Line) {
 /// The rule of a step over these cores, written as well.
 fn rule(r: &mut Random, tau: f64, cores: &[TtCore<f64>], line: &mut Line) -> TtChernoff<f64> {
     let axes: Vec<Axis> = cores.iter().map(|c| draw::axis(r, tau, c.n)).collect();
-    let records: Vec<f64> = axes.iter().flat_map(|x| [x.a, x.b, x.domain.0, x.domain.1]).collect();
+    let records: Vec<f64> = axes
+        .iter()
+        .flat_map(|x| [x.a, x.b, x.domain.0, x.domain.1])
+        .collect();
     let (c, eps) = (draw::reaction(r), draw::eps(r));
-    line.shape(cores).floats("axes", &records).float("c", c).float("eps", eps).chain(cores);
+    line.shape(cores)
+        .floats("axes", &records)
+        .float("c", c)
+        .float("eps", eps)
+        .chain(cores);
     TtChernoff::new(
         axes.iter().map(|x| x.a).collect(),
         axes.iter().map(|x| x.b).collect(),
@@ -72,7 +87,9 @@ fn rule(r: &mut Random, tau: f64, cores: &[TtCore<f64>], line: &mut Line) -> TtC
 }
 
 fn step(r: &mut Random, most: &Most, line: &mut Line) {
-    let mut state = TtState { cores: draw::chain(r, most) };
+    let mut state = TtState {
+        cores: draw::chain(r, most),
+    };
     let tau = draw::tau(r);
     let rule = rule(r, tau, &state.cores, line);
     line.float("tau", tau).answer();
@@ -81,25 +98,39 @@ fn step(r: &mut Random, most: &Most, line: &mut Line) {
 }
 
 fn evolve(r: &mut Random, most: &Most, line: &mut Line) {
-    let mut state = TtState { cores: draw::chain(r, most) };
+    let mut state = TtState {
+        cores: draw::chain(r, most),
+    };
     let steps = draw::count(r, most.steps);
     let tau = draw::tau(r);
     let t_final = tau * steps as f64;
     let rule = rule(r, tau, &state.cores, line);
-    line.float("t_final", t_final).word("steps").word(steps).answer();
+    line.float("t_final", t_final)
+        .word("steps")
+        .word(steps)
+        .answer();
     let end = calls::evolve(&rule, t_final, steps, &mut state);
     ended(line, &state.cores, end);
 }
 
 fn pair(r: &mut Random, most: &Most, line: &mut Line) {
-    let mut state = TtState { cores: draw::pair(r, most).to_vec() };
+    let mut state = TtState {
+        cores: draw::pair(r, most).to_vec(),
+    };
     let eps = draw::eps(r);
-    line.shape(&state.cores).float("eps", eps).chain(&state.cores).answer();
+    line.shape(&state.cores)
+        .float("eps", eps)
+        .chain(&state.cores)
+        .answer();
     match calls::pair(&mut state, eps) {
         Err(why) => refused(line, &why),
         Ok(passes) => {
-            line.word("rank").word(state.cores[0].r_right).word("passes").word(passes);
-            line.floats("left", &state.cores[0].data).floats("right", &state.cores[1].data);
+            line.word("rank")
+                .word(state.cores[0].r_right)
+                .word("passes")
+                .word(passes);
+            line.floats("left", &state.cores[0].data)
+                .floats("right", &state.cores[1].data);
         }
     }
 }
@@ -110,11 +141,17 @@ fn root(r: &mut Random, _: &Most, line: &mut Line) {
 }
 
 fn floor(r: &mut Random, _: &Most, line: &mut Line) {
-    let x = if r.one_in(2) { draw::any_float(r) } else { draw::near_whole(r) };
+    let x = if r.one_in(2) {
+        draw::any_float(r)
+    } else {
+        draw::near_whole(r)
+    };
     line.float("x", x).answer().float("value", x.floor());
 }
 
 fn weights(r: &mut Random, _: &Most, line: &mut Line) {
     let t = draw::fraction(r);
-    line.float("t", t).answer().floats("weights", &cubic_band_weights(t));
+    line.float("t", t)
+        .answer()
+        .floats("weights", &cubic_band_weights(t));
 }

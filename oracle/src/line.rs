@@ -16,7 +16,11 @@ impl Line {
 
     /// Every NaN is written as one, since IEEE 754 doesn't say which it is.
     fn bits(&mut self, x: f64) -> &mut Line {
-        let x = if x.is_nan() { f64::from_bits(0x7ff8_0000_0000_0000) } else { x };
+        let x = if x.is_nan() {
+            f64::from_bits(0x7ff8_0000_0000_0000)
+        } else {
+            x
+        };
         self.word(format_args!("{:016x}", x.to_bits()))
     }
 
@@ -52,7 +56,13 @@ impl Line {
 
     /// the cores' numbers without gaps
     pub fn chain(&mut self, cores: &[TtCore<f64>]) -> &mut Line {
-        self.floats("chain", &cores.iter().flat_map(|c| c.data.clone()).collect::<Vec<f64>>())
+        self.floats(
+            "chain",
+            &cores
+                .iter()
+                .flat_map(|c| c.data.clone())
+                .collect::<Vec<f64>>(),
+        )
     }
 
     /// what follows is the answer

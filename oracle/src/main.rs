@@ -18,17 +18,43 @@ const USAGE: &str = "usage: oracle KIND SEED COUNT [CORES SIZE RANK STEPS]
 fn main() {
     let words: Vec<String> = std::env::args().skip(1).collect();
     let numbers: Option<Vec<usize>> = words.iter().skip(1).map(|w| w.parse().ok()).collect();
-    let kind = kinds::KINDS.iter().find(|k| words.first().is_some_and(|w| w == k.0));
-    let (Some(&(name, draw)), Some(numbers)) = (kind, numbers) else { return eprintln!("{USAGE}") };
+    let kind = kinds::KINDS
+        .iter()
+        .find(|k| words.first().is_some_and(|w| w == k.0));
+    let (Some(&(name, draw)), Some(numbers)) = (kind, numbers) else {
+        return eprintln!("{USAGE}");
+    };
     let (seed, count, most) = match numbers[..] {
-        [seed, count] => (seed, count, Most { cores: 16, size: 64, rank: 8, steps: 200 }),
-        [seed, count, cores, size, rank, steps] => (seed, count, Most { cores, size, rank, steps }),
+        [seed, count] => (
+            seed,
+            count,
+            Most {
+                cores: 16,
+                size: 64,
+                rank: 8,
+                steps: 200,
+            },
+        ),
+        [seed, count, cores, size, rank, steps] => (
+            seed,
+            count,
+            Most {
+                cores,
+                size,
+                rank,
+                steps,
+            },
+        ),
         _ => return eprintln!("{USAGE}"),
     };
     let mut out = BufWriter::new(std::io::stdout().lock());
     for index in 0..count {
         let mut line = Line::of_case(name, index);
-        draw(&mut Random::of_case(seed as u64, name, index), &most, &mut line);
+        draw(
+            &mut Random::of_case(seed as u64, name, index),
+            &most,
+            &mut line,
+        );
         if writeln!(out, "{}", line.text()).is_err() {
             return;
         }
