@@ -10,6 +10,7 @@ pub mod Demands
 pub mod Picks
 pub mod Counts
 pub mod Over
+pub mod Parts
 pub mod Seen
 -- tests, and lists of f64
 pub mod Tests

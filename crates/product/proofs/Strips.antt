@@ -106,3 +106,23 @@ contract-flat core rr f eta =
 pub contract-end : (core : List Float) (rr : ℕ) (f eta : List Float) (j : ℕ) (o u : List Float) → u ≡ rowTo 0 (newSum core rr f eta) 0 j o → j ≤ rr → rr ≤ j → rr ≤ length o
     → u ≡ contract (coreWith (length eta) (length f) rr core) f eta ++ drop rr o
 contract-end core rr f eta j o u d g h l = row-whole 0 (newSum core rr f eta) j rr o u d g h ∙ stored-tab rr (newSum core rr f eta) o l ∙ ap (λ (x : List Float). x ++ drop rr o) (sym (contract-flat core rr f eta))
+
+-- ---- one axis: the new sums, all finite, stand where the old ones stood
+contract-length : (core : List Float) (rl n rr : ℕ) (f eta : List Float) → length (contract (coreWith rl n rr core) f eta) ≡ rr
+unfolding contract
+contract-length core rl n rr f eta = length-tab rr _
+
+pub axis-end : (core : List Float) (rl rr : ℕ) (f eta next after back rest : List Float) (r : Stage) → rl ≤ length eta
+    → after ≡ contract (coreWith (length (take rl eta)) (length f) rr core) f (take rl eta) ++ drop rr next
+    → r ≡ stageOf (stored (take rr after)) → back ≡ take rr after
+    → stored (contract (coreWith rl (length f) rr core) f (take rl eta)) ≡ staged r (take rr (back ++ rest))
+axis-end core rl rr f eta next after back rest r h e s b =
+    let x = contract (coreWith rl (length f) rr core) f (take rl eta) in
+    let n : length (take rl eta) ≡ rl = length-take-le rl eta h in
+    let a : after ≡ x ++ drop rr next = e ∙ ap (λ (m : ℕ). contract (coreWith m (length f) rr core) f (take rl eta) ++ drop rr next) n in
+    let t : take rr after ≡ x = ap (take rr) a ∙ take-at x (drop rr next) rr (contract-length core rl (length f) rr f (take rl eta)) in
+    let w : take rr (back ++ rest) ≡ x = ap (λ (l : List Float). take rr (l ++ rest)) (b ∙ t) ∙ take-at x rest rr (contract-length core rl (length f) rr f (take rl eta)) in
+    stage-of r (stored x) (s ∙ ap (λ (l : List Float). stageOf (stored l)) t) (λ y q. sym (stored-is x y q .0)) ∙ ap (staged r) (sym w)
+  where
+    stage-of : (r : Stage) (o : Made (List Float)) → r ≡ stageOf o → ((y : List Float) → o ≡ done y → y ≡ contract (coreWith rl (length f) rr core) f (take rl eta)) → o ≡ staged r (contract (coreWith rl (length f) rr core) f (take rl eta))
+    stage-of r o e q = ?

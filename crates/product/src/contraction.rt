@@ -3,10 +3,12 @@
 ghost use mathlib.Core.Path.{_≡_};
 ghost use mathlib.Core.List.{_++_};
 ghost use Prim.Native.Nat.{ℕ, _+_, _*_, _≤_};
-ghost use lib.ListN.{length, drop};
+ghost use lib.ListN.{length, take, drop};
 ghost use Rattle.numbers.specs.Arithmetic.{times};
-ghost use Rattle.lists.specs.Floats.{at};
+ghost use Rattle.answers.specs.Outcome.{staged};
+ghost use Rattle.lists.specs.Floats.{at, stored};
 ghost use Rattle.lists.specs.Strips.{stripWidth, addedIn, storedFrom};
+ghost use Rattle.shape.specs.Limits.{mostRank};
 ghost use Rattle.shape.specs.Cores.{coreWith};
 ghost use Rattle.product.specs.Product.{contract};
 ghost use Rattle.product.specs.Loops.{pointsIn, newSum};
@@ -77,4 +79,16 @@ pub fn contract_step(core: &[f64], rr: usize, f: &[f64], eta: &[f64], out: &mut 
         strip(core, rr, f, eta, j, 1, out);
         j += 1;
     }
+}
+
+// One axis: the sums in the first rl places of eta become the new sums in its first rr, if these are all finite.
+pub fn sum_axis(core: &[f64], rl: usize, rr: usize, f: &[f64], eta: &mut [f64]) -> answers::Stage
+    requires { ⌜ (rl * (length (now f) * rr) ≤ length (now core)) × (rl ≤ length (now eta)) × (rr ≤ length (now eta)) × (rr ≤ mostRank) × (1 ≤ rl) × (1 ≤ length (now f)) ⌝ }
+    ensures { λ r. ⌜ stored (contract (coreWith rl (length (now (f .entry))) rr (now (core .entry))) (now (f .entry)) (take rl (now (eta .entry)))) ≡ staged r (take rr (now (eta .exit))) ⌝ }
+{
+    let mut next = [0.0; shape::MOST_RANK];
+    contract_step(core, rr, f, &eta[..rl], &mut next);
+    let r = lists::stored(&next[..rr]);
+    lists::copy(&next[..rr], &mut eta[..rr]);
+    r
 }
