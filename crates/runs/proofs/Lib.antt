@@ -1,0 +1,12 @@
+pub mod Sound
+pub mod Trace
+pub mod Held
+pub mod Before
+pub mod Same
+pub mod Found
+pub mod OneRequest
+pub mod Accepted
+pub mod Demand3
+pub mod Rules
+pub mod Untouched
+pub mod StepThenInner
