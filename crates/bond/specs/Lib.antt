@@ -3,3 +3,4 @@ pub mod Sweeps
 pub mod Iteration
 pub mod Values
 pub mod Bonds
+pub mod Products
