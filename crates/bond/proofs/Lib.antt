@@ -2,3 +2,4 @@ pub mod Counted
 pub mod Made
 pub mod Examples
 pub mod Strips
+pub mod Cores
