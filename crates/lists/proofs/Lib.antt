@@ -4,6 +4,8 @@ pub mod Tables
 -- loops: what a turn more, the end and an early return say
 pub mod Turns
 pub mod Loops
+pub mod Pairs
+pub mod Stages
 pub mod Firsts
 pub mod Picks
 pub mod Counts
