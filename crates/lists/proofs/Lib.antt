@@ -4,6 +4,7 @@ pub mod Tables
 -- loops: what a turn more, the end and an early return say
 pub mod Turns
 pub mod Loops
+pub mod Altered
 pub mod Pairs
 pub mod Stages
 pub mod Firsts
