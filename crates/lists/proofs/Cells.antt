@@ -1,6 +1,6 @@
 -- Row-major indices: bounds, and what fits a machine word. Assumes nothing.
 use Prim.Native.Nat.{ℕ, suc, _+_, _*_, _<_, _≤_, _^_}
-use native.Mathlib.Nat.{mul-le-mul-right, suc-mul}
+use native.Mathlib.Nat.{mul-le-mul-right, suc-mul, le-of-eq}
 use native.Mathlib.Omega.{arith}
 use mathlib.Core.Path.{_≡_, sym, ap}
 use mir.Syntax.{w64}
@@ -51,3 +51,22 @@ cell-row i j n x y p q e =
 
 pub cell-column : (i j n x y : ℕ) → x < n → y < n → i * n + x ≡ j * n + y → x ≡ y
 cell-column i j n x y p q e = let r = ap (λ (k : ℕ). k * n) (cell-row i j n x y p q e) in omega arith
+
+-- ---- the same in a list of exactly m rows of n
+module _ (k m n i l : ℕ) (e : l ≡ m * n) (p : k < m) (q : i < n) where
+  pub exact-lt : k * n + i < l
+  exact-lt = cell-lt k m n i l p q (le-of-eq (sym e))
+
+  pub exact-fits : l < 2 ^ 64 → Fits w64 (k * n + i)
+  exact-fits s = record { fits = omega (arith, exact-lt) }
+
+  pub exact-scaled : l * 8 < 2 ^ 63 → Fits w64 ((k * n + i) * 8)
+  exact-scaled s = record { fits = omega (arith, exact-lt) }
+
+pub exact-row : (k m n l : ℕ) → l ≡ m * n → k < m → l < 2 ^ 64 → Fits w64 (k * n)
+exact-row k m n l e p s = row-fits k m n l p (le-of-eq (sym e)) s
+
+pub exact-end : (k m n l : ℕ) → l ≡ m * n → k < m → k * n + n ≤ l
+exact-end k m n l e p = row-end k m n l p (le-of-eq (sym e))
+
+pub ruleset exacts = (exact-lt, exact-fits, exact-scaled, exact-row, exact-end)
