@@ -3,3 +3,5 @@ pub mod Made
 pub mod Examples
 pub mod Strips
 pub mod Cores
+pub mod Turned
+pub mod Rotations

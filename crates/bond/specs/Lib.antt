@@ -4,3 +4,4 @@ pub mod Iteration
 pub mod Values
 pub mod Bonds
 pub mod Products
+pub mod Pairs

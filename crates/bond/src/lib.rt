@@ -7,6 +7,8 @@ ghost use Rattle.shape.specs.Cores.{coreWith};
 ghost use Rattle.bond.specs.Bonds.{gram, absorb};
 
 pub mod products;
+pub mod rotation;
+pub mod sweeps;
 
 // The Gram matrix of a core's rows.
 pub fn gram(core: &[f64], rl: usize, n: usize, rr: usize, g: &mut [f64])
