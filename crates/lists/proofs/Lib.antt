@@ -5,6 +5,9 @@ pub mod Tables
 pub mod Turns
 pub mod Loops
 pub mod Strips
+pub mod Altered
+pub mod Pairs
+pub mod Stages
 pub mod Firsts
 pub mod Demands
 pub mod Picks
