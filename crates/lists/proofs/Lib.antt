@@ -5,6 +5,7 @@ pub mod Tables
 pub mod Turns
 pub mod Firsts
 pub mod Picks
+pub mod Counts
 pub mod Over
 pub mod Seen
 -- tests, and lists of f64
@@ -13,4 +14,5 @@ pub mod Floats
 pub mod Sums
 -- slots and walks
 pub mod Slots
+pub mod Written
 pub mod Walks
