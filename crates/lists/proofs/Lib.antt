@@ -3,6 +3,8 @@ pub mod Cells
 pub mod Tables
 -- loops: what a turn more, the end and an early return say
 pub mod Turns
+pub mod Loops
+pub mod Strips
 pub mod Firsts
 pub mod Picks
 pub mod Counts
