@@ -4,16 +4,20 @@ use mathlib.Core.List.{List, _++_}
 use Prim.Native.Nat.{ℕ, zero, suc, _+_, _*_, _<_, _≤_, _^_}
 use native.Mathlib.Nat.{mul-le-mul-right, suc-mul, one-mul, mul-assoc, add-assoc, le-antisymm}
 use native.Mathlib.Omega.{arith}
-use lib.ListN.{length, drop, replicate, getD-replicate}
+use lib.ListN.{length, take, drop, replicate, getD-replicate}
+use lib.Seq.{length-take-le, take-at}
 use lib.Ieee.{Float, nan}
 use mir.Syntax.{w64}
 use mir.Val.{Fits}
+use Rattle.answers.specs.declared.Stage.{Stage}
+use Rattle.answers.specs.Outcome.{stageOf, staged}
 use Rattle.numbers.specs.Arithmetic.{plus, times, zero64}
 use Rattle.lists.specs.Lists.{iter, tab}
-use Rattle.lists.specs.Floats.{at, sumOn, sumRows}
+use Rattle.lists.specs.Floats.{at, sumOn, sumRows, stored}
 use Rattle.lists.specs.Strips.{stripWidth, addedIn, storedFrom}
 use Rattle.lists.proofs.Loops.{iter-same}
-use Rattle.lists.proofs.Tables.{iter-keeps, listed-same}
+use Rattle.lists.proofs.Tables.{iter-keeps, listed-same, length-tab}
+use Rattle.lists.proofs.Stages.{stored-staged}
 use Rattle.lists.proofs.Strips.{added-length, added-at, stored-same, stored-tab, rowTo, row-whole}
 use Rattle.shape.specs.Cores.{coreWith, place, entry}
 use Rattle.product.specs.Product.{contract}
@@ -122,7 +126,4 @@ axis-end core rl rr f eta next after back rest r h e s b =
     let a : after ≡ x ++ drop rr next = e ∙ ap (λ (m : ℕ). contract (coreWith m (length f) rr core) f (take rl eta) ++ drop rr next) n in
     let t : take rr after ≡ x = ap (take rr) a ∙ take-at x (drop rr next) rr (contract-length core rl (length f) rr f (take rl eta)) in
     let w : take rr (back ++ rest) ≡ x = ap (λ (l : List Float). take rr (l ++ rest)) (b ∙ t) ∙ take-at x rest rr (contract-length core rl (length f) rr f (take rl eta)) in
-    stage-of r (stored x) (s ∙ ap (λ (l : List Float). stageOf (stored l)) t) (λ y q. sym (stored-is x y q .0)) ∙ ap (staged r) (sym w)
-  where
-    stage-of : (r : Stage) (o : Made (List Float)) → r ≡ stageOf o → ((y : List Float) → o ≡ done y → y ≡ contract (coreWith rl (length f) rr core) f (take rl eta)) → o ≡ staged r (contract (coreWith rl (length f) rr core) f (take rl eta))
-    stage-of r o e q = ?
+    stored-staged x r (s ∙ ap (λ (l : List Float). stageOf (stored l)) t) ∙ ap (staged r) (sym w)
