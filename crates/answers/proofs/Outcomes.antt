@@ -57,3 +57,8 @@ module _ {A : Type 0} where
   unfolding answered
   answered-told Fits a = refl
   answered-told (Refused r) a = refl
+
+  -- where the verdict is that it fits, there is an answer
+  pub fits-done : (o : Answer A) → verdictOf o ≡ Fits → (a : A) × (o ≡ done a)
+  fits-done (done a) e = (a, refl)
+  fits-done (refused r) e = let z : _≡_ {A = ℕ} 0 1 = cc in let n : ⊥ = omega arith in absurd n

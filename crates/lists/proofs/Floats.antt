@@ -6,8 +6,9 @@ use mathlib.Core.Bool.{Bool, true, false, cond, not, _&&_, true≢false}
 use mathlib.Core.List.{List, [], _∷_, _++_}
 use lib.ListN.{length, take, drop, getD, replicate}
 use lib.Ieee.{Float, ofBits}
-use Rattle.answers.specs.Outcome.{done, refused, Made}
-use Rattle.answers.proofs.Outcomes.{done-inj, done-refused}
+use Rattle.answers.specs.declared.Part.{Part}
+use Rattle.answers.specs.Outcome.{done, refused, Made, making}
+use Rattle.answers.proofs.Outcomes.{done-inj, done-refused, making-is}
 use Rattle.numbers.specs.Arithmetic.{zero64}
 use Rattle.numbers.specs.Finite.{finite}
 use Rattle.lists.specs.Lists.{pick}
@@ -59,3 +60,7 @@ stored-is l m h = go (allFinite l) refl h
     go : (b : Bool) → allFinite l ≡ b → _≡_ {A = Made (List Float)} (pick b (done l) (refused (firstNotFinite l))) (done m) → (l ≡ m) × (allFinite m ≡ true)
     go true e h = (done-inj h, ap allFinite (sym (done-inj h)) ∙ e)
     go false e h = absurd (done-refused (sym h))
+
+-- also where they were stored for core k
+pub making-stored : (part : Part) (k : ℕ) (l m : List Float) → making part k (stored l) ≡ done m → (l ≡ m) × (allFinite m ≡ true)
+making-stored part k l m h = stored-is l m (making-is part k (stored l) m h)

@@ -3,10 +3,17 @@ pub mod Cells
 pub mod Tables
 -- loops: what a turn more, the end and an early return say
 pub mod Turns
+pub mod Loops
+pub mod Strips
+pub mod Altered
+pub mod Pairs
+pub mod Stages
 pub mod Firsts
 pub mod Demands
 pub mod Picks
+pub mod Counts
 pub mod Over
+pub mod Parts
 pub mod Seen
 -- tests, and lists of f64
 pub mod Tests
@@ -14,4 +21,5 @@ pub mod Floats
 pub mod Sums
 -- slots and walks
 pub mod Slots
+pub mod Written
 pub mod Walks

@@ -1,8 +1,8 @@
--- Laws of sums from the left: a sum of which all terms but one are zeros, and what a finite sum says of its terms. Assumes nothing.
+-- Laws of sums from the left: a sum of which all terms but one are zeros, what a finite sum says of its terms, and rows summed as one. Assumes nothing.
 use mathlib.Core.Path.{_≡_, refl, sym, ap, _∙_, subst}
 use mathlib.Core.Logic.{⊎-elim}
-use Prim.Native.Nat.{ℕ, zero, suc, _<_}
-use native.Mathlib.Nat.{eq-or-lt-of-le, le-of-suc-le-suc, not-suc-le-zero, le-refl}
+use Prim.Native.Nat.{ℕ, zero, suc, _+_, _*_, _<_}
+use native.Mathlib.Nat.{eq-or-lt-of-le, le-of-suc-le-suc, not-suc-le-zero, le-refl, zero-mul, suc-mul}
 use native.Mathlib.Omega.{arith}
 use mathlib.Core.Bool.{Bool, true, false, true≢false}
 use lib.Dec.{T}
@@ -15,7 +15,9 @@ use Rattle.numbers.specs.Zeros.{Alike}
 use Rattle.numbers.proofs.Constants.{zero-is}
 use Rattle.numbers.proofs.Zeros.{times-zero, alike-refl, alike-trans, alike-plus, plus-zero-alike}
 use Rattle.numbers.proofs.Finite.{plus-lasts, lasts-plus, times-lasts}
-use Rattle.lists.specs.Floats.{sumOn}
+use Rattle.lists.specs.Lists.{iter}
+use Rattle.lists.specs.Floats.{sumOn, sumTo, sumRows}
+use Rattle.lists.proofs.Loops.{iter-same, iter-add}
 
 -- x is an f64
 abbrev pub Fits : Float → Type 0
@@ -86,3 +88,17 @@ pub times-none : (p : Float) → finite (times p zero64) ≡ true → Zero (time
 times-none nan h = absurd (true≢false (sym (times-finite nan zero64 h)))
 times-none (inf s) h = absurd (true≢false (sym (times-finite (inf s) zero64 h)))
 times-none (fin s m e) h = (_, ap (times (fin s m e)) zero-is ∙ times-zero s m e false)
+
+-- ---- sums of the same terms; rows of terms are summed as one row
+pub sum-same : (k : ℕ) (t u : ℕ → Float) → ((i : ℕ) → i < k → t i ≡ u i) → sumTo k t ≡ sumTo k u
+unfolding sumTo sumOn
+sum-same k t u h = iter-same k (λ (i : ℕ) (s : Float). plus s (t i)) (λ (i : ℕ) (s : Float). plus s (u i)) zero64 (λ i s l. ap (plus s) (h i l))
+
+pub sum-rows : (m n : ℕ) (t : ℕ → ℕ → Float) (u : ℕ → Float) → ((i j : ℕ) → i < m → j < n → t i j ≡ u (i * n + j)) → sumRows m n t ≡ sumTo (m * n) u
+unfolding sumRows sumTo sumOn
+sum-rows zero n t u h = rw (zero-mul n)
+sum-rows (suc m) n t u h =
+    let f : ℕ → Float → Float = λ k s. plus s (u k) in
+    ap (λ (s : Float). iter n (λ (j : ℕ) (x : Float). plus x (t m j)) s) (sum-rows m n t u (λ i j p q. h i j (omega arith) q))
+    ∙ iter-same n (λ (j : ℕ) (x : Float). plus x (t m j)) (λ (j : ℕ). f (m * n + j)) (iter (m * n) f zero64) (λ j x q. ap (plus x) (h m j (le-refl (suc m)) q))
+    ∙ sym (ap (λ (k : ℕ). iter k f zero64) (suc-mul m n) ∙ iter-add (m * n) n f zero64)

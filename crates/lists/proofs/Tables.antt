@@ -18,6 +18,12 @@ iter-keeps P f s p q (suc k) = q k (iter k f s) (iter-keeps P f s p q k)
 
 -- ---- lists by number
 module _ {A : Type 0} where
+  -- within the list it doesn't matter what stands beyond it
+  pub getD-any : (l : List A) (i : ℕ) (d e : A) → i < length l → getD l i d ≡ getD l i e
+  getD-any [] i d e h = absurd (not-suc-le-zero h)
+  getD-any (x ∷ l) zero d e h = refl
+  getD-any (x ∷ l) (suc i) d e h = getD-any l i d e (le-of-suc-le-suc h)
+
   pub listed-length : (m k : ℕ) (f : ℕ → A) → length (listed m k f) ≡ m
   unfolding listed
   listed-length zero k f = refl
@@ -155,3 +161,48 @@ module _ {A : Type 0} where
       = rw (← lg) (drop-append-add (grid k n f) (drop (length (grid k n f)) l) n ∙ drop-drop n (length (grid k n f)) l) in
       ap (λ (t : List A). iter n (λ (j : ℕ) (u : List A). set u (k * n + j) (f k j)) t) (fill-grid l k n f kl)
       ∙ fill-tab x (k * n) n (f k) b ∙ rw (joined-more k (λ (i : ℕ). tab n (f i)), tx, dx, s) (sym (append-assoc (grid k n f) (tab n (f k)) (drop (k * n + n) l)))
+
+-- ---- tables and lists of lists end to end, and the same by rows
+module _ {A : Type 0} where
+  pub listed-from : (m k : ℕ) (f : ℕ → A) → listed m k f ≡ tab m (λ (j : ℕ). f (k + j))
+  unfolding listed
+  listed-from zero k f = refl
+  listed-from (suc m) k f =
+      ap (λ (x : A). x ∷ listed m (suc k) f) (ap f (sym (add-zero k)))
+      ∙ ap (λ (l : List A). f (k + 0) ∷ l)
+      (listed-from m (suc k) f ∙ listed-same m 0 (λ (j : ℕ). f (suc k + j)) (λ (j : ℕ). f (k + suc j)) (λ j p q. ap f (suc-add k j ∙ sym (add-suc k j))) ∙ sym (listed-shift (f 0) m 0 (λ (j : ℕ). f (k + j))))
+
+  pub tab-add : (m n : ℕ) (f : ℕ → A) → tab (m + n) f ≡ tab m f ++ tab n (λ (j : ℕ). f (m + j))
+  tab-add m n f = listed-add m n 0 f ∙ ap (λ (j : ℕ). tab m f ++ listed n j f) (zero-add m) ∙ ap (λ (l : List A). tab m f ++ l) (listed-from n m f)
+
+  pub joined-same : (m : ℕ) (f g : ℕ → List A) → ((i : ℕ) → i < m → f i ≡ g i) → joined m f ≡ joined m g
+  joined-same m f g h = ap flat (listed-same m 0 f g (λ j p q. h j (omega arith)))
+
+  pub joined-add : (m n : ℕ) (f : ℕ → List A) → joined (m + n) f ≡ joined m f ++ joined n (λ (j : ℕ). f (m + j))
+  joined-add m zero f = rw (add-zero, joined-none (λ (j : ℕ). f (m + j))) (sym (append-nil (joined m f)))
+  joined-add m (suc n) f =
+      ap (λ (k : ℕ). joined k f) (add-suc m n) ∙ joined-more (m + n) f ∙ ap (λ (l : List A). l ++ f (m + n)) (joined-add m n f)
+      ∙ append-assoc (joined m f) (joined n (λ (j : ℕ). f (m + j))) (f (m + n)) ∙ ap (λ (l : List A). joined m f ++ l) (sym (joined-more n (λ (j : ℕ). f (m + j))))
+
+  -- m times n lists are m rows of n
+  pub joined-rows : (m n : ℕ) (f : ℕ → List A) → joined (m * n) f ≡ joined m (λ (i : ℕ). joined n (λ (j : ℕ). f (i * n + j)))
+  joined-rows zero n f = rw (zero-mul n, joined-none f) (sym (joined-none (λ (i : ℕ). joined n (λ (j : ℕ). f (i * n + j)))))
+  joined-rows (suc m) n f =
+      ap (λ (k : ℕ). joined k f) (suc-mul m n) ∙ joined-add (m * n) n f ∙ ap (λ (l : List A). l ++ joined n (λ (j : ℕ). f (m * n + j))) (joined-rows m n f)
+      ∙ sym (joined-more m (λ (i : ℕ). joined n (λ (j : ℕ). f (i * n + j))))
+
+  -- and a table is a grid
+  pub tab-rows : (m n : ℕ) (f : ℕ → A) → tab (m * n) f ≡ grid m n (λ (i j : ℕ). f (i * n + j))
+  tab-rows zero n f = rw (zero-mul n, tab-none f) (sym (joined-none (λ (i : ℕ). tab n (λ (j : ℕ). f (i * n + j)))))
+  tab-rows (suc m) n f =
+      ap (λ (k : ℕ). tab k f) (suc-mul m n) ∙ tab-add (m * n) n f ∙ ap (λ (l : List A). l ++ tab n (λ (j : ℕ). f (m * n + j))) (tab-rows m n f)
+      ∙ sym (joined-more m (λ (i : ℕ). tab n (λ (j : ℕ). f (i * n + j))))
+
+  pub grid-same : (m n : ℕ) (f g : ℕ → ℕ → A) → ((i j : ℕ) → i < m → j < n → f i j ≡ g i j) → grid m n f ≡ grid m n g
+  grid-same m n f g h = joined-same m (λ (i : ℕ). tab n (f i)) (λ (i : ℕ). tab n (g i)) (λ i p. listed-same n 0 (f i) (g i) (λ j a b. h i j p (omega arith)))
+
+  -- a list is the grid of its cells
+  pub grid-is : (m n : ℕ) (f : ℕ → ℕ → A) (o : A) (l : List A) → length l ≡ m * n → ((i j : ℕ) → i < m → j < n → getD l (i * n + j) o ≡ f i j) → l ≡ grid m n f
+  grid-is m n f o l e h =
+      sym (tab-getD o l) ∙ ap (λ (k : ℕ). tab k (λ (x : ℕ). getD l x o)) e ∙ tab-rows m n (λ (x : ℕ). getD l x o)
+      ∙ grid-same m n (λ (i j : ℕ). getD l (i * n + j) o) f h

@@ -43,6 +43,13 @@ ltb-no m n h = fails (ltb m n) (λ e. let l = ltb-is m n e in omega arith)
 pub ltb-not : (m n : ℕ) → ltb m n ≡ false → n ≤ m
 ltb-not m n e = let h : ¬ (m < n) = λ l. true≢false (sym (ltb-yes m n l) ∙ e) in omega arith
 
+pub below-or-not : {X : Type 0} (m n : ℕ) → (m < n → X) → (n ≤ m → X) → X
+below-or-not {X} m n below not-below = go (ltb m n) refl
+  where
+    go : (b : Bool) → ltb m n ≡ b → X
+    go true e = below (ltb-is m n e)
+    go false e = not-below (ltb-not m n e)
+
 pub eqb-not : (m n : ℕ) → eqb m n ≡ false → ¬ (m ≡ n)
 eqb-not m n e h = true≢false (sym (eqb-yes m n h) ∙ e)
 
@@ -53,6 +60,13 @@ both false b e = absurd (true≢false (sym e))
 
 pub and-yes : (a b : Bool) → a ≡ true → b ≡ true → a && b ≡ true
 and-yes a b p q = ap (λ (x : Bool). x && b) p ∙ q
+
+pub and-first : (a b c : Bool) → a ≡ true → b ≡ c → a && b ≡ c
+and-first a b c e h = ap (λ (x : Bool). x && b) e ∙ h
+
+pub and-last : (a b : Bool) → b ≡ true → a && b ≡ a
+and-last true b e = e
+and-last false b e = refl
 
 pub not-no : (b : Bool) → not b ≡ false → b ≡ true
 not-no true e = refl

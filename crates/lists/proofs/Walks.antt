@@ -1,11 +1,13 @@
 -- Laws of walks: the parts of an answer, what holds of each zone, and THE RESTART. Assumes nothing.
 use mathlib.Core.Path.{_≡_, refl, sym, ap, _∙_, subst}
 use Prim.Native.Nat.{ℕ, zero, suc, _+_, _≤_, _<_}
-use native.Mathlib.Nat.{add-zero, add-suc, suc-add, not-suc-le-zero, le-of-suc-le-suc}
+use native.Mathlib.Nat.{add-zero, add-suc, suc-add, not-suc-le-zero, le-of-suc-le-suc, le-refl}
+use native.Mathlib.Omega.{arith}
 use mathlib.Core.List.{List, [], _∷_, _++_}
 use lib.ListN.{length, take, getD}
 use Rattle.answers.specs.Outcome.{Outcome, done, bind}
 use Rattle.answers.proofs.Outcomes.{bind-assoc, bind-done, bind-eta, done-inj}
+use Rattle.lists.specs.Lists.{listed}
 use Rattle.lists.specs.Walks.{every, walk, stateAt}
 
 module _ {E S X Y : Type 0} (f : ℕ → S → X → Outcome E (S × Y)) where
@@ -50,6 +52,11 @@ module _ {R : Type 0} (P : ℕ → R → Type 0) where
   all-at k [] a j o lt = absurd (not-suc-le-zero lt)
   all-at k (r ∷ rs) a zero o lt = subst (λ (m : ℕ). P m r) (sym (add-zero k)) (a .0)
   all-at k (r ∷ rs) a (suc j) o lt = subst (λ (m : ℕ). P m (getD rs j o)) (suc-add k j ∙ sym (add-suc k j)) (all-at (suc k) rs (a .1) j o (le-of-suc-le-suc lt))
+
+  pub listed-all : (m k : ℕ) (f : ℕ → R) → ((j : ℕ) → k ≤ j → j < k + m → P j (f j)) → All k (listed m k f)
+  unfolding listed
+  listed-all zero k f h = tt
+  listed-all (suc m) k f h = (h k (le-refl k) (omega arith), listed-all m (suc k) f (λ j a b. h j (omega arith) (omega arith)))
 
 module _ {E X Y : Type 0} (f : ℕ → X → Outcome E Y) where
   pub every-cons : (k : ℕ) (x : X) (xs : List X) (tr : List Y) → every f k (x ∷ xs) ≡ done tr

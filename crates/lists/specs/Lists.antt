@@ -31,10 +31,6 @@ joined m f = flat (tab m f)
 abbrev pub grid : {A : Type 0} → ℕ → ℕ → (ℕ → ℕ → A) → List A
 grid m n f = joined m (λ (i : ℕ). tab n (f i))
 
--- xs written over l from `start` on
-unfoldable pub overlaid : {A : Type 0} → ℕ → List A → List A → List A
-overlaid start xs l = take start l ++ (xs ++ drop (start + length xs) l)
-
 -- the first i from lo on, among d, at which p holds, and lo + d where there is none
 abbrev pub firstFrom : (ℕ → Bool) → ℕ → ℕ → ℕ
 firstFrom p lo zero = lo

@@ -14,6 +14,8 @@ use Rattle.lists.specs.Lists.{pick}
 use Rattle.lists.specs.Floats.{stored}
 use Rattle.shape.specs.Cores.{Core, entry, block}
 use Rattle.axes.specs.declared.Axis.{Axis}
+pub use Rattle.shift.specs.declared.Shift.{Shift}
+pub use Rattle.shift.specs.declared.Shift.the-variants.{Stay as stay, By as by}
 use Rattle.shift.specs.Weights.{cubicBandWeights, shiftedAt}
 
 -- h = 2*sqrt(a*tau) + b*tau
@@ -23,11 +25,6 @@ distance x tau = plus (times two64 (rootOf (times (x .a) tau))) (times (x .b) ta
 -- dx = (xmax - xmin)/(n - 1), or 1 where n = 1
 unfoldable pub spacing : Axis → ℕ → Float
 spacing x n = pick (leb n 1) one64 (over (minus (x .xmax) (x .xmin)) (ofInt binary64 (pos (n - 1))))
-
--- the core stays, or is shifted by a ratio
-pub data Shift : Type 0 where
-  stay : Shift
-  by : Float → Shift
 
 -- if dx <= 0 or h = 0 the core stays; else the ratio is h/dx
 unfoldable pub shiftOf : Axis → Float → ℕ → Shift
