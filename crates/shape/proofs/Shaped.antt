@@ -81,6 +81,13 @@ module _ (s : Shape) where
       passed (done tt) h = refl
       passed (refused r) h = let z : _≡_ {A = ℕ} 0 1 = cc in let n : ⊥ = omega arith in absurd n
 
+  -- what the check's answer lets a caller do
+  pub fits-sizes : (kept : ℕ → Bool) (v : Verdict) → v ≡ verdictOf (shapeOk s kept) → v ≡ Fits → SizesWithin s
+  fits-sizes kept v e f = fits-shaped kept v e f .sizes
+
+  pub fits-points : (kept : ℕ → Bool) (v : Verdict) → v ≡ verdictOf (shapeOk s kept) → v ≡ Fits → PointsWithin s
+  fits-points kept v e f = fits-sizes kept v e f .axes
+
   -- what else is asked of a bond matters only for the bonds that there are
   pub shape-same : (p q : ℕ → Bool) → ((k : ℕ) → k < s .d → p k ≡ q k) → shapeOk s p ≡ shapeOk s q
   unfolding shapeOk
