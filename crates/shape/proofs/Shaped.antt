@@ -85,6 +85,13 @@ module _ (s : Shape) where
   pub fits-sized : (kept : ℕ → Bool) (v : Verdict) → v ≡ verdictOf (shapeOk s kept) → v ≡ Fits → SizesWithin s
   fits-sized kept v e f = fits-shaped kept v e f .sizes
 
+  -- what the check's answer lets a caller do
+  pub fits-sizes : (kept : ℕ → Bool) (v : Verdict) → v ≡ verdictOf (shapeOk s kept) → v ≡ Fits → SizesWithin s
+  fits-sizes kept v e f = fits-shaped kept v e f .sizes
+
+  pub fits-points : (kept : ℕ → Bool) (v : Verdict) → v ≡ verdictOf (shapeOk s kept) → v ≡ Fits → PointsWithin s
+  fits-points kept v e f = fits-sizes kept v e f .axes
+
   -- what else is asked of a bond matters only for the bonds that there are
   pub shape-same : (p q : ℕ → Bool) → ((k : ℕ) → k < s .d → p k ≡ q k) → shapeOk s p ≡ shapeOk s q
   unfolding shapeOk
