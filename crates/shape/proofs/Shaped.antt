@@ -1,5 +1,5 @@
 -- What a shape that passes refusals 1 to 3 is like. Assumes nothing.
-use mathlib.Core.Path.{_≡_, refl, sym, ap, _∙_}
+use mathlib.Core.Path.{_≡_, sym, ap, _∙_}
 use Prim.Native.Nat.{ℕ, suc, _≤_, _<_}
 use native.Mathlib.Omega.{arith}
 use mathlib.Core.Bool.{Bool, true, cond, _&&_}
@@ -7,13 +7,14 @@ use lib.Dec.{leb, eqb}
 use Rattle.answers.specs.declared.Refusal.the-variants.{Axes, Size, Bond}
 use Rattle.answers.specs.declared.Verdict.{Verdict}
 use Rattle.answers.specs.declared.Verdict.the-variants.{Fits}
-use Rattle.answers.specs.Outcome.{done, refused, Check, _then_, demand, demandEach, verdictOf}
+use Rattle.answers.specs.Outcome.{done, Check, _then_, demand, demandEach, verdictOf}
+use Rattle.answers.proofs.Outcomes.{fits-done}
 use Rattle.answers.proofs.Checks.{demand-is, then-is, each-same, each-is}
 use Rattle.lists.proofs.Tests.{ltb-yes, ltb-no, leb-is, eqb-is, both}
 use Rattle.shape.specs.declared.Shape.{Shape}
 use Rattle.shape.specs.Limits.{mostAxes, mostPoints, mostRank, within}
 use Rattle.shape.specs.Shapes.{leftOf, pointsOf, rightOf, sizeOk, bondOk, shapeOk}
-use Rattle.shape.specs.Sizes.{SizesWithin}
+use Rattle.shape.specs.Sizes.{PointsWithin, SizesWithin}
 
 pub record Shaped (s : Shape) : Type 0 where
   pub sizes : SizesWithin s
@@ -29,8 +30,7 @@ within-is most x e = let w = both (leb 1 x) (leb x most) e in (leb-is 1 x (w .0)
 
 -- a verdict in code that it fits says that the check passes
 pub fits-passes : (c : Check) (v : Verdict) → v ≡ verdictOf c → v ≡ Fits → c ≡ done tt
-fits-passes (done tt) v e f = refl
-fits-passes (refused r) v e f = let z : _≡_ {A = ℕ} 0 1 = cc in let n : ⊥ = omega arith in absurd n
+fits-passes c v e f = fits-done c (sym e ∙ f) .1
 
 module _ (s : Shape) where
   size-is : (k : ℕ) → sizeOk s k ≡ true → ((1 ≤ leftOf s k) × (leftOf s k ≤ mostRank)) × ((1 ≤ pointsOf s k) × (pointsOf s k ≤ mostPoints)) × ((1 ≤ rightOf s k) × (rightOf s k ≤ mostRank))
@@ -81,9 +81,6 @@ module _ (s : Shape) where
   -- from a verdict in code that it fits
   pub fits-shaped : (kept : ℕ → Bool) (v : Verdict) → v ≡ verdictOf (shapeOk s kept) → v ≡ Fits → Shaped s
   fits-shaped kept v e f = shaped kept (fits-passes (shapeOk s kept) v e f)
-
-  pub fits-sized : (kept : ℕ → Bool) (v : Verdict) → v ≡ verdictOf (shapeOk s kept) → v ≡ Fits → SizesWithin s
-  fits-sized kept v e f = fits-shaped kept v e f .sizes
 
   -- what the check's answer lets a caller do
   pub fits-sizes : (kept : ℕ → Bool) (v : Verdict) → v ≡ verdictOf (shapeOk s kept) → v ≡ Fits → SizesWithin s
