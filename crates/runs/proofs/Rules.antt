@@ -14,7 +14,9 @@ use Rattle.lists.proofs.Tables.{length-tab}
 use Rattle.lists.proofs.Floats.{making-stored}
 use Rattle.shape.specs.Cores.{Core, coreWith}
 use Rattle.shape.proofs.Places.{block-length}
-use Rattle.shift.specs.Shifts.{Shift, stay, by, shiftOf, shifted, moveCore, scaled}
+use Rattle.shift.specs.declared.Shift.{Shift}
+use Rattle.shift.specs.declared.Shift.the-variants.{Stay as stay, By as by}
+use Rattle.shift.specs.Shifts.{shiftOf, shifted, moveCore, scaled}
 use Rattle.bond.specs.Bonds.{Bond, cutBond, absorb}
 use Rattle.bond.proofs.Made.{CutFrom, cut-from}
 use Rattle.rounding.specs.Rounding.{Carry, none, some, Cut, takenIn, cutIf, roundCore}
