@@ -3,3 +3,4 @@ pub mod Examples
 pub mod Strips
 pub mod Checks
 pub mod Walking
+pub mod Starts

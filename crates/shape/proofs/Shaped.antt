@@ -25,7 +25,7 @@ pub record Shaped (s : Shape) : Type 0 where
   pub joins : (k : ℕ) → suc k < s .d → rightOf s k ≡ leftOf s (suc k)
   pub last : (k : ℕ) → suc k ≡ s .d → rightOf s k ≡ 1
 
-within-is : (most x : ℕ) → within most x ≡ true → (1 ≤ x) × (x ≤ most)
+pub within-is : (most x : ℕ) → within most x ≡ true → (1 ≤ x) × (x ≤ most)
 within-is most x e = let w = both (leb 1 x) (leb x most) e in (leb-is 1 x (w .0), leb-is x most (w .1))
 
 -- a verdict in code that it fits says that the check passes

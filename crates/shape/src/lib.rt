@@ -2,12 +2,12 @@
 ghost use mathlib.Core.Path.{_≡_};
 ghost use Prim.Native.Nat.{ℕ, _+_, _*_, _≤_, _<_, min};
 ghost use mathlib.Core.List.{[]};
-ghost use lib.ListN.{length};
+ghost use lib.ListN.{length, replicate};
 ghost use Rattle.answers.specs.Outcome.{verdictOf};
 ghost use Rattle.lists.specs.Lists.{firstNot};
 ghost use Rattle.lists.specs.Slots.{offset};
 ghost use Rattle.lists.specs.Floats.{allFinite};
-ghost use Rattle.shape.specs.Limits.{mostAxes, within};
+ghost use Rattle.shape.specs.Limits.{mostAxes, mostPoints, within};
 ghost use Rattle.shape.specs.Shapes.{pointsOf, sizeOk, bondOk, chainOk, coreSize, pointSize, entriesOf, allPoints};
 ghost use Rattle.shape.specs.Sizes.{PointsWithin, SizesWithin};
 ghost use Rattle.shape.specs.Cores.{place, coreWith, coreAt, pointsAt, withCore};
@@ -83,6 +83,30 @@ impl Shape {
             k += 1;
         }
         k
+    }
+
+    // The first axis with points outside their limits, or d.
+    pub fn first_bad_points(self) -> usize
+        requires { ⌜ self .d ≤ mostAxes ⌝ }
+        ensures { λ r. ⌜ r ≡ firstNot (λ (k : ℕ). within mostPoints (pointsOf self k)) (self .d) ⌝ }
+    {
+        let mut k = 0;
+        while k < self.d {
+            if !within(MOST_POINTS, self.n[k]) {
+                return k;
+            }
+            k += 1;
+        }
+        k
+    }
+
+    // The shape with every rank 1.
+    pub fn rank_one(mut self) -> Shape
+        ensures { λ r. ⌜ r ≡ record { d = self .d; left = replicate mostAxes 1; n = self .n; right = replicate mostAxes 1 } ⌝ }
+    {
+        self.left = [1; MOST_AXES];
+        self.right = [1; MOST_AXES];
+        self
     }
 
     // Whether the bond right of core k holds: its right rank is the next core's left rank, and the last core's is 1.
