@@ -1,13 +1,13 @@
 -- The shift over a block written twice is the shift: where the rows of a band start, and what stands there. Assumes nothing.
 use mathlib.Core.Path.{_≡_, refl, sym, ap, _∙_}
 use Prim.Native.Nat.{ℕ, suc, _+_, _-_, _*_, _^_, _<_, _≤_}
-use native.Mathlib.Nat.{le-refl, le-of-lt, le-of-eq, mul-le-mul-right}
+use native.Mathlib.Nat.{le-refl, le-of-lt, le-of-eq, mul-le-mul-right, add-sub-cancel-left, sub-zero}
 use native.Mathlib.Numerals.{add-one}
 use native.Mathlib.Omega.{arith}
-use mathlib.Core.List.{List, [], _∷_, _++_}
+use mathlib.Core.List.{List, [], _∷_, _++_, append-nil}
 use lib.IntN.{ℤ, pos, negℤ, _+ℤ_, _-ℤ_, +ℤ-idl, +ℤ-idr, +ℤ-assoc, +ℤ-comm, -ℤ-+ℤ-cancel}
-use lib.ListN.{length, getD, take, drop, length-append, length-drop, List·getD-append}
-use lib.Seq.{getD-take, getD-drop, length-take-le}
+use lib.ListN.{length, take, drop, length-drop, drop-of-length-le, List·getD-append}
+use lib.Seq.{getD-take, getD-drop, length-take-le, take-at, drop-at, drop-drop}
 use lib.Ieee.{Float, nan, neg}
 use mir.Syntax.{w64}
 use mir.Val.{Fits}
@@ -74,7 +74,36 @@ module _ (starts : List ℕ) (m j l : ℕ) (r : Room starts (suc j) l) (h : m < 
 pub room-at : (starts : List ℕ) (j h l : ℕ) → Room starts h l → j < h → Room starts (suc j) l
 room-at starts j h l r g m s = omega (arith, r m s)
 
+-- a list that has just its length has at least that
+pub at-least : (a b : ℕ) → a ≡ b → b ≤ a
+at-least a b e = le-of-eq (sym e)
+
 pub ruleset rooms = (near-lt, near-fits, near-scaled, room-at)
+
+-- ---- a block written twice, through two parts of a list that are lent one after the other
+pub twice-is : {A : Type 0} (s d u w : List A) → u ≡ s → w ≡ s → length d ≡ length s + length s → let n = length s in
+    take n (take 0 d ++ (u ++ drop (n - 0) (drop 0 d))) ++ (w ++ drop (n + n - n) (drop n (take 0 d ++ (u ++ drop (n - 0) (drop 0 d))))) ≡ s ++ s
+twice-is s d u w e f l =
+    let z : length d ≤ length s + length s = omega arith in
+    rw (e, f, take-at s (drop (length s - 0) d) (length s) refl, add-sub-cancel-left, drop-at s (drop (length s - 0) d) (length s) refl, sub-zero, drop-drop, drop-of-length-le d z, append-nil)
+
+-- block k of h numbers, as it is lent
+pub part-long : {A : Type 0} (l : List A) (k m h : ℕ) → k < m → length l ≡ m * h → length (take (k * h + h - k * h) (drop (k * h) l)) ≡ h
+part-long l k m h p e =
+    let s : k * h + h - k * h ≡ h = omega arith in
+    rw s (length-take-le h (drop (k * h) l) (omega (arith, length-drop (k * h) l, row-end k m h (length l) p (at-least (length l) (m * h) e))))
+
+-- the front of a list, as it is lent
+pub front-long : {A : Type 0} (l : List A) (n : ℕ) → n ≤ length l → length (take (n - 0) (drop 0 l)) ≡ n
+front-long l n h = rw sub-zero (length-take-le n l h)
+
+pub room-for : (starts : List ℕ) (p q h : ℕ) → p ≡ h → q ≡ h + h → Room starts h (h + h) → (p ≤ q) × Room starts p q
+room-for starts p q h e f r = (omega arith, λ m s. omega (arith, r m s))
+
+pub block-shifted : (core t x : List Float) (k h w : ℕ) (forward backward : List Float) (ahead behind : List ℕ)
+    → t ≡ take (k * h + h - k * h) (drop (k * h) core) ++ take (k * h + h - k * h) (drop (k * h) core) → x ≡ tab w (entryIn t forward ahead backward behind) → w ≡ h
+    → x ≡ tab h (entryIn (twiceOf core h k) forward ahead backward behind)
+block-shifted core t x k h w forward backward ahead behind e f l = let s : k * h + h - k * h ≡ h = omega arith in f ∙ rw (l, e, s)
 
 -- ---- entry (k, i, x) of a core of rl blocks of n rows of rr
 module _ (l : List Float) (rl n rr : ℕ) (long : length l ≡ rl * (n * rr)) (k i x : ℕ) (K : k < rl) (I : i < n) (X : x < rr) where

@@ -2,12 +2,15 @@
 ghost use mathlib.Core.Path.{_≡_};
 ghost use mathlib.Core.Bool.{true};
 ghost use Prim.Native.Nat.{suc, _+_, _*_, _^_, _<_, _≤_};
+ghost use mathlib.Core.List.{_++_};
 ghost use lib.ListN.{length};
 ghost use Rattle.numbers.specs.Whole.{wholeOf, fractionOf, inReach};
+ghost use Rattle.lists.specs.Lists.{tab};
 ghost use Rattle.shape.specs.Limits.{mostPoints};
+ghost use Rattle.shape.specs.Cores.{coreWith};
 ghost use Rattle.shift.specs.Weights.{cubicBandWeights};
-ghost use Rattle.shift.specs.Shifts.{distance, spacing, shiftOf, reaches};
-ghost use Rattle.shift.specs.Doubled.{startsOf, Room, bandIn};
+ghost use Rattle.shift.specs.Shifts.{distance, spacing, shiftOf, reaches, shifted};
+ghost use Rattle.shift.specs.Doubled.{startsOf, Room, bandIn, entryIn, blocksOf};
 
 // A core stays, or is shifted by a ratio.
 pub enum Shift {
@@ -107,4 +110,104 @@ fn band(acc: f64, t: &[f64], j: usize, weights: &[f64; 4], starts: &[usize; 4]) 
         x = x + (0.25 * weights[m]) * t[starts[m] + j];
     }
     x
+}
+
+// Number j of a block, shifted; t is the block twice.
+fn entry_at(
+    t: &[f64],
+    j: usize,
+    forward: &[f64; 4],
+    ahead: &[usize; 4],
+    backward: &[f64; 4],
+    behind: &[usize; 4],
+) -> f64
+    requires { ⌜ (j < length (now t)) × Room (now ahead) (suc j) (length (now t)) × Room (now behind) (suc j) (length (now t)) ⌝ }
+    ensures { λ r. ⌜ r ≡ entryIn (now (t .entry)) (now (forward .entry)) (now (ahead .entry)) (now (backward .entry)) (now (behind .entry)) j ⌝ }
+{
+    let x = band(0.5 * t[j], t, j, forward, ahead);
+    band(x, t, j, backward, behind)
+}
+
+// A block, shifted; t is the block twice.
+fn shift_block(
+    t: &[f64],
+    forward: &[f64; 4],
+    ahead: &[usize; 4],
+    backward: &[f64; 4],
+    behind: &[usize; 4],
+    out: &mut [f64],
+)
+    requires { ⌜ (length (now out) ≤ length (now t)) × Room (now ahead) (length (now out)) (length (now t)) × Room (now behind) (length (now out)) (length (now t)) ⌝ }
+    ensures { λ _. ⌜ now (out .exit) ≡ tab (length (now (out .entry))) (entryIn (now (t .entry)) (now (forward .entry)) (now (ahead .entry)) (now (backward .entry)) (now (behind .entry))) ⌝ }
+{
+    for j in 0..out.len() {
+        let x = entry_at(t, j, forward, ahead, backward, behind);
+        out[j] = x;
+    }
+}
+
+// s twice.
+fn twice(s: &[f64], d: &mut [f64])
+    requires { ⌜ length (now d) ≡ length (now s) + length (now s) ⌝ }
+    ensures { λ _. ⌜ now (d .exit) ≡ now (s .entry) ++ now (s .entry) ⌝ }
+{
+    let n = s.len();
+    let e = n + n;
+    lists::copy(s, &mut d[0..n]);
+    lists::copy(s, &mut d[n..e]);
+}
+
+// rl blocks of h numbers, each shifted; t has room for one of them twice.
+fn shift_blocks(
+    core: &[f64],
+    rl: usize,
+    h: usize,
+    forward: &[f64; 4],
+    ahead: &[usize; 4],
+    backward: &[f64; 4],
+    behind: &[usize; 4],
+    out: &mut [f64],
+    t: &mut [f64],
+)
+    requires { ⌜ (length (now core) ≡ rl * h) × (length (now out) ≡ rl * h) × (length (now t) ≡ h + h) × Room (now ahead) h (h + h) × Room (now behind) h (h + h) ⌝ }
+    ensures { λ _. ⌜ now (out .exit) ≡ blocksOf (now (core .entry)) rl h (now (forward .entry)) (now (ahead .entry)) (now (backward .entry)) (now (behind .entry)) ⌝ }
+{
+    for k in 0..rl {
+        let b = k * h;
+        let e = b + h;
+        twice(&core[b..e], t);
+        shift_block(t, forward, ahead, backward, behind, &mut out[b..e]);
+    }
+}
+
+// A core of rl blocks of n rows of rr numbers, shifted along its rows; block has room for one of its blocks twice.
+pub fn shift_core(
+    core: &[f64],
+    rl: usize,
+    n: usize,
+    rr: usize,
+    ratio: f64,
+    out: &mut [f64],
+    block: &mut [f64],
+)
+    requires { ⌜ (1 ≤ n) × (n ≤ mostPoints) × (inReach ratio ≡ true) × (length (now core) ≡ rl * n * rr) × (length (now out) ≡ rl * n * rr) × (n * rr + n * rr ≤ length (now block)) ⌝ }
+    ensures { λ _. ⌜ now (out .exit) ≡ shifted (coreWith rl n rr (now (core .entry))) ratio ⌝ }
+{
+    let forward = weights_of(ratio);
+    let backward = weights_of(-ratio);
+    let ahead = starts_of(ratio, n, rr);
+    let behind = starts_of(-ratio, n, rr);
+    let h = n * rr;
+    let both = h + h;
+    shift_blocks(
+        core,
+        rl,
+        h,
+        &forward,
+        &ahead,
+        &backward,
+        &behind,
+        out,
+        &mut block[0..both],
+    );
 }
