@@ -3,3 +3,5 @@ pub mod Sweeps
 pub mod Iteration
 pub mod Values
 pub mod Bonds
+pub mod Products
+pub mod Pairs

@@ -1,11 +1,12 @@
 -- Row-major indices: bounds, and what fits a machine word. Assumes nothing.
 use Prim.Native.Nat.{ℕ, suc, _+_, _*_, _<_, _≤_, _^_}
-use native.Mathlib.Nat.{mul-le-mul-right, suc-mul}
+use native.Mathlib.Nat.{mul-le-mul-right, suc-mul, le-of-eq}
 use native.Mathlib.Omega.{arith}
-use mathlib.Core.Path.{_≡_}
+use mathlib.Core.Path.{_≡_, sym, ap}
 use mir.Syntax.{w64}
 use mir.Val.{Fits}
 use borrow.Author.Needs.{scaled-fits}
+use Rattle.lists.proofs.Tests.{below-or-not}
 
 -- entry i of row k lies within m rows of n
 pub cell-lt : (k m n i l : ℕ) → k < m → i < n → m * n ≤ l → k * n + i < l
@@ -37,3 +38,35 @@ row-end-fits k m n l p r s = record { fits = omega (arith, mul-le-mul-right n p,
 
 pub row-scaled : (k m n l : ℕ) → k < m → m * n ≤ l → l * 8 < 2 ^ 63 → Fits w64 (k * n * 8)
 row-scaled k m n l p r s = record { fits = omega (arith, mul-le-mul-right n p, suc-mul k n) }
+
+-- a cell's row and column are told by its place
+pub cell-row : (i j n x y : ℕ) → x < n → y < n → i * n + x ≡ j * n + y → i ≡ j
+cell-row i j n x y p q e =
+    below-or-not i j
+    (λ l. absurd (above i j x y l p e))
+    (λ g. below-or-not j i (λ l. absurd (above j i y x l q (sym e))) (λ h. omega arith))
+  where
+    above : (i j x y : ℕ) → i < j → x < n → i * n + x ≡ j * n + y → ⊥
+    above i j x y l p e = omega (arith, mul-le-mul-right n l, suc-mul i n)
+
+pub cell-column : (i j n x y : ℕ) → x < n → y < n → i * n + x ≡ j * n + y → x ≡ y
+cell-column i j n x y p q e = let r = ap (λ (k : ℕ). k * n) (cell-row i j n x y p q e) in omega arith
+
+-- ---- the same in a list of exactly m rows of n
+module _ (k m n i l : ℕ) (e : l ≡ m * n) (p : k < m) (q : i < n) where
+  pub exact-lt : k * n + i < l
+  exact-lt = cell-lt k m n i l p q (le-of-eq (sym e))
+
+  pub exact-fits : l < 2 ^ 64 → Fits w64 (k * n + i)
+  exact-fits s = record { fits = omega (arith, exact-lt) }
+
+  pub exact-scaled : l * 8 < 2 ^ 63 → Fits w64 ((k * n + i) * 8)
+  exact-scaled s = record { fits = omega (arith, exact-lt) }
+
+pub exact-row : (k m n l : ℕ) → l ≡ m * n → k < m → l < 2 ^ 64 → Fits w64 (k * n)
+exact-row k m n l e p s = row-fits k m n l p (le-of-eq (sym e)) s
+
+pub exact-end : (k m n l : ℕ) → l ≡ m * n → k < m → k * n + n ≤ l
+exact-end k m n l e p = row-end k m n l p (le-of-eq (sym e))
+
+pub ruleset exacts = (exact-lt, exact-fits, exact-scaled, exact-row, exact-end)

@@ -5,10 +5,15 @@ pub mod Tables
 pub mod Turns
 pub mod Loops
 pub mod Strips
+pub mod Altered
+pub mod Pairs
+pub mod Stages
 pub mod Firsts
+pub mod Demands
 pub mod Picks
 pub mod Counts
 pub mod Over
+pub mod Parts
 pub mod Seen
 -- tests, and lists of f64
 pub mod Tests

@@ -56,6 +56,10 @@ module _ (e : ℕ) (f : ℕ → Float) (i j : ℕ) (o u v : List Float) where
   pub row-on : (k : ℕ) → u ≡ rowTo e f i j o → i ≤ j → v ≡ rowTo e f j k u → j ≤ k → v ≡ rowTo e f i k o
   row-on k d g s l = s ∙ rw (from-add (λ (t : ℕ) (m : List Float). set m (e + t) (f t)) i j k o g l, ← d)
 
+-- the same at the front
+pub front-more : (f : ℕ → Float) (i j h : ℕ) (o u v : List Float) → u ≡ rowTo 0 f i j o → i ≤ j → v ≡ storedFrom j h (λ (t : ℕ). f (j + t)) u → v ≡ rowTo 0 f i (j + h) o
+front-more f i j h o u v d g s = row-more 0 f i j o u v h d g (s ∙ ap (λ (p : ℕ). storedFrom p h (λ (t : ℕ). f (j + t)) u) (sym (zero-add j)))
+
 pub row-whole : (e : ℕ) (f : ℕ → Float) (j w : ℕ) (o u : List Float) → u ≡ rowTo e f 0 j o → j ≤ w → w ≤ j → u ≡ storedFrom e w f o
 unfolding storedFrom
 row-whole e f j w o u d g h = from-done (λ (t : ℕ) (l : List Float). set l (e + t) (f t)) o 0 j w u d g h ∙ from-all (λ (t : ℕ) (l : List Float). set l (e + t) (f t)) w o

@@ -164,7 +164,7 @@ module _ {A : Type 0} where
 
 -- ---- tables and lists of lists end to end, and the same by rows
 module _ {A : Type 0} where
-  listed-from : (m k : ℕ) (f : ℕ → A) → listed m k f ≡ tab m (λ (j : ℕ). f (k + j))
+  pub listed-from : (m k : ℕ) (f : ℕ → A) → listed m k f ≡ tab m (λ (j : ℕ). f (k + j))
   unfolding listed
   listed-from zero k f = refl
   listed-from (suc m) k f =

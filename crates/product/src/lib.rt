@@ -1,4 +1,5 @@
-// The separable start and the inner product: what the calls answer.
+// The separable start and the inner product with the zones' weights.
+pub mod contraction;
 
 // The figure, +0 where it is refused.
 pub struct Figure {
