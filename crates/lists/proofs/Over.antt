@@ -1,12 +1,12 @@
 -- A list that is overwritten from the front by another of its length, by one value or by a table: `over i s d` after i turns; and by lists of one length, one after another. Assumes nothing.
 use Prim.Native.Nat.{ℕ, zero, suc, _+_, _-_, _*_, _≤_, _<_}
 use mathlib.Core.Path.{_≡_, refl, sym, ap, _∙_}
-use mathlib.Core.List.{List, [], _∷_, _++_, append-nil, append-assoc}
-use native.Mathlib.Nat.{not-suc-le-zero, le-of-suc-le-suc, le-antisymm, le-of-eq, zero-mul, add-mul}
+use mathlib.Core.List.{List, [], _∷_, _++_, map, append-nil, append-assoc}
+use native.Mathlib.Nat.{not-suc-le-zero, le-of-suc-le-suc, le-antisymm, le-of-eq, add-zero, zero-mul, add-mul}
 use native.Mathlib.Numerals.{add-one}
 use native.Mathlib.Omega.{arith}
-use lib.ListN.{length, getD, set, take, drop, replicate, length-append, length-drop, drop-of-length-le, length-replicate, getD-replicate}
-use lib.Seq.{take-all, take-at, drop-at, drop-drop, length-take-le}
+use lib.ListN.{length, getD, set, take, drop, replicate, length-append, length-drop, drop-of-length-le, length-replicate, getD-replicate, length-map, List·getD-map}
+use lib.Seq.{take-all, take-at, drop-at, drop-drop, length-take-le, getD-append-add, getD-drop}
 use Rattle.lists.specs.Lists.{tab, joined}
 use Rattle.lists.proofs.Tables.{length-tab, getD-tab, joined-none, joined-more, length-joined}
 
@@ -60,6 +60,24 @@ module _ {A : Type 0} where
     tabs-done i u e l = e ∙ over-all i (tab (length d) f) d (length-tab (length d) f) (rw (length-tab (length d) f) l)
 
 pub ruleset tabs = (tabs-more, tabs-done)
+
+-- ---- a list whose numbers are altered one by one
+module _ {A : Type 0} (f : A → A) (d : List A) where
+  -- what is still to be altered is as it was
+  over-ahead : (o : A) (i : ℕ) → i < length d → getD (over i (map f d) d) i o ≡ getD d i o
+  over-ahead o i l =
+      let m = length-map d f in
+      let n = length-take-le i (map f d) (omega arith) in
+      ap (λ (k : ℕ). getD (over i (map f d) d) k o) (sym (add-zero i) ∙ ap (λ (k : ℕ). k + 0) (sym n)) ∙ getD-append-add (take i (map f d)) (drop i d) 0 o ∙ getD-drop i d 0 o ∙ ap (λ (k : ℕ). getD d k o) (add-zero i)
+
+  pub maps-more : (o : A) (i : ℕ) (u : List A) (x : A) → u ≡ over i (map f d) d → i < length d → x ≡ f (getD u i o) → set u i x ≡ over (i + 1) (map f d) d
+  maps-more o i u x e l h =
+      let m = length-map d f in
+      rw (h, e)
+      (ap (λ (y : A). set (over i (map f d) d) i (f y)) (over-ahead o i l) ∙ ap (set (over i (map f d) d) i) (sym (List·getD-map f d i o)) ∙ over-more i (map f d) d (f o) m (omega arith))
+
+  pub maps-done : (i : ℕ) (u : List A) → u ≡ over i (map f d) d → length d ≤ i → u ≡ map f d
+  maps-done i u e l = let m = length-map d f in e ∙ over-all i (map f d) d m (omega arith)
 
 -- ---- lists of m numbers, one a turn, each written through a part that is lent
 module _ {A : Type 0} (m : ℕ) (f : ℕ → List A) (d : List A) where
