@@ -2,14 +2,18 @@
 ghost use mathlib.Core.Path.{_≡_};
 ghost use mathlib.Core.Bool.{true};
 ghost use Prim.Native.Nat.{suc, _+_, _*_, _^_, _<_, _≤_};
-ghost use mathlib.Core.List.{_++_};
+ghost use mathlib.Core.List.{List, _++_, map};
 ghost use lib.ListN.{length};
+ghost use lib.Ieee.{Float};
+ghost use Rattle.numbers.specs.Arithmetic.{times};
 ghost use Rattle.numbers.specs.Whole.{wholeOf, fractionOf, inReach};
+ghost use Rattle.answers.specs.declared.Part.the-variants.{Entry};
+ghost use Rattle.answers.specs.Outcome.{making, answered, staged};
 ghost use Rattle.lists.specs.Lists.{tab};
 ghost use Rattle.shape.specs.Limits.{mostPoints};
 ghost use Rattle.shape.specs.Cores.{coreWith};
 ghost use Rattle.shift.specs.Weights.{cubicBandWeights};
-ghost use Rattle.shift.specs.Shifts.{distance, spacing, shiftOf, reaches, shifted};
+ghost use Rattle.shift.specs.Shifts.{distance, spacing, shiftOf, reaches, shifted, moveCore, scaled};
 ghost use Rattle.shift.specs.Doubled.{startsOf, Room, bandIn, entryIn, blocksOf};
 
 // A core stays, or is shifted by a ratio.
@@ -210,4 +214,61 @@ pub fn shift_core(
         out,
         &mut block[0..both],
     );
+}
+
+// What it comes to that the entries of core k are stored.
+fn storing(k: usize, made: answers::Stage) -> answers::Verdict
+    ensures { λ r. ⌜ ((l : List Float) → making Entry k (staged made l) ≡ answered r l) ⌝ }
+{
+    match made {
+        answers::Stage::Whole => answers::Verdict::Fits,
+        answers::Stage::Spilt(i) => {
+            answers::Verdict::Refused(answers::Refusal::Stored(answers::Part::Entry, k, i))
+        }
+    }
+}
+
+// Core k along its axis, into out; one that stays is copied.
+pub fn move_core(
+    core: &[f64],
+    k: usize,
+    rl: usize,
+    n: usize,
+    rr: usize,
+    shift: Shift,
+    out: &mut [f64],
+    block: &mut [f64],
+) -> answers::Verdict
+    requires { ⌜ (1 ≤ n) × (n ≤ mostPoints) × (reaches shift ≡ true) × (length (now core) ≡ rl * n * rr) × (length (now out) ≡ rl * n * rr) × (n * rr + n * rr ≤ length (now block)) ⌝ }
+    ensures { λ r. ⌜ moveCore k shift (coreWith rl n rr (now (core .entry))) ≡ answered r (now (out .exit)) ⌝ }
+{
+    match shift {
+        Shift::Stay => {
+            lists::copy(core, out);
+            answers::Verdict::Fits
+        }
+        Shift::By(ratio) => {
+            shift_core(core, rl, n, rr, ratio, out, block);
+            storing(k, lists::stored(out))
+        }
+    }
+}
+
+// Every number times a factor.
+fn multiply(s: &mut [f64], factor: f64)
+    ensures { λ _. ⌜ now (s .exit) ≡ map (λ (v : Float). times v factor) (now (s .entry)) ⌝ }
+{
+    let mut i = 0;
+    while i < s.len() {
+        s[i] = s[i] * factor;
+        i += 1;
+    }
+}
+
+// Core 0 times 1 + tau*c.
+pub fn scale(core: &mut [f64], tau: f64, c: f64) -> answers::Verdict
+    ensures { λ r. ⌜ scaled tau c (now (core .entry)) ≡ answered r (now (core .exit)) ⌝ }
+{
+    multiply(core, 1.0 + tau * c);
+    storing(0, lists::stored(core))
 }
