@@ -1,13 +1,13 @@
 -- The shift over a block written twice is the shift: where the rows of a band start, and what stands there. Assumes nothing.
 use mathlib.Core.Path.{_≡_, refl, sym, ap, _∙_}
 use Prim.Native.Nat.{ℕ, suc, _+_, _-_, _*_, _^_, _<_, _≤_}
-use native.Mathlib.Nat.{le-refl, le-of-lt, le-of-eq, mul-le-mul-right, add-sub-cancel-left, sub-zero}
+use native.Mathlib.Nat.{le-refl, le-of-lt, le-of-eq, mul-le-mul-right}
 use native.Mathlib.Numerals.{add-one}
 use native.Mathlib.Omega.{arith}
 use mathlib.Core.List.{List, [], _∷_, _++_, append-nil}
-use lib.IntN.{ℤ, pos, negℤ, _+ℤ_, _-ℤ_, +ℤ-idl, +ℤ-idr, +ℤ-assoc, +ℤ-comm, -ℤ-+ℤ-cancel}
-use lib.ListN.{length, take, drop, length-drop, drop-of-length-le, List·getD-append}
-use lib.Seq.{getD-take, getD-drop, length-take-le, take-at, drop-at, drop-drop}
+use lib.IntN.{ℤ, pos, negℤ, _+ℤ_, _-ℤ_, +ℤ-idr, +ℤ-assoc, +ℤ-comm, -ℤ-+ℤ-cancel}
+use lib.ListN.{length, take, drop, length-append, length-drop, drop-of-length-le, List·getD-append}
+use lib.Seq.{getD-take, getD-drop, length-take-le, take-at, drop-at}
 use lib.Ieee.{Float, nan, neg}
 use mir.Syntax.{w64}
 use mir.Val.{Fits}
@@ -17,7 +17,7 @@ use Rattle.numbers.specs.Whole.{wholeOf, fractionOf, wholeParts}
 use Rattle.numbers.specs.declared.WholeNumber.{WholeNumber}
 use Rattle.numbers.proofs.Residues.{wrap-lt, wrap-before, read-twice}
 use Rattle.numbers.proofs.Reach.{parts-small}
-use Rattle.lists.specs.Lists.{listed, tab, iter}
+use Rattle.lists.specs.Lists.{listed, tab}
 use Rattle.lists.specs.Floats.{at, sumOn}
 use Rattle.lists.proofs.Cells.{cell-lt, row-end}
 use Rattle.lists.proofs.Tables.{getD-tab}
@@ -81,21 +81,17 @@ at-least a b e = le-of-eq (sym e)
 pub ruleset rooms = (near-lt, near-fits, near-scaled, room-at)
 
 -- ---- a block written twice, through two parts of a list that are lent one after the other
-pub twice-is : {A : Type 0} (s d u w : List A) → u ≡ s → w ≡ s → length d ≡ length s + length s → let n = length s in
-    take n (take 0 d ++ (u ++ drop (n - 0) (drop 0 d))) ++ (w ++ drop (n + n - n) (drop n (take 0 d ++ (u ++ drop (n - 0) (drop 0 d))))) ≡ s ++ s
-twice-is s d u w e f l =
-    let z : length d ≤ length s + length s = omega arith in
-    rw (e, f, take-at s (drop (length s - 0) d) (length s) refl, add-sub-cancel-left, drop-at s (drop (length s - 0) d) (length s) refl, sub-zero, drop-drop, drop-of-length-le d z, append-nil)
+pub twice-is : {A : Type 0} (s d u w : List A) → u ≡ s → w ≡ s → let n = length s in take n (u ++ drop n d) ++ (w ++ drop (length (u ++ drop n d) - n) (drop n (u ++ drop n d))) ≡ s ++ s
+twice-is s d u w e f =
+    let rest = drop (length s) d in
+    let z : length rest ≤ length (s ++ rest) - length s = omega (arith, length-append s rest) in
+    rw (e, f, take-at s rest (length s) refl, drop-at s rest (length s) refl, drop-of-length-le rest z, append-nil)
 
 -- block k of h numbers, as it is lent
 pub part-long : {A : Type 0} (l : List A) (k m h : ℕ) → k < m → length l ≡ m * h → length (take (k * h + h - k * h) (drop (k * h) l)) ≡ h
 part-long l k m h p e =
     let s : k * h + h - k * h ≡ h = omega arith in
     rw s (length-take-le h (drop (k * h) l) (omega (arith, length-drop (k * h) l, row-end k m h (length l) p (at-least (length l) (m * h) e))))
-
--- the front of a list, as it is lent
-pub front-long : {A : Type 0} (l : List A) (n : ℕ) → n ≤ length l → length (take (n - 0) (drop 0 l)) ≡ n
-front-long l n h = rw sub-zero (length-take-le n l h)
 
 pub room-for : (starts : List ℕ) (p q h : ℕ) → p ≡ h → q ≡ h + h → Room starts h (h + h) → (p ≤ q) × Room starts p q
 room-for starts p q h e f r = (omega arith, λ m s. omega (arith, r m s))

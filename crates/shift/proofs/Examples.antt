@@ -1,9 +1,8 @@
 -- The weights of a fraction, shifts by a ratio on either side of zero and beyond n, subnormal entries, and the ratio of an axis, worked out in f64 arithmetic beside the definitions, by computation. Assumes nothing.
 use mathlib.Core.Path.{_≡_, refl}
-use mathlib.Core.Bool.{false}
 use mathlib.Core.List.{List, [], _∷_, map}
 use Prim.Native.Nat.{ℕ}
-use lib.Ieee.{Float, nan, binary64, add, sub, mul, div, neg, lt, le, eq, ofInt, ofBits, toBits}
+use lib.Ieee.{Float, binary64, add, sub, mul, div, neg, lt, le, eq, ofInt, ofBits, toBits}
 use Rattle.numbers.specs.Root.{rootIn, wholeRoot, rootOfUnits, rootOf}
 use Rattle.numbers.specs.Whole.{wholeOf, fractionOf}
 use Rattle.numbers.specs.Residues.{wrap}

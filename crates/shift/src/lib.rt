@@ -156,9 +156,8 @@ fn twice(s: &[f64], d: &mut [f64])
     ensures { λ _. ⌜ now (d .exit) ≡ now (s .entry) ++ now (s .entry) ⌝ }
 {
     let n = s.len();
-    let e = n + n;
-    lists::copy(s, &mut d[0..n]);
-    lists::copy(s, &mut d[n..e]);
+    lists::copy(s, &mut d[..n]);
+    lists::copy(s, &mut d[n..]);
 }
 
 // rl blocks of h numbers, each shifted; t has room for one of them twice.
@@ -212,7 +211,7 @@ pub fn shift_core(
         &backward,
         &behind,
         out,
-        &mut block[0..both],
+        &mut block[..both],
     );
 }
 

@@ -1,9 +1,11 @@
 -- `shift::shift_core` meets its contract. Assumes nothing.
-use mathlib.Core.Path.{sym, _∙_}
+use mathlib.Core.Path.{_∙_}
 use Prim.Native.Nat.{_+_, _*_}
 use native.Mathlib.Nat.{mul-assoc}
+use lib.Seq.{length-take-le}
 use borrow.Author.Needs.{needs}
-use Rattle.shift.proofs.Around.{starts-room, front-long, blocks-are}
+use Rattle.lists.proofs.Parts.{parts}
+use Rattle.shift.proofs.Around.{starts-room, blocks-are}
 use Rattle.shift.proofs.Backward.{reach-neg}
 use Rattle.shift.proofs.shift_core.Statement.{statement}
 use Rattle.shift.proofs.shift_core.Tie as tie
@@ -15,7 +17,7 @@ shift-blocks-requires c κs =
     let n = s .args .n in
     let rr = s .args .rr in
     let same = mul-assoc (s .args .rl) n rr in
-    (s .pre .3 ∙ same, s .pre .4 ∙ same, front-long (s .args .block .now) (n * rr + n * rr) (s .pre .5), rw (b .before .starts-of .ensures) (starts-room n rr _ (s .pre .0)), rw (b .starts-of2 .ensures) (starts-room n rr _ (s .pre .0)))
+    (s .pre .3 ∙ same, s .pre .4 ∙ same, length-take-le (n * rr + n * rr) (s .args .block .now) (s .pre .5), rw (b .before .starts-of .ensures) (starts-room n rr _ (s .pre .0)), rw (b .starts-of2 .ensures) (starts-room n rr _ (s .pre .0)))
 
 returns : tie.Need-returns
 returns c =
@@ -27,4 +29,4 @@ returns c =
     (blocks-are (s .args .core .now) (s .args .rl) (s .args .n) (s .args .rr) (s .args .ratio) (s .pre .3 ∙ mul-assoc (s .args .rl) (s .args .n) (s .args .rr)))
 
 pub shift-core-spec : {M : Type 1} → statement M
-shift-core-spec = tie.close (tie.spec (λ c κs. search needs) (λ c κs. search needs) (λ c κs. search needs) (λ c κs. search (needs, reach-neg)) (λ c. search needs) (λ c. search needs) (λ c. search needs) (λ c. search needs) (λ c. search needs) shift-blocks-requires (λ c. search needs) (λ c. search needs) returns)
+shift-core-spec = tie.close (tie.spec (λ c κs. search needs) (λ c κs. search needs) (λ c κs. search needs) (λ c κs. search (needs, reach-neg)) (λ c. search needs) (λ c. search needs) (λ c. search needs) (λ c. search (needs, parts)) shift-blocks-requires (λ c. search needs) (λ c. search needs) returns)

@@ -1,13 +1,13 @@
 -- `shift::shift_of` meets its contract. Assumes nothing.
-use mathlib.Core.Path.{_≡_, refl, sym, ap, _∙_}
-use mathlib.Core.Bool.{Bool, true, false, _||_}
+use mathlib.Core.Path.{_≡_}
+use mathlib.Core.Bool.{true, false}
 use Prim.Native.Nat.{ℕ}
 use lib.Ieee.{Float, le, eq}
 use borrow.Author.Needs.{needs}
 use Rattle.numbers.specs.Arithmetic.{over, zero64}
 use Rattle.lists.specs.Lists.{pick}
 use Rattle.axes.specs.declared.Axis.{Axis}
-use Rattle.shift.specs.Shifts.{distance, spacing, Shift, stay, by, shiftOf}
+use Rattle.shift.specs.Shifts.{distance, spacing, stay, by, shiftOf}
 use Rattle.shift.proofs.shift_of.Statement.{statement}
 use Rattle.shift.proofs.shift_of.Tie as tie
 

@@ -1,5 +1,4 @@
 -- `shift::storing` meets its contract. Assumes nothing.
-use mathlib.Core.Path.{refl}
 use borrow.Author.Needs.{needs}
 use Rattle.answers.specs.Outcome.{answered, staged}
 use Rattle.shift.proofs.storing.Statement.{statement}
