@@ -1,13 +1,23 @@
 -- The shift as it is worked out: over a block written twice, so that no index wraps. The inner functions cite this; proofs/Around.antt says that it is the shift. Definitions only.
+use mathlib.Core.Path.{_≡_}
 use Prim.Native.Nat.{ℕ, _+_, _*_, _<_, _≤_}
 use mathlib.Core.List.{List, _++_}
 use lib.IntN.{ℤ, pos, _+ℤ_, _-ℤ_}
-use lib.ListN.{getD, take, drop}
+use lib.ListN.{length, getD, take, drop}
 use lib.Ieee.{Float}
 use Rattle.numbers.specs.Arithmetic.{times, half64, quarter64}
 use Rattle.numbers.specs.Residues.{wrap}
 use Rattle.lists.specs.Lists.{tab, grid}
 use Rattle.lists.specs.Floats.{at, sumOn}
+use Rattle.shape.specs.Limits.{mostPoints}
+
+-- what a call that shifts a core is lent: the core's numbers, as many numbers to write, and room for one of its blocks twice
+pub record Lent (core : List Float) (rl n rr : ℕ) (out block : List Float) : Type 0 where
+  pub some : 1 ≤ n
+  pub few : n ≤ mostPoints
+  pub whole : length core ≡ rl * n * rr
+  pub long : length out ≡ rl * n * rr
+  pub room : n * rr + n * rr ≤ length block
 
 abbrev pub natAt : List ℕ → ℕ → ℕ
 natAt l m = getD l m 0

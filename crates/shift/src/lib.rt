@@ -14,7 +14,7 @@ ghost use Rattle.shape.specs.Limits.{mostPoints};
 ghost use Rattle.shape.specs.Cores.{coreWith};
 ghost use Rattle.shift.specs.Weights.{cubicBandWeights};
 ghost use Rattle.shift.specs.Shifts.{distance, spacing, shiftOf, reaches, shifted, moveCore, scaled};
-ghost use Rattle.shift.specs.Doubled.{startsOf, Room, bandIn, entryIn, blocksOf};
+ghost use Rattle.shift.specs.Doubled.{Lent, startsOf, Room, bandIn, entryIn, blocksOf};
 
 // A core stays, or is shifted by a ratio.
 pub enum Shift {
@@ -97,11 +97,12 @@ fn starts_of(ratio: f64, n: usize, rr: usize) -> [usize; 4]
     ensures { λ r. ⌜ r ≡ startsOf n rr (wholeOf ratio) ⌝ }
 {
     let s0 = numbers::whole(ratio);
-    let a = numbers::stepped(n - 1, s0, n);
-    let b = numbers::stepped(0, s0, n);
-    let c = numbers::stepped(1, s0, n);
-    let d = numbers::stepped(2, s0, n);
-    [a * rr, b * rr, c * rr, d * rr]
+    [
+        numbers::stepped(n - 1, s0, n) * rr,
+        numbers::stepped(0, s0, n) * rr,
+        numbers::stepped(1, s0, n) * rr,
+        numbers::stepped(2, s0, n) * rr,
+    ]
 }
 
 // acc, then the four terms of a band at number j of t.
@@ -193,7 +194,7 @@ pub fn shift_core(
     out: &mut [f64],
     block: &mut [f64],
 )
-    requires { ⌜ (1 ≤ n) × (n ≤ mostPoints) × (inReach ratio ≡ true) × (length (now core) ≡ rl * n * rr) × (length (now out) ≡ rl * n * rr) × (n * rr + n * rr ≤ length (now block)) ⌝ }
+    requires { ⌜ Lent (now core) rl n rr (now out) (now block) × (inReach ratio ≡ true) ⌝ }
     ensures { λ _. ⌜ now (out .exit) ≡ shifted (coreWith rl n rr (now (core .entry))) ratio ⌝ }
 {
     let forward = weights_of(ratio);
@@ -238,7 +239,7 @@ pub fn move_core(
     out: &mut [f64],
     block: &mut [f64],
 ) -> answers::Verdict
-    requires { ⌜ (1 ≤ n) × (n ≤ mostPoints) × (reaches shift ≡ true) × (length (now core) ≡ rl * n * rr) × (length (now out) ≡ rl * n * rr) × (n * rr + n * rr ≤ length (now block)) ⌝ }
+    requires { ⌜ Lent (now core) rl n rr (now out) (now block) × (reaches shift ≡ true) ⌝ }
     ensures { λ r. ⌜ moveCore k shift (coreWith rl n rr (now (core .entry))) ≡ answered r (now (out .exit)) ⌝ }
 {
     match shift {

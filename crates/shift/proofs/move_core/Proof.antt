@@ -9,7 +9,7 @@ use Rattle.shift.proofs.move_core.Tie as tie
 shift-core-requires : tie.Need-shift-core-requires
 shift-core-requires c κs =
     let s = c .before .before .before .before .before .before .before .before in
-    (s .pre .0, s .pre .1, rw (c .before .before .before .shift .given .1) at (s .pre .2), s .pre .3, s .pre .4, s .pre .5)
+    (s .pre .0, rw (c .before .before .before .shift .given .1) at (s .pre .1))
 
 returns : tie.Need-returns
 unfolding answered

@@ -17,7 +17,8 @@ shift-blocks-requires c κs =
     let n = s .args .n in
     let rr = s .args .rr in
     let same = mul-assoc (s .args .rl) n rr in
-    (s .pre .3 ∙ same, s .pre .4 ∙ same, length-take-le (n * rr + n * rr) (s .args .block .now) (s .pre .5), rw (b .before .starts-of .ensures) (starts-room n rr _ (s .pre .0)), rw (b .starts-of2 .ensures) (starts-room n rr _ (s .pre .0)))
+    let lent = s .pre .0 in
+    (lent .whole ∙ same, lent .long ∙ same, length-take-le (n * rr + n * rr) (s .args .block .now) (lent .room), rw (b .before .starts-of .ensures) (starts-room n rr _ (lent .some)), rw (b .starts-of2 .ensures) (starts-room n rr _ (lent .some)))
 
 returns : tie.Need-returns
 returns c =
@@ -26,7 +27,7 @@ returns c =
     let s = b .before .before .before .before .before .before .before in
     d .shift-blocks .ensures
     ∙ rw (b .before .before .before .weights-of .ensures, b .before .before .weights-of2 .ensures, b .before .starts-of .ensures, b .starts-of2 .ensures)
-    (blocks-are (s .args .core .now) (s .args .rl) (s .args .n) (s .args .rr) (s .args .ratio) (s .pre .3 ∙ mul-assoc (s .args .rl) (s .args .n) (s .args .rr)))
+    (blocks-are (s .args .core .now) (s .args .rl) (s .args .n) (s .args .rr) (s .args .ratio) (s .pre .0 .whole ∙ mul-assoc (s .args .rl) (s .args .n) (s .args .rr)))
 
 pub shift-core-spec : {M : Type 1} → statement M
 shift-core-spec = tie.close (tie.spec (λ c κs. search needs) (λ c κs. search needs) (λ c κs. search needs) (λ c κs. search (needs, reach-neg)) (λ c. search needs) (λ c. search needs) (λ c. search needs) (λ c. search (needs, parts)) shift-blocks-requires (λ c. search needs) (λ c. search needs) returns)
