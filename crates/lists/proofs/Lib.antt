@@ -10,6 +10,7 @@ pub mod Pairs
 pub mod Stages
 pub mod Firsts
 pub mod Demands
+pub mod Asked
 pub mod Picks
 pub mod Counts
 pub mod Over

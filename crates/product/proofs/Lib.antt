@@ -1,3 +1,4 @@
 pub mod Units
 pub mod Examples
 pub mod Strips
+pub mod Checks

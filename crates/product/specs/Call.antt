@@ -20,12 +20,14 @@ use Rattle.product.specs.declared.Started.{Started}
 use Rattle.product.specs.Product.{inner}
 
 -- ---- the inner product: slices are the chain, the weights
+unfoldable pub innerLent : Shape → ℕ → ℕ → Check
+innerLent s chain weights = demand (eqb chain (entriesOf s)) (Length 0) then demand (eqb weights (allPoints s)) (Length 1)
+
+unfoldable pub innerFinite : Shape → List Float → List Float → Check
+innerFinite s chain weights = demandEach Number (λ (k : ℕ). allFinite (coreAt s chain k .entries) && allFinite (pointsAt s weights k)) (s .d) 0
+
 unfoldable pub innerOk : Shape → List Float → List Float → Check
-innerOk s chain weights =
-    chainOk s
-    then demand (eqb (length chain) (entriesOf s)) (Length 0)
-    then demand (eqb (length weights) (allPoints s)) (Length 1)
-    then demandEach Number (λ (k : ℕ). allFinite (coreAt s chain k .entries) && allFinite (pointsAt s weights k)) (s .d) 0
+innerOk s chain weights = chainOk s then innerLent s (length chain) (length weights) then innerFinite s chain weights
 
 -- each core with its axis' weights
 unfoldable pub weighed : Shape → List Float → List Float → List (Core × List Float)

@@ -1,4 +1,12 @@
 // The separable start and the inner product with the zones' weights.
+ghost use mathlib.Core.Path.{_≡_};
+ghost use Prim.Native.Nat.{ℕ, _≤_};
+ghost use lib.ListN.{length};
+ghost use Rattle.answers.specs.Outcome.{verdictOf};
+ghost use Rattle.shape.specs.Shapes.{entriesOf, allPoints};
+ghost use Rattle.shape.specs.Sizes.{SizesWithin};
+ghost use Rattle.product.specs.Call.{innerLent, innerFinite, innerOk};
+
 pub mod contraction;
 
 // The figure, +0 where it is refused.
@@ -11,4 +19,50 @@ pub struct Figure {
 pub struct Started {
     pub verdict: answers::Verdict,
     pub shape: shape::Shape,
+}
+
+// The lengths that an inner product asks for: refusal 5.
+fn inner_lent(s: shape::Shape, chain: usize, weights: usize) -> answers::Verdict
+    requires { ⌜ SizesWithin s ⌝ }
+    ensures { λ r. ⌜ r ≡ verdictOf (innerLent s chain weights) ⌝ }
+{
+    if chain != s.entries() {
+        return answers::Verdict::Refused(answers::Refusal::Length(0));
+    }
+    if weights != s.points() {
+        return answers::Verdict::Refused(answers::Refusal::Length(1));
+    }
+    answers::Verdict::Fits
+}
+
+// The first core or axis with a number that isn't finite: refusal 6.
+fn inner_finite(s: shape::Shape, chain: &[f64], weights: &[f64]) -> answers::Verdict
+    requires { ⌜ SizesWithin s ⌝ }
+    requires { ⌜ (entriesOf s ≤ length (now chain)) × (allPoints s ≤ length (now weights)) ⌝ }
+    ensures { λ r. ⌜ r ≡ verdictOf (innerFinite s (now (chain .entry)) (now (weights .entry))) ⌝ }
+{
+    let d = s.d;
+    let core = s.first_not_finite_core(chain);
+    let axis = s.first_not_finite_axis(weights);
+    if core <= axis {
+        if core < d {
+            return answers::Verdict::Refused(answers::Refusal::Number(core));
+        }
+        return answers::Verdict::Fits;
+    }
+    answers::Verdict::Refused(answers::Refusal::Number(axis))
+}
+
+fn inner_ok(s: shape::Shape, chain: &[f64], weights: &[f64]) -> answers::Verdict
+    ensures { λ r. ⌜ r ≡ verdictOf (innerOk s (now (chain .entry)) (now (weights .entry))) ⌝ }
+{
+    let shaped = s.check();
+    if let answers::Verdict::Refused(r) = shaped {
+        return answers::Verdict::Refused(r);
+    }
+    let lent = inner_lent(s, chain.len(), weights.len());
+    if let answers::Verdict::Refused(r) = lent {
+        return answers::Verdict::Refused(r);
+    }
+    inner_finite(s, chain, weights)
 }

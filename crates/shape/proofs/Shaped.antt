@@ -1,13 +1,14 @@
 -- What a shape that passes refusals 1 to 3 is like. Assumes nothing.
-use mathlib.Core.Path.{_≡_, refl, sym, ap, _∙_}
+use mathlib.Core.Path.{_≡_, sym, ap, _∙_}
 use Prim.Native.Nat.{ℕ, suc, _≤_, _<_}
 use native.Mathlib.Omega.{arith}
 use mathlib.Core.Bool.{Bool, true, cond, _&&_}
 use lib.Dec.{leb, eqb}
 use Rattle.answers.specs.declared.Refusal.the-variants.{Axes, Size, Bond}
 use Rattle.answers.specs.declared.Verdict.{Verdict}
-use Rattle.answers.specs.declared.Verdict.the-variants.{Fits, Refused}
-use Rattle.answers.specs.Outcome.{done, refused, Check, _then_, demand, demandEach, verdictOf}
+use Rattle.answers.specs.declared.Verdict.the-variants.{Fits}
+use Rattle.answers.specs.Outcome.{done, Check, _then_, demand, demandEach, verdictOf}
+use Rattle.answers.proofs.Outcomes.{fits-done}
 use Rattle.answers.proofs.Checks.{demand-is, then-is, each-same, each-is}
 use Rattle.lists.proofs.Tests.{ltb-yes, ltb-no, leb-is, eqb-is, both}
 use Rattle.shape.specs.declared.Shape.{Shape}
@@ -26,6 +27,10 @@ pub record Shaped (s : Shape) : Type 0 where
 
 within-is : (most x : ℕ) → within most x ≡ true → (1 ≤ x) × (x ≤ most)
 within-is most x e = let w = both (leb 1 x) (leb x most) e in (leb-is 1 x (w .0), leb-is x most (w .1))
+
+-- a verdict in code that it fits says that the check passes
+pub fits-passes : (c : Check) (v : Verdict) → v ≡ verdictOf c → v ≡ Fits → c ≡ done tt
+fits-passes c v e f = fits-done c (sym e ∙ f) .1
 
 module _ (s : Shape) where
   size-is : (k : ℕ) → sizeOk s k ≡ true → ((1 ≤ leftOf s k) × (leftOf s k ≤ mostRank)) × ((1 ≤ pointsOf s k) × (pointsOf s k ≤ mostPoints)) × ((1 ≤ rightOf s k) × (rightOf s k ≤ mostRank))
@@ -75,11 +80,14 @@ module _ (s : Shape) where
 
   -- from a verdict in code that it fits
   pub fits-shaped : (kept : ℕ → Bool) (v : Verdict) → v ≡ verdictOf (shapeOk s kept) → v ≡ Fits → Shaped s
-  fits-shaped kept v e f = shaped kept (passed (shapeOk s kept) (sym e ∙ f))
-    where
-      passed : (c : Check) → verdictOf c ≡ Fits → c ≡ done tt
-      passed (done tt) h = refl
-      passed (refused r) h = let z : _≡_ {A = ℕ} 0 1 = cc in let n : ⊥ = omega arith in absurd n
+  fits-shaped kept v e f = shaped kept (fits-passes (shapeOk s kept) v e f)
+
+  -- what the check's answer lets a caller do
+  pub fits-sizes : (kept : ℕ → Bool) (v : Verdict) → v ≡ verdictOf (shapeOk s kept) → v ≡ Fits → SizesWithin s
+  fits-sizes kept v e f = fits-shaped kept v e f .sizes
+
+  pub fits-points : (kept : ℕ → Bool) (v : Verdict) → v ≡ verdictOf (shapeOk s kept) → v ≡ Fits → PointsWithin s
+  fits-points kept v e f = fits-sizes kept v e f .axes
 
   -- what else is asked of a bond matters only for the bonds that there are
   pub shape-same : (p q : ℕ → Bool) → ((k : ℕ) → k < s .d → p k ≡ q k) → shapeOk s p ≡ shapeOk s q

@@ -1,6 +1,6 @@
 // The shape of a chain: how many cores it has, and the ranks and sizes of each.
 ghost use mathlib.Core.Path.{_≡_};
-ghost use Prim.Native.Nat.{ℕ, _≤_, _<_};
+ghost use Prim.Native.Nat.{ℕ, _+_, _*_, _≤_, _<_, min};
 ghost use mathlib.Core.List.{[]};
 ghost use lib.ListN.{length};
 ghost use Rattle.answers.specs.Outcome.{verdictOf};
@@ -10,7 +10,7 @@ ghost use Rattle.lists.specs.Floats.{allFinite};
 ghost use Rattle.shape.specs.Limits.{mostAxes, within};
 ghost use Rattle.shape.specs.Shapes.{pointsOf, sizeOk, bondOk, chainOk, coreSize, pointSize, entriesOf, allPoints};
 ghost use Rattle.shape.specs.Sizes.{PointsWithin, SizesWithin};
-ghost use Rattle.shape.specs.Cores.{coreWith, coreAt, pointsAt, withCore};
+ghost use Rattle.shape.specs.Cores.{place, coreWith, coreAt, pointsAt, withCore};
 
 // The limits of the scope, named once.
 pub const MOST_AXES: usize = 16;
@@ -33,6 +33,29 @@ pub fn within(most: usize, x: usize) -> bool
     ensures { λ r. ⌜ r ≡ within most x ⌝ }
 {
     (1 <= x) & (x <= most)
+}
+
+// row * n + i, or `most` where that is less. A product that could not be held is never made.
+fn capped(row: usize, n: usize, i: usize, most: usize) -> usize
+    requires { ⌜ i < n ⌝ }
+    ensures { λ r. ⌜ r ≡ min (row * n + i) most ⌝ }
+{
+    if most <= i {
+        return most;
+    }
+    if (most - i) / n < row {
+        return most;
+    }
+    row * n + i
+}
+
+// Where entry (il, im, ir) stands in a core of any sizes, or `most` where that is less.
+pub fn place_within(n: usize, rr: usize, il: usize, im: usize, ir: usize, most: usize) -> usize
+    requires { ⌜ (im < n) × (ir < rr) ⌝ }
+    ensures { λ r. ⌜ r ≡ min (place n rr il im ir) most ⌝ }
+{
+    let row = capped(il, n, im, most);
+    capped(row, rr, ir, most)
 }
 
 impl Shape {
