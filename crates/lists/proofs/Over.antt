@@ -88,9 +88,6 @@ module _ {A : Type 0} (m : ℕ) (f : ℕ → List A) (d : List A) where
   joins-none = rw (joined-none f, zero-mul)
 
   module _ (even : (i : ℕ) → length (f i) ≡ m) where
-    pub joins-length : (k : ℕ) → k * m ≤ length d → length (joinOver k) ≡ length d
-    joins-length k h = rw (length-append, length-joined m f even k, length-drop) (omega arith)
-
     pub joins-more : (k : ℕ) (u x : List A) → u ≡ joinOver k → k * m + m ≤ length d → x ≡ f k → take (k * m) u ++ (x ++ drop (k * m + m - k * m) (drop (k * m) u)) ≡ joinOver (k + 1)
     joins-more k u x e h g =
         let j = length-joined m f even k in
