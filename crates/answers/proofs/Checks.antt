@@ -87,3 +87,7 @@ module _ {A : Type 0} (c : Check) (o : Answer A) (v : Verdict) (e : v ≡ verdic
 pub verdict-passed : (c : Check) (v : Verdict) → v ≡ verdictOf c → v ≡ Fits → c ≡ done tt
 verdict-passed (done tt) v e h = refl
 verdict-passed (refused r) v e h = let z : _≡_ {A = ℕ} 0 1 = cc in let n : ⊥ = omega arith in absurd n
+
+pub verdict-refused : (c : Check) (v : Verdict) (r : Refusal) → v ≡ verdictOf c → v ≡ Refused r → c ≡ refused r
+verdict-refused (done tt) v r e h = let z : _≡_ {A = ℕ} 0 1 = cc in let n : ⊥ = omega arith in absurd n
+verdict-refused (refused x) v r e h = let q : x ≡ r = cc in ap refused q

@@ -2,3 +2,4 @@ pub mod Units
 pub mod Examples
 pub mod Strips
 pub mod Checks
+pub mod Walking

@@ -15,7 +15,7 @@ use Rattle.lists.proofs.Floats.{making-stored}
 use Rattle.shape.specs.Cores.{Core, coreWith}
 use Rattle.shape.proofs.Places.{block-length}
 use Rattle.shift.specs.declared.Shift.{Shift}
-use Rattle.shift.specs.declared.Shift.the-variants.{Stay, By}
+use Rattle.shift.specs.declared.Shift.the-variants.{Stay as stay, By as by}
 use Rattle.shift.specs.Shifts.{shiftOf, shifted, moveCore, scaled}
 use Rattle.bond.specs.Bonds.{Bond, cutBond, absorb}
 use Rattle.bond.proofs.Made.{CutFrom, cut-from}
@@ -27,13 +27,13 @@ use Rattle.runs.proofs.Sound.{Carried, Sound, volume, rankOn, CutOf, Si
 -- ---- shift and scaling
 module _ (k : ℕ) (c : Core) (l : List Float) where
   move-fine : (x : Shift) → allFinite (c .entries) ≡ true → moveCore k x c ≡ done l → allFinite l ≡ true
-  move-fine Stay f h = ap allFinite (sym (done-inj h)) ∙ f
-  move-fine (By r) f h = making-stored Entry k (shifted c r) l h .1
+  move-fine stay f h = ap allFinite (sym (done-inj h)) ∙ f
+  move-fine (by r) f h = making-stored Entry k (shifted c r) l h .1
 
   move-long : (x : Shift) → length (c .entries) ≡ volume c → moveCore k x c ≡ done l → length l ≡ volume c
   unfolding shifted
-  move-long Stay f h = ap length (sym (done-inj h)) ∙ f
-  move-long (By r) f h = ap length (sym (making-stored Entry k (shifted c r) l h .0)) ∙ block-length (c .rl) (c .n) (c .rr) _
+  move-long stay f h = ap length (sym (done-inj h)) ∙ f
+  move-long (by r) f h = ap length (sym (making-stored Entry k (shifted c r) l h .0)) ∙ block-length (c .rl) (c .n) (c .rr) _
 
 scale-made : (tau c : Float) (l m : List Float) → scaled tau c l ≡ done m → (length m ≡ length l) × (allFinite m ≡ true)
 unfolding scaled
