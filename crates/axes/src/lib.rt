@@ -49,14 +49,14 @@ pub fn axis_at(xs: &[Axis], k: usize) -> Axis
     BLANK
 }
 
-fn blanks() -> [Axis; 16]
+fn blanks() -> [Axis; shape::MOST_AXES]
     ensures { λ r. ⌜ r ≡ blanks ⌝ }
 {
-    [BLANK; 16]
+    [BLANK; shape::MOST_AXES]
 }
 
 // The list with x at k.
-fn put(list: [Axis; 16], k: usize, x: Axis) -> [Axis; 16]
+fn put(list: [Axis; shape::MOST_AXES], k: usize, x: Axis) -> [Axis; shape::MOST_AXES]
     requires { ⌜ k < mostAxes ⌝ }
     ensures { λ r. ⌜ r ≡ set list k x ⌝ }
 {
@@ -66,7 +66,7 @@ fn put(list: [Axis; 16], k: usize, x: Axis) -> [Axis; 16]
 }
 
 // The records of a lent list, by value: what it has, at most as many as a chain can have axes, and then blanks.
-pub fn gather(xs: &[Axis]) -> [Axis; 16]
+pub fn gather(xs: &[Axis]) -> [Axis; shape::MOST_AXES]
     ensures { λ r. ⌜ r ≡ gathered (now (xs .entry)) ⌝ }
 {
     let mut list = blanks();
@@ -80,7 +80,7 @@ pub fn gather(xs: &[Axis]) -> [Axis; 16]
 }
 
 // Record k of a list by value.
-pub fn axis_in(list: [Axis; 16], k: usize) -> Axis
+pub fn axis_in(list: [Axis; shape::MOST_AXES], k: usize) -> Axis
     requires { ⌜ k < mostAxes ⌝ }
     ensures { λ r. ⌜ r ≡ axisAt list k ⌝ }
 {

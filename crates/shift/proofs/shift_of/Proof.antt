@@ -1,26 +1,27 @@
 -- `shift::shift_of` meets its contract. Assumes nothing.
-use mathlib.Core.Path.{_≡_, refl, sym, ap, _∙_}
-use mathlib.Core.Bool.{Bool, true, false, _||_}
+use mathlib.Core.Path.{_≡_}
+use mathlib.Core.Bool.{true, false}
 use Prim.Native.Nat.{ℕ}
 use lib.Ieee.{Float, le, eq}
 use borrow.Author.Needs.{needs}
 use Rattle.numbers.specs.Arithmetic.{over, zero64}
 use Rattle.lists.specs.Lists.{pick}
 use Rattle.axes.specs.declared.Axis.{Axis}
-use Rattle.shift.specs.Shifts.{distance, spacing, Shift, stay, by, shiftOf}
+use Rattle.shift.specs.declared.Shift.the-variants.{Stay, By}
+use Rattle.shift.specs.Shifts.{distance, spacing, shiftOf}
 use Rattle.shift.proofs.shift_of.Statement.{statement}
 use Rattle.shift.proofs.shift_of.Tie as tie
 
 module _ (x : Axis) (tau : Float) (n : ℕ) (h dx : Float) (hs : h ≡ distance x tau) (ds : dx ≡ spacing x n) where
-  stays-flat : le dx zero64 ≡ true → stay ≡ shiftOf x tau n
+  stays-flat : le dx zero64 ≡ true → Stay ≡ shiftOf x tau n
   unfolding shiftOf pick
   stays-flat e = let z : le (spacing x n) zero64 ≡ true = rw ds at e in rw z
 
-  stays-still : le dx zero64 ≡ false → eq h zero64 ≡ true → stay ≡ shiftOf x tau n
+  stays-still : le dx zero64 ≡ false → eq h zero64 ≡ true → Stay ≡ shiftOf x tau n
   unfolding shiftOf pick
   stays-still d e = let y : le (spacing x n) zero64 ≡ false = rw ds at d in let z : eq (distance x tau) zero64 ≡ true = rw hs at e in rw (y, z)
 
-  goes : le dx zero64 ≡ false → eq h zero64 ≡ false → by (over h dx) ≡ shiftOf x tau n
+  goes : le dx zero64 ≡ false → eq h zero64 ≡ false → By (over h dx) ≡ shiftOf x tau n
   unfolding shiftOf pick
   goes d e = let y : le (spacing x n) zero64 ≡ false = rw ds at d in let z : eq (distance x tau) zero64 ≡ false = rw hs at e in rw (y, z, hs, ds)
 
