@@ -1,0 +1,8 @@
+-- `replay::number` meets its contract. Assumes nothing.
+use borrow.Author.Needs.{needs}
+use Rattle.replay.proofs.Patterns.{no-nan-word}
+use Rattle.replay.proofs.number.Statement.{statement}
+use Rattle.replay.proofs.number.Tie as tie
+
+pub number-spec : {M : Type 1} → statement M
+number-spec = tie.close (tie.spec (λ c. search (needs, no-nan-word)) (λ c. search (needs, no-nan-word)) (λ c. search (needs, no-nan-word)))
