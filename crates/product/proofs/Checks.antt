@@ -10,7 +10,7 @@ use Rattle.answers.specs.declared.Refusal.{Refusal}
 use Rattle.answers.specs.declared.Refusal.the-variants.{Number, Length}
 use Rattle.answers.specs.declared.Verdict.{Verdict}
 use Rattle.answers.specs.declared.Verdict.the-variants.{Fits, Refused}
-use Rattle.answers.specs.Outcome.{done, refused, verdictOf, Check, _then_}
+use Rattle.answers.specs.Outcome.{done, verdictOf, Check, _then_}
 use Rattle.answers.proofs.Checks.{verdict-passed, verdict-refused, then-is}
 use Rattle.numbers.specs.Arithmetic.{zero64}
 use Rattle.lists.specs.Lists.{firstNot}

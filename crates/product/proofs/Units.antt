@@ -1,28 +1,24 @@
 -- Weights of 1 at one index and 0 elsewhere give, where they are accepted, that entry of the chain, zero signs aside: the matrix product from the left. Assumes nothing.
 use mathlib.Core.Path.{_≡_, refl, sym, ap, _∙_, subst}
-use mathlib.Core.Logic.{⊎-elim}
-use Prim.Native.Nat.{ℕ, zero, suc, _+_, _*_, _≤_, _<_}
-use native.Mathlib.Nat.{eq-or-lt-of-le, le-of-suc-le-suc, not-suc-le-zero, le-refl}
-use native.Mathlib.Omega.{arith}
-use mathlib.Core.Bool.{Bool, true, false, true≢false}
+use Prim.Native.Nat.{ℕ, zero, suc, _≤_, _<_}
+use mathlib.Core.Bool.{Bool, true, false}
 use mathlib.Core.List.{List, [], _∷_, map}
-use lib.Dec.{T, eqb, ltb}
-use lib.IntN.{ℤ, pos}
+use lib.Dec.{eqb, ltb}
 use lib.ListN.{length, List·getD-eq-default}
-use lib.Ieee.{Float, nan, inf, fin, binary64, fits, ofBits}
-use lib.Ieee.Fits.{add-fits, mul-fits}
-use Rattle.answers.specs.Outcome.{done, bind, Answer}
+use lib.Ieee.{Float, nan, binary64, fits, ofBits}
+use lib.Ieee.Fits.{mul-fits}
+use Rattle.answers.specs.Outcome.{done}
 use Rattle.answers.proofs.Outcomes.{bind-done, done-inj, making-is}
 use Rattle.answers.specs.declared.Part.the-variants.{Sum}
 use Rattle.numbers.specs.Arithmetic.{plus, times, zero64, one64}
 use Rattle.numbers.specs.Finite.{finite}
 use Rattle.numbers.specs.Zeros.{Alike}
 use Rattle.numbers.proofs.Zeros.{times-one, alike-refl, alike-trans, alike-plus, alike-times}
-use Rattle.lists.specs.Lists.{iter, tab, pick}
+use Rattle.lists.specs.Lists.{iter, pick}
 use Rattle.lists.specs.Walks.{walk, stateAt}
 use Rattle.lists.specs.Floats.{at, sumOn, sumTo, sumRows, allFinite, stored}
 use Rattle.lists.proofs.Tables.{length-tab, getD-tab}
-use Rattle.lists.proofs.Tests.{eqb-yes, eqb-no, ltb-is, ltb-not, fails}
+use Rattle.lists.proofs.Tests.{eqb-yes, eqb-no, ltb-is, ltb-not}
 use Rattle.lists.proofs.Floats.{stored-is, finite-getD}
 use Rattle.lists.proofs.Sums.{Fits, Zero, sum-fits, one-term, sum-finite, zero-fits, nan-fits, times-none}
 use Rattle.lists.proofs.Walks.{walk-cons}

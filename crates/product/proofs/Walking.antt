@@ -1,11 +1,11 @@
 -- The inner product by what is left of it. Assumes nothing.
-use mathlib.Core.Path.{_≡_, refl, sym, ap, _∙_, subst}
-use Prim.Native.Nat.{ℕ, zero, suc, _+_, _-_, _*_, _≤_, _<_}
+use mathlib.Core.Path.{_≡_, refl, sym, ap, _∙_}
+use Prim.Native.Nat.{ℕ, suc, _+_, _-_, _*_, _≤_, _<_}
 use native.Mathlib.Nat.{sub-zero, mul-assoc, le-of-eq}
 use native.Mathlib.Numerals.{add-one}
 use native.Mathlib.Omega.{arith}
 use mathlib.Core.Bool.{true}
-use mathlib.Core.List.{List, [], _∷_}
+use mathlib.Core.List.{List, _∷_}
 use lib.ListN.{length, take, drop, replicate}
 use lib.Seq.{getD-take}
 use lib.Ieee.{Float, nan}
@@ -15,7 +15,7 @@ use Rattle.answers.specs.declared.Stage.{Stage}
 use Rattle.answers.specs.declared.Stage.the-variants.{Whole, Spilt}
 use Rattle.answers.specs.declared.Verdict.the-variants.{Fits, Refused}
 use Rattle.answers.specs.Outcome.{Answer, done, refused, bind, making, staged}
-use Rattle.answers.proofs.Outcomes.{bind-assoc, bind-cong}
+use Rattle.answers.proofs.Outcomes.{bind-assoc}
 use Rattle.numbers.specs.Arithmetic.{zero64, one64}
 use Rattle.lists.specs.Lists.{listed}
 use Rattle.lists.specs.Walks.{walk, stateAt}
@@ -27,8 +27,7 @@ use Rattle.shape.specs.Shapes.{leftOf, pointsOf, rightOf, chainOk, coreSize, po
 use Rattle.shape.specs.Cores.{Core, coreWith, coreAt, pointsAt}
 use Rattle.lists.proofs.Slots.{offset-mono, slot-length}
 use Rattle.shape.proofs.Shaped.{Shaped, shaped}
-use Rattle.product.specs.declared.Figure.{Figure}
-use Rattle.product.specs.Product.{contract, contractAt, sumAxis, startSums, sums, inner}
+use Rattle.product.specs.Product.{contract, contractAt, sumAxis, sums, inner}
 use Rattle.product.specs.Call.{weighed, figureBy}
 
 -- what is left of the walk, from axis k of d on and the sums eta

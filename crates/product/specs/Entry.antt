@@ -1,5 +1,5 @@
 -- An entry of a chain by the published definition (I. Oseledets, "Tensor-Train Decomposition", 2011): the product of the matrices that the cores hold at the indices, from the left, sums ascending. Definitions only.
-use Prim.Native.Nat.{ℕ, zero, suc}
+use Prim.Native.Nat.{ℕ}
 use mathlib.Core.List.{List, [], _∷_}
 use lib.Dec.{eqb}
 use lib.Ieee.{Float}

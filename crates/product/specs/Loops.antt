@@ -3,7 +3,7 @@ use Prim.Native.Nat.{ℕ, _+_, _*_}
 use mathlib.Core.List.{List}
 use lib.ListN.{length}
 use lib.Ieee.{Float}
-use Rattle.numbers.specs.Arithmetic.{times, zero64}
+use Rattle.numbers.specs.Arithmetic.{times}
 use Rattle.lists.specs.Lists.{iter}
 use Rattle.lists.specs.Floats.{at, sumRows}
 use Rattle.lists.specs.Strips.{addedIn}

@@ -1,13 +1,12 @@
 -- Offsets: a turn more of the loop that counts them, and that they are small, by the limits. Assumes nothing.
-use mathlib.Core.Path.{_≡_, refl, sym, ap, _∙_}
-use Prim.Native.Nat.{ℕ, zero, suc, _+_, _*_, _≤_, _<_, _^_, zero-le}
-use native.Mathlib.Nat.{mul-le-mul, mul-le-mul-right, le-antisymm, le-refl}
+use mathlib.Core.Path.{_≡_, refl}
+use Prim.Native.Nat.{ℕ, zero, suc, _+_, _*_, _≤_, _<_, zero-le}
+use native.Mathlib.Nat.{mul-le-mul, le-antisymm, le-refl}
 use native.Mathlib.Numerals.{add-one}
 use native.Mathlib.Omega.{arith}
 use mir.Syntax.{w64}
 use mir.Val.{Fits}
 use Rattle.lists.specs.Slots.{offset}
-use Rattle.lists.proofs.Slots.{offset-suc, offset-mono}
 use Rattle.shape.specs.declared.Shape.{Shape}
 use Rattle.shape.specs.Limits.{mostAxes, mostPoints, mostRank}
 use Rattle.shape.specs.Shapes.{leftOf, pointsOf, rightOf, coreSize, pointSize, entriesOf, allPoints}

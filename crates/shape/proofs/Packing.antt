@@ -3,11 +3,11 @@ use mathlib.Core.Path.{_≡_, refl, sym, ap, _∙_}
 use Prim.Native.Nat.{ℕ, zero, suc, _+_, _*_, _≤_, _<_}
 use native.Mathlib.Nat.{add-zero, zero-add, add-suc, suc-add, not-suc-le-zero, le-of-suc-le-suc, le-refl}
 use native.Mathlib.Omega.{arith}
-use mathlib.Core.List.{List, [], _∷_, _++_, map, append-nil}
-use lib.ListN.{length, getD, set, take, length-set, length-map, List·getD-map}
+use mathlib.Core.List.{List, [], _∷_, _++_, map}
+use lib.ListN.{length, getD, set, length-set, length-map, List·getD-map}
 use lib.Seq.{take-all, getD-set-same, getD-set-other}
 use lib.Ieee.{Float, nan}
-use Rattle.lists.specs.Lists.{tab, flat, joined}
+use Rattle.lists.specs.Lists.{tab, flat}
 use Rattle.lists.specs.Slots.{offset, slot}
 use Rattle.lists.proofs.Tables.{tab-map, tab-getD, listed-same}
 use Rattle.lists.proofs.Slots.{slots-joined, slot-flat, flat-length}

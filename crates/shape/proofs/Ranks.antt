@@ -1,17 +1,17 @@
 -- A shape whose ranks change core by core: what changes, what stays, and the way to the shape with the ranks of a list of cores. Assumes nothing.
 use mathlib.Core.Path.{_≡_, refl, sym, ap, _∙_, subst}
-use Prim.Native.Nat.{ℕ, zero, suc, _+_, _*_, _≤_, _<_}
+use Prim.Native.Nat.{ℕ, suc, _+_, _*_, _≤_, _<_}
 use native.Mathlib.Nat.{add-zero, add-suc, suc-add}
 use native.Mathlib.Omega.{arith}
 use mathlib.Core.Bool.{Bool, true, false}
 use lib.Dec.{eqb}
 use mathlib.Core.List.{List, [], _∷_, _++_}
-use lib.ListN.{length, getD, length-set}
+use lib.ListN.{length, length-set}
 use lib.Seq.{getD-set-same, getD-set-other}
 use Rattle.lists.specs.Slots.{offset}
 use Rattle.lists.proofs.Tests.{eqb-is, eqb-not}
 use Rattle.shape.specs.declared.Shape.{Shape}
-use Rattle.shape.specs.Limits.{mostAxes, mostRank}
+use Rattle.shape.specs.Limits.{mostRank}
 use Rattle.shape.specs.Shapes.{leftOf, pointsOf, rightOf, coreSize}
 use Rattle.shape.specs.Sizes.{SizesWithin}
 use Rattle.shape.specs.Cores.{Core, withCore, reshaped}

@@ -6,7 +6,7 @@ use lib.Dec.{leb, eqb}
 use Rattle.answers.specs.declared.Refusal.{Refusal}
 use Rattle.answers.specs.declared.Refusal.the-variants.{Axes, Size, Bond}
 use Rattle.answers.specs.declared.Verdict.the-variants.{Fits, Refused}
-use Rattle.answers.specs.Outcome.{done, refused, Answer, Check, _then_, demand, demandEach, verdictOf}
+use Rattle.answers.specs.Outcome.{refused, Answer, Check, _then_, demand, demandEach, verdictOf}
 use Rattle.answers.proofs.Checks.{demand-yes, demand-no, then-skip}
 use Rattle.lists.specs.Lists.{firstNot}
 use Rattle.lists.proofs.Tests.{both, not-no, not-yes, leb-is, eqb-yes, eqb-no}

@@ -1,5 +1,5 @@
 -- A shape: its sizes, where its cores stand in one list of numbers, and refusals 1 to 3. Definitions only.
-use Prim.Native.Nat.{ℕ, suc, _+_, _*_}
+use Prim.Native.Nat.{ℕ, suc, _*_}
 use mathlib.Core.Bool.{Bool, true, cond, _&&_}
 use lib.Dec.{ltb, eqb}
 use lib.ListN.{getD}

@@ -4,15 +4,15 @@ use Prim.Native.Nat.{ℕ, suc}
 use mathlib.Core.List.{List, [], _∷_}
 use lib.Dec.{ltb}
 use lib.ListN.{length}
-use Rattle.answers.specs.Outcome.{Answer, done, bind}
+use Rattle.answers.specs.Outcome.{bind}
 use Rattle.answers.proofs.Outcomes.{bind-cong}
 use Rattle.lists.specs.Walks.{every, walk}
 use Rattle.lists.proofs.Walks.{every-length}
 use Rattle.shape.specs.Cores.{Core}
 use Rattle.axes.specs.declared.Axis.{Axis}
-use Rattle.rounding.specs.Rounding.{Carry, none, Cut, roundCore, rounding}
+use Rattle.rounding.specs.Rounding.{none, roundCore, rounding}
 use Rattle.stepping.specs.declared.Settings.{Settings}
-use Rattle.stepping.specs.Zones.{Zone, zonesOf, rules}
+use Rattle.stepping.specs.Zones.{zonesOf, rules}
 use Rattle.stepping.specs.Steps.{shiftZone, scaleZone, roundZone, stepFrom, step}
 
 zones-length : (xs : List Axis) (k : ℕ) (cs : List Core) → length (zonesOf xs k cs) ≡ length cs

@@ -12,7 +12,7 @@ use Rattle.answers.specs.declared.Refusal.the-variants.{Length, Number, Setting
 use Rattle.answers.specs.Outcome.{Check, _then_, demand, demandEach}
 use Rattle.shape.specs.declared.Shape.{Shape}
 use Rattle.shape.specs.Limits.{within}
-use Rattle.shape.specs.Shapes.{pointsOf, chainOk}
+use Rattle.shape.specs.Shapes.{chainOk}
 use Rattle.shape.specs.Cores.{coreAt, coresOf}
 use Rattle.axes.specs.declared.Axis.{Axis}
 use Rattle.axes.specs.Axes.{axisFinite, axisOk}

@@ -1,6 +1,6 @@
 -- A step over zones: all shifts, then the scaling of core 0, then the bonds left to right; and steps one after another (001: `step`, `evolve`). Definitions only.
 use Prim.Native.Nat.{ℕ, zero, suc}
-use mathlib.Core.List.{List, [], _∷_}
+use mathlib.Core.List.{List}
 use lib.Dec.{ltb}
 use lib.ListN.{length}
 use lib.Ieee.{Float}
@@ -10,7 +10,7 @@ use Rattle.shape.specs.Cores.{Core, coreWith}
 use Rattle.axes.specs.declared.Axis.{Axis}
 use Rattle.rounding.specs.Rounding.{Carry, none, Cut, coresIn}
 use Rattle.stepping.specs.declared.Settings.{Settings}
-use Rattle.stepping.specs.Zones.{Zone, zone, zonesOf, Rules, rules}
+use Rattle.stepping.specs.Zones.{Zone, zonesOf, Rules, rules}
 
 -- a core with new numbers
 abbrev pub holding : Core → List Float → Core

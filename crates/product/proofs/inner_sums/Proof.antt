@@ -5,9 +5,8 @@ use lib.ListN.{length}
 use Prim.Native.Nat.{_-_}
 use mathlib.Core.Path.{refl, _∙_}
 use borrow.Author.Needs.{needs}
-use Rattle.shape.specs.Shapes.{pointSize}
 use Rattle.shape.proofs.Offsets.{offsets}
-use Rattle.shape.proofs.Slotwise.{slotwise, slot-end, slot-end-fits}
+use Rattle.shape.proofs.Slotwise.{slotwise}
 use Rattle.shape.proofs.Shaped.{shaped}
 use Rattle.product.proofs.Walking.{AtAxis, at-first, axis-asks, at-next, points-end, axis-stops, at-end}
 use Rattle.product.proofs.inner_sums.Statement.{statement}
