@@ -5,7 +5,6 @@ use native.Mathlib.Nat.{le-of-eq}
 use native.Mathlib.Omega.{arith}
 use mathlib.Core.Bool.{Bool, true, false, not}
 use mathlib.Core.List.{List}
-use lib.ListN.{length}
 use lib.Ieee.{Float}
 use mir.Syntax.{w64}
 use mir.Val as val
@@ -13,7 +12,7 @@ use Rattle.answers.specs.declared.Refusal.{Refusal}
 use Rattle.answers.specs.declared.Refusal.the-variants.{Number, Length}
 use Rattle.answers.specs.declared.Verdict.{Verdict}
 use Rattle.answers.specs.declared.Verdict.the-variants.{Fits, Refused}
-use Rattle.answers.specs.Outcome.{verdictOf, Check, _then_, demand, demandEach}
+use Rattle.answers.specs.Outcome.{verdictOf, Check, demand, demandEach}
 use Rattle.answers.proofs.Checks.{verdict-passed, demand-yes, demand-no, then-stops, then-passes}
 use Rattle.numbers.specs.Finite.{finite}
 use Rattle.lists.specs.Lists.{firstNot}
