@@ -1,12 +1,11 @@
 -- A chain packed from the places where its cores stood: what the loop asks, and that the result is the chain at the end. Assumes nothing.
 use mathlib.Core.Path.{_≡_, sym, ap, _∙_, subst}
 use Prim.Native.Nat.{ℕ, _≤_, _<_}
-use native.Mathlib.Omega.{arith}
 use mathlib.Core.List.{List, map}
-use lib.ListN.{length, take, getD, length-map}
+use lib.ListN.{length, take, getD}
 use lib.Ieee.{Float}
 use Rattle.numbers.specs.Arithmetic.{zero64}
-use Rattle.lists.specs.Lists.{joined, flat, tab}
+use Rattle.lists.specs.Lists.{joined, flat}
 use Rattle.lists.specs.Slots.{offset, slot, fit}
 use Rattle.lists.proofs.Tables.{tab-getD, tab-map, joined-same}
 use Rattle.shape.specs.declared.Shape.{Shape}

@@ -1,13 +1,12 @@
 -- The call `tt_round`: its checks, its answer, and what it leaves in the chain's slice and in scratch. Definitions only.
 use Prim.Native.Nat.{ℕ}
-use mathlib.Core.Bool.{Bool, true, false, not}
-use mathlib.Core.List.{List, []}
+use mathlib.Core.Bool.{Bool, false, not}
+use mathlib.Core.List.{List}
 use lib.Dec.{eqb}
 use lib.ListN.{length, replicate}
 use lib.Ieee.{Float, lt}
 use Rattle.numbers.specs.Arithmetic.{zero64}
 use Rattle.numbers.specs.Finite.{finite}
-use Rattle.answers.specs.declared.Refusal.{Refusal}
 use Rattle.answers.specs.declared.Refusal.the-variants.{Length, Number, Setting}
 use Rattle.answers.specs.declared.Verdict.the-variants.{Fits, Refused}
 use Rattle.answers.specs.Outcome.{Answer, done, refused, Check, _then_, demand, demandEach}
