@@ -11,7 +11,7 @@ use Rattle.lists.proofs.Tables.{tab-getD, tab-map, joined-same}
 use Rattle.shape.specs.declared.Shape.{Shape}
 use Rattle.shape.specs.Shapes.{coreSize, entriesOf}
 use Rattle.shape.specs.Cores.{Core, chainAfter}
-use Rattle.rounding.proofs.Packs.{Room}
+use Rattle.lists.proofs.Packs.{Room}
 
 module _ (s t : Shape) (work l : List Float) where
   pub room-of : t .d ≡ s .d → ((k : ℕ) → k < s .d → coreSize t k ≤ coreSize s k) → entriesOf s ≤ length work → entriesOf t ≤ length l → Room (coreSize s) (coreSize t) (s .d) work l

@@ -1,3 +1,2 @@
 pub mod Verdicts
-pub mod Packs
 pub mod Chains

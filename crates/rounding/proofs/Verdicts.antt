@@ -1,5 +1,5 @@
 -- The checks of a rounding by what code finds. Assumes nothing.
-use mathlib.Core.Path.{_≡_, refl, sym, ap, _∙_}
+use mathlib.Core.Path.{_≡_, refl, sym}
 use Prim.Native.Nat.{ℕ, _+_, _*_, _≤_, _<_}
 use native.Mathlib.Nat.{le-of-eq}
 use native.Mathlib.Omega.{arith}
@@ -8,17 +8,15 @@ use mathlib.Core.List.{List}
 use lib.Ieee.{Float}
 use mir.Syntax.{w64}
 use mir.Val as val
-use Rattle.answers.specs.declared.Refusal.{Refusal}
 use Rattle.answers.specs.declared.Refusal.the-variants.{Number, Length}
 use Rattle.answers.specs.declared.Verdict.{Verdict}
 use Rattle.answers.specs.declared.Verdict.the-variants.{Fits, Refused}
 use Rattle.answers.specs.Outcome.{verdictOf, Check, demand, demandEach}
-use Rattle.answers.proofs.Checks.{verdict-passed, demand-yes, demand-no, then-stops, then-passes}
+use Rattle.answers.proofs.Checks.{verdict-passed, then-stops, then-passes}
 use Rattle.numbers.specs.Finite.{finite}
 use Rattle.lists.specs.Lists.{firstNot}
 use Rattle.lists.specs.Floats.{allFinite}
-use Rattle.lists.proofs.Tests.{not-no, not-yes}
-use Rattle.lists.proofs.Asked.{lengths-say, place-wrong, places-right}
+use Rattle.lists.proofs.Asked.{test-wrong, test-right, lengths-say, place-wrong, places-right}
 use Rattle.shape.specs.declared.Shape.{Shape}
 use Rattle.shape.specs.Limits.{scratchFor}
 use Rattle.shape.specs.Shapes.{entriesOf}
@@ -26,16 +24,6 @@ use Rattle.shape.specs.Sizes.{SizesWithin}
 use Rattle.shape.specs.Cores.{coreAt}
 use Rattle.shape.proofs.Offsets.{entries-most}
 use Rattle.rounding.specs.Call.{lengthsOk, coreFinite, roundFinite}
-
--- b is what code found of a test t
-module _ (b t : Bool) (r : Refusal) (e : b ≡ t) where
-  pub test-wrong : not b ≡ true → Refused r ≡ verdictOf (demand t r)
-  test-wrong h = ap verdictOf (sym (demand-no t r (sym e ∙ not-yes b h)))
-
-  pub test-right : not b ≡ false → Fits ≡ verdictOf (demand t r)
-  test-right h = ap verdictOf (sym (demand-yes t r (sym e ∙ not-no b h)))
-
-pub ruleset tested = (test-wrong, test-right)
 
 -- m is the chain's N as code counted it
 module _ (s : Shape) (m : ℕ) (e : m ≡ entriesOf s) where

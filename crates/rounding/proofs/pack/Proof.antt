@@ -9,7 +9,7 @@ use Rattle.lists.proofs.Slots.{fit-length}
 use Rattle.shape.specs.Shapes.{coreSize}
 use Rattle.shape.proofs.Offsets.{offsets}
 use Rattle.shape.proofs.Slotwise.{slotwise}
-use Rattle.rounding.proofs.Packs.{Packing, packing-none, packing-long, packed-most, from-end, at-end, packing-more, packing-done}
+use Rattle.lists.proofs.Packs.{Packing, packing-none, packing-long, packed-most, from-end, at-end, packing-more, packing-done}
 use Rattle.rounding.proofs.Chains.{room-of}
 use Rattle.rounding.proofs.pack.Statement.{statement}
 use Rattle.rounding.proofs.pack.Tie as tie

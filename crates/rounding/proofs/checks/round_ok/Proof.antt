@@ -1,9 +1,10 @@
 -- `rounding::checks::round_ok` meets its contract. Assumes nothing.
 use borrow.Author.Needs.{needs}
 use Rattle.answers.proofs.Checks.{then-stops, then-passes}
+use Rattle.lists.proofs.Asked.{tested}
 use Rattle.shape.proofs.Shaped.{fits-sizes}
 use Rattle.rounding.specs.Call.{roundOk}
-use Rattle.rounding.proofs.Verdicts.{tested, chain-long}
+use Rattle.rounding.proofs.Verdicts.{chain-long}
 use Rattle.rounding.proofs.checks.round_ok.Statement.{statement}
 use Rattle.rounding.proofs.checks.round_ok.Tie as tie
 
