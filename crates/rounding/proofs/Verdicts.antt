@@ -1,6 +1,6 @@
 -- The checks of a rounding by what code finds. Assumes nothing.
 use mathlib.Core.Path.{_≡_, refl, sym}
-use Prim.Native.Nat.{ℕ, _+_, _*_, _≤_, _<_}
+use Prim.Native.Nat.{ℕ, _*_, _≤_, _<_}
 use native.Mathlib.Nat.{le-of-eq}
 use native.Mathlib.Omega.{arith}
 use mathlib.Core.Bool.{Bool, true, false, not}
@@ -27,14 +27,14 @@ use Rattle.rounding.specs.Call.{lengthsOk, coreFinite, roundFinite}
 
 -- m is the chain's N as code counted it
 module _ (s : Shape) (m : ℕ) (e : m ≡ entriesOf s) where
-  pub scratch-is : 4 * m + 2048 ≡ scratchFor (entriesOf s)
+  pub scratch-is : scratchFor m ≡ scratchFor (entriesOf s)
   scratch-is = rw e
 
   module _ (w : SizesWithin s) where
     pub four-fit : val.Fits w64 (4 * m)
     four-fit = record { fits = omega (arith, entries-most s w) }
 
-    pub scratch-fits : val.Fits w64 (4 * m + 2048)
+    pub scratch-fits : val.Fits w64 (scratchFor m)
     scratch-fits = record { fits = omega (arith, entries-most s w) }
 
 pub ruleset scratch-counted = (scratch-is, four-fit, scratch-fits)
