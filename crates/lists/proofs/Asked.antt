@@ -2,15 +2,25 @@
 use mathlib.Core.Path.{_≡_, refl, sym, ap, _∙_}
 use Prim.Native.Nat.{ℕ, _≤_, _<_}
 use native.Mathlib.Omega.{arith}
-use mathlib.Core.Bool.{Bool, _&&_}
+use mathlib.Core.Bool.{Bool, true, false, not, _&&_}
 use lib.Dec.{eqb}
 use Rattle.answers.specs.declared.Refusal.{Refusal}
 use Rattle.answers.specs.declared.Verdict.the-variants.{Fits, Refused}
 use Rattle.answers.specs.Outcome.{done, Check, _then_, demand, demandEach, verdictOf}
 use Rattle.answers.proofs.Checks.{demand-yes, demand-no, demand-is, then-is, then-stops, then-passes}
 use Rattle.lists.specs.Lists.{firstNot}
-use Rattle.lists.proofs.Tests.{eqb-yes, eqb-no, eqb-is}
+use Rattle.lists.proofs.Tests.{not-no, not-yes, eqb-yes, eqb-no, eqb-is}
 use Rattle.lists.proofs.Demands.{each-stops, each-passes, fails-most, both-left, both-right}
+
+-- b is what code found of a test t
+module _ (b t : Bool) (r : Refusal) (e : b ≡ t) where
+  pub test-wrong : not b ≡ true → Refused r ≡ verdictOf (demand t r)
+  test-wrong h = ap verdictOf (sym (demand-no t r (sym e ∙ not-yes b h)))
+
+  pub test-right : not b ≡ false → Fits ≡ verdictOf (demand t r)
+  test-right h = ap verdictOf (sym (demand-yes t r (sym e ∙ not-no b h)))
+
+pub ruleset tested = (test-wrong, test-right)
 
 module _ (a b : ℕ) (r : Refusal) where
   pub length-wrong : (a ≡ b → ⊥) → Refused r ≡ verdictOf (demand (eqb a b) r)

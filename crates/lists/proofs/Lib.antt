@@ -23,4 +23,5 @@ pub mod Sums
 -- slots and walks
 pub mod Slots
 pub mod Written
+pub mod Packs
 pub mod Walks

@@ -4,8 +4,8 @@ use Prim.Native.Nat.{ℕ, zero, suc, _+_, _-_, _≤_, _<_, suc-le-suc}
 use native.Mathlib.Nat.{zero-add, add-zero, add-suc, suc-add, le-refl, zero-lt-suc}
 use native.Mathlib.Omega.{arith}
 use mathlib.Core.List.{List, [], _∷_, _++_, append-assoc}
-use lib.ListN.{length, take, drop, getD, replicate, length-append, length-drop, length-replicate, take-append-drop}
-use lib.Seq.{split-at, take-take, take-add, take-append-le, take-append-seam, take-all, take-at, drop-at, drop-drop, length-take-le, take-nil}
+use lib.ListN.{length, take, drop, getD, replicate, length-append, length-drop, length-replicate, replicate-append-replicate, take-append-drop}
+use lib.Seq.{split-at, take-take, take-add, take-append-le, take-append-seam, take-append-add, take-all, take-at, drop-at, drop-drop, length-take-le, take-nil}
 use Rattle.lists.specs.Lists.{flat, joined}
 use Rattle.lists.specs.Slots.{offset, slot, put, fit, laid, write}
 use Rattle.lists.proofs.Tables.{joined-none, joined-more}
@@ -102,6 +102,18 @@ module _ {A : Type 0} where
   pub fit-used : (o : A) (n : ℕ) (x : List A) → length x ≤ n → take (length x) (fit o n x) ≡ x
   unfolding fit
   fit-used o n x le = take-take (length x) n (x ++ replicate n o) le ∙ take-append-seam x (replicate n o)
+
+  -- x at the front, o in all of the room that it leaves
+  pub fit-whole : (o : A) (n : ℕ) (x : List A) → length x ≤ n → fit o n x ≡ x ++ replicate (n - length x) o
+  unfolding fit
+  fit-whole o n x le =
+      let m = n - length x in
+      let e : n ≡ length x + m = omega arith in
+      let f : n ≡ m + length x = omega arith in
+      ap (λ (j : ℕ). take j (x ++ replicate n o)) e
+      ∙ take-append-add x (replicate n o) m
+      ∙ ap (λ (y : List A). x ++ take m y) (ap (λ (j : ℕ). replicate j o) f ∙ sym (replicate-append-replicate m (length x) o))
+      ∙ ap (λ (y : List A). x ++ y) (take-at (replicate m o) (replicate (length x) o) m (length-replicate m o))
 
   pub laid-append : (size : ℕ → ℕ) (o : A) (k : ℕ) (xs ys : List (List A)) → laid size o k (xs ++ ys) ≡ laid size o k xs ++ laid size o (k + length xs) ys
   unfolding laid

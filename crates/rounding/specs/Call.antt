@@ -1,13 +1,12 @@
 -- The call `tt_round`: its checks, its answer, and what it leaves in the chain's slice and in scratch. Definitions only.
 use Prim.Native.Nat.{ℕ}
-use mathlib.Core.Bool.{Bool, true, false, not}
-use mathlib.Core.List.{List, []}
+use mathlib.Core.Bool.{Bool, false, not}
+use mathlib.Core.List.{List}
 use lib.Dec.{eqb}
 use lib.ListN.{length, replicate}
 use lib.Ieee.{Float, lt}
 use Rattle.numbers.specs.Arithmetic.{zero64}
 use Rattle.numbers.specs.Finite.{finite}
-use Rattle.answers.specs.declared.Refusal.{Refusal}
 use Rattle.answers.specs.declared.Refusal.the-variants.{Length, Number, Setting}
 use Rattle.answers.specs.declared.Verdict.the-variants.{Fits, Refused}
 use Rattle.answers.specs.Outcome.{Answer, done, refused, Check, _then_, demand, demandEach}
@@ -35,12 +34,16 @@ coreFinite s l k = allFinite (coreAt s l k .entries)
 unfoldable pub notBelowZero : Float → Bool
 notBelowZero x = not (lt x zero64)
 
-unfoldable pub roundOk : Shape → Float → List Float → List Float → Check
+-- 6: eps, then the cores
+unfoldable pub roundFinite : Shape → Float → List Float → Check
+roundFinite s eps chain = demand (finite eps) (Number 0) then demandEach Number (coreFinite s chain) (s .d) 0
+
+-- scratch by its length alone
+unfoldable pub roundOk : Shape → Float → List Float → ℕ → Check
 roundOk s eps chain scratch =
     chainOk s
-    then lengthsOk s 0 (length chain) 1 (length scratch)
-    then demand (finite eps) (Number 0)
-    then demandEach Number (coreFinite s chain) (s .d) 0
+    then lengthsOk s 0 (length chain) 1 scratch
+    then roundFinite s eps chain
     then demand (notBelowZero eps) (Setting 0)
 
 -- ---- what a call that rounds a chain answers and leaves, by its outcome
@@ -67,4 +70,4 @@ endedBy s l w (refused r) = record {
 }
 
 unfoldable pub roundCall : Shape → Float → List Float → List Float → Ended
-roundCall s eps chain scratch = endedBy s chain scratch (roundOk s eps chain scratch then rounding eps (coresOf s chain))
+roundCall s eps chain scratch = endedBy s chain scratch (roundOk s eps chain (length scratch) then rounding eps (coresOf s chain))
