@@ -5,3 +5,4 @@ pub mod Strips
 pub mod Cores
 pub mod Turned
 pub mod Rotations
+pub mod Swept
