@@ -10,12 +10,14 @@ pub mod Stages
 pub mod Firsts
 pub mod Picks
 pub mod Counts
+pub mod Ranks
 pub mod Over
 pub mod Seen
 -- tests, and lists of f64
 pub mod Tests
 pub mod Floats
 pub mod Sums
+pub mod Order
 -- slots and walks
 pub mod Slots
 pub mod Written
