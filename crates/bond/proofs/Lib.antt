@@ -6,3 +6,4 @@ pub mod Cores
 pub mod Turned
 pub mod Rotations
 pub mod Swept
+pub mod Ranked
