@@ -36,7 +36,11 @@ count-suc : (p : ℕ → Bool) (n : ℕ) → count p (suc n) ≡ count p n + one
 unfolding count one
 count-suc p n = refl
 
--- ---- for a loop: a turn more, where the test is worth k
+-- ---- for a loop: the start, a turn more, where the test is worth k, and the end
+pub count-start : (p : ℕ → Bool) → 0 ≡ count p 0
+unfolding count
+count-start p = refl
+
 pub count-more : (p : ℕ → Bool) (n c k : ℕ) → c ≡ count p n → k ≡ cond (p n) 1 0 → c + k ≡ count p (n + 1)
 unfolding count
 count-more p n c k e d = rw (add-one, ← e, ← d)

@@ -202,6 +202,10 @@ module _ {A : Type 0} where
       sym (tab-getD o l) ∙ ap (λ (k : ℕ). tab k (λ (x : ℕ). getD l x o)) e ∙ tab-rows m n (λ (x : ℕ). getD l x o)
       ∙ grid-same m n (λ (i j : ℕ). getD l (i * n + j) o) f h
 
+-- a list is the table of what stands at its places
+pub tab-is : {A : Type 0} (n : ℕ) (f : ℕ → A) (o : A) (l : List A) → length l ≡ n → ((i : ℕ) → i < n → getD l i o ≡ f i) → l ≡ tab n f
+tab-is n f o l e h = sym (tab-getD o l) ∙ ap (λ (k : ℕ). tab k (λ (x : ℕ). getD l x o)) e ∙ listed-same n 0 (λ (x : ℕ). getD l x o) f (λ j p q. h j (omega arith))
+
 -- ---- a table stored at the front, and over the whole
 module _ {A : Type 0} (l t : List A) (k n : ℕ) (f : ℕ → A) (e : t ≡ iter k (λ (j : ℕ) (u : List A). set u j (f j)) l) (p : k ≤ n) (q : n ≤ k) where
   pub fill-front : n ≤ length l → t ≡ tab n f ++ drop n l
