@@ -9,6 +9,7 @@ ghost use Rattle.bond.specs.Bonds.{gram, absorb};
 pub mod products;
 pub mod rotation;
 pub mod sweeps;
+pub mod values;
 
 // The Gram matrix of a core's rows.
 pub fn gram(core: &[f64], rl: usize, n: usize, rr: usize, g: &mut [f64])
