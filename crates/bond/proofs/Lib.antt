@@ -7,3 +7,4 @@ pub mod Turned
 pub mod Rotations
 pub mod Swept
 pub mod Ranked
+pub mod Finished

@@ -4,14 +4,14 @@ use native.Mathlib.Nat.{mul-le-mul-right, suc-mul, add-assoc, le-antisymm, not-s
 use native.Mathlib.Omega.{arith}
 use mathlib.Core.Path.{_≡_, refl, sym, ap, _∙_}
 use mathlib.Core.Logic.{⊎-elim}
-use mathlib.Core.List.{List, _++_}
-use lib.ListN.{length, set, drop, length-set, replicate, getD-replicate}
+use mathlib.Core.List.{List, _++_, append-nil}
+use lib.ListN.{length, set, drop, length-set, replicate, getD-replicate, drop-of-length-le}
 use lib.Seq.{getD-set-same, getD-set-other}
 use lib.Ieee.{Float, nan}
 use mir.Syntax.{w64}
 use mir.Val.{Fits}
 use Rattle.numbers.specs.Arithmetic.{plus, times, zero64}
-use Rattle.lists.specs.Lists.{iter, iterFrom}
+use Rattle.lists.specs.Lists.{iter, iterFrom, grid}
 use Rattle.lists.specs.Floats.{at, sumOn, sumTo}
 use Rattle.lists.proofs.Loops.{iter-same, from-all, from-on, from-add}
 use Rattle.lists.proofs.Tables.{iter-keeps, fill-grid}
@@ -113,10 +113,17 @@ row-whole e f j w o u d g h = from-done (λ (t : ℕ) (l : List Float). set l (e
 pub start-ok : (i r d m l q : ℕ) → i < r → r * d + m < l + q + d → i * d + m < l + q
 start-ok i r d m l q h g = omega (arith, mul-le-mul-right d h, suc-mul i d)
 
+module _ (m w : ℕ) (f : ℕ → ℕ → Float) (k : ℕ) (o u : List Float) (e : u ≡ iter k (λ (i : ℕ). storedFrom (i * w) w (f i)) o) (p : k ≤ m) (q : m ≤ k) where
+  -- at the front, and over the whole
+  pub rows-front : m * w ≤ length o → u ≡ grid m w f ++ drop (m * w) o
+  unfolding storedFrom
+  rows-front l = iter-done (λ (i : ℕ). storedFrom (i * w) w (f i)) o k m u e p q ∙ fill-grid o m w f l
+
+  pub rows-whole : length o ≡ m * w → u ≡ grid m w f
+  rows-whole l = let b : length o ≤ m * w = omega arith in rows-front (omega arith) ∙ rw (drop-of-length-le o b, append-nil)
+
 pub rows-done : (b : List Float) (d q : ℕ) (a : List Float) (w c r k : ℕ) (o u : List Float)
     → u ≡ iter k (λ (i : ℕ). storedFrom (i * w) w (dotAt b (i * d) q a w c)) o → k ≤ r → r ≤ k → r * w ≤ length o
     → u ≡ productOf b d q a w c r ++ drop (r * w) o
-unfolding productOf storedFrom
-rows-done b d q a w c r k o u e g h l =
-    iter-done (λ (i : ℕ). storedFrom (i * w) w (dotAt b (i * d) q a w c)) o k r u e g h
-    ∙ fill-grid o r w (λ (i j : ℕ). dotAt b (i * d) q a w c j) l
+unfolding productOf
+rows-done b d q a w c r k o u e g h l = rows-front r w (λ (i j : ℕ). dotAt b (i * d) q a w c j) k o u e g h l

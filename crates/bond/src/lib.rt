@@ -6,6 +6,7 @@ ghost use lib.ListN.{length, take, drop};
 ghost use Rattle.shape.specs.Cores.{coreWith};
 ghost use Rattle.bond.specs.Bonds.{gram, absorb};
 
+pub mod factors;
 pub mod products;
 pub mod rotation;
 pub mod sweeps;

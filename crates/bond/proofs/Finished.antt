@@ -1,0 +1,73 @@
+-- The left factor and the carry, column by column and row by row. Assumes nothing.
+use mathlib.Core.Path.{_≡_, refl, sym, ap, _∙_}
+use mathlib.Core.Logic.{⊎-elim}
+use Prim.Native.Nat.{ℕ, zero, suc, _+_, _*_, _<_, _≤_}
+use native.Mathlib.Nat.{not-suc-le-zero, le-of-suc-le-suc, le-of-eq, le-refl, eq-or-lt-of-le}
+use native.Mathlib.Omega.{arith}
+use mathlib.Core.Bool.{Bool, true, false}
+use mathlib.Core.List.{List}
+use lib.ListN.{length, set}
+use lib.Ieee.{Float, nan}
+use Rattle.numbers.specs.Arithmetic.{over, zero64}
+use Rattle.lists.specs.Lists.{iter, grid, pick}
+use Rattle.lists.specs.Floats.{at, cell}
+use Rattle.lists.proofs.Altered.{altered, altered-length, altered-other, altered-at}
+use Rattle.lists.proofs.Cells.{cell-lt, cell-row, cell-column}
+use Rattle.lists.proofs.Loops.{iter-same}
+use Rattle.lists.proofs.Tables.{iter-keeps, grid-is}
+use Rattle.lists.proofs.Turns.{iter-done}
+use Rattle.bond.specs.Bonds.{divided}
+use Rattle.bond.specs.Stages.{finished, finishColumn}
+
+-- ---- one column: by the test on its value
+module _ (m r j : ℕ) (value : Float) (l u : List Float) (b : Bool) (eb : b ≡ divided value) where
+  pub finish-divided : b ≡ true → u ≡ iter m (λ (i : ℕ) (t : List Float). set t (i * r + j) (over (at t (i * r + j)) value)) l → u ≡ finishColumn m r j value l
+  unfolding finishColumn finished pick
+  finish-divided h e =
+      let d : divided value ≡ true = sym eb ∙ h in
+      e ∙ iter-same m (λ (i : ℕ) (t : List Float). set t (i * r + j) (over (at t (i * r + j)) value)) (λ (i : ℕ) (t : List Float). set t (i * r + j) (finished value (at t (i * r + j)))) l (λ i t g. rw d)
+
+  pub finish-cleared : b ≡ false → u ≡ iter m (λ (i : ℕ) (t : List Float). set t (i * r + j) zero64) l → u ≡ finishColumn m r j value l
+  unfolding finishColumn finished pick
+  finish-cleared h e =
+      let d : divided value ≡ false = sym eb ∙ h in
+      e ∙ iter-same m (λ (i : ℕ) (t : List Float). set t (i * r + j) zero64) (λ (i : ℕ) (t : List Float). set t (i * r + j) (finished value (at t (i * r + j)))) l (λ i t g. rw d)
+
+-- ---- column after column of m rows of r
+module _ (m r : ℕ) (ss l : List Float) (long : length l ≡ m * r) where
+  -- after k columns
+  abbrev to : ℕ → List Float
+  to k = iter k (λ (j : ℕ). finishColumn m r j (at ss j)) l
+
+  column-length : (j : ℕ) (value : Float) (t : List Float) → length (finishColumn m r j value t) ≡ length t
+  unfolding finishColumn
+  column-length j value t = altered-length nan (λ (i : ℕ). i * r + j) (λ i x. finished value x) t m
+
+  to-length : (k : ℕ) → length (to k) ≡ m * r
+  to-length k = iter-keeps (λ (t : List Float). length t ≡ m * r) (λ (j : ℕ). finishColumn m r j (at ss j)) l long (λ j t e. column-length j (at ss j) t ∙ e) k
+
+  column-at : (k : ℕ) → k < r → (i : ℕ) → i < m → at (to (suc k)) (i * r + k) ≡ finished (at ss k) (at (to k) (i * r + k))
+  unfolding finishColumn
+  column-at k h i a =
+      altered-at nan (λ (x : ℕ). x * r + k) (λ x y. finished (at ss k) y) (to k) m (λ x y p q e. cell-row x y r k k h h e) (λ x p. cell-lt x m r k (length (to k)) p h (le-of-eq (sym (to-length k)))) m i (le-refl m) a
+
+  column-other : (k j : ℕ) → k < r → j < r → ¬ (j ≡ k) → (i : ℕ) → at (to (suc k)) (i * r + j) ≡ at (to k) (i * r + j)
+  unfolding finishColumn
+  column-other k j h g d i = altered-other nan (λ (x : ℕ). x * r + k) (λ x y. finished (at ss k) y) (to k) m (i * r + j) (λ x p e. d (cell-column i x r j k g h e))
+
+  later : (k j : ℕ) → k ≤ j → j < r → (i : ℕ) → at (to k) (i * r + j) ≡ at l (i * r + j)
+  later zero j p g i = refl
+  later (suc k) j p g i = column-other k j (omega arith) g (λ e. omega arith) i ∙ later k j (omega arith) g i
+
+  done-at : (k j : ℕ) → k ≤ r → j < k → (i : ℕ) → i < m → at (to k) (i * r + j) ≡ finished (at ss j) (at l (i * r + j))
+  done-at zero j p g i a = absurd (not-suc-le-zero g)
+  done-at (suc k) j p g i a =
+      ⊎-elim
+      (λ q. rw q (column-at k p i a ∙ ap (finished (at ss k)) (later k k (le-refl k) p i)))
+      (λ q. column-other k j p (omega arith) (λ e. omega arith) i ∙ done-at k j (omega arith) q i a)
+      (eq-or-lt-of-le (le-of-suc-le-suc g))
+
+  pub finish-done : (k : ℕ) (u : List Float) → u ≡ to k → k ≤ r → r ≤ k → u ≡ grid m r (λ (i j : ℕ). finished (at ss j) (cell r l i j))
+  finish-done k u e p q =
+      iter-done (λ (j : ℕ). finishColumn m r j (at ss j)) l k r u e p q
+      ∙ grid-is m r (λ (i j : ℕ). finished (at ss j) (cell r l i j)) nan (to r) (to-length r) (λ i j a b. done-at r j (le-refl r) b i a)

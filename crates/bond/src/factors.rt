@@ -1,0 +1,81 @@
+// The left factor and the carry of a cut.
+ghost use mathlib.Core.Path.{_≡_};
+ghost use mathlib.Core.List.{List, _++_};
+ghost use Prim.Native.Nat.{ℕ, _+_, _*_, _<_, _≤_};
+ghost use lib.ListN.{length, getD, set, take, drop};
+ghost use lib.Ieee.{Float};
+ghost use Rattle.numbers.specs.Arithmetic.{times, over, zero64};
+ghost use Rattle.answers.specs.Outcome.{staged};
+ghost use Rattle.lists.specs.Lists.{iter, grid};
+ghost use Rattle.lists.specs.Floats.{at, cell, stored};
+ghost use Rattle.bond.specs.Products.{productOf, storedFrom};
+ghost use Rattle.bond.specs.Bonds.{divided};
+ghost use Rattle.bond.specs.Stages.{Columns, gathered, finished, finishColumn, leftRows, carryRows};
+
+// Row k of the basis' columns that js names.
+fn gather_row(v: &[f64], n: usize, js: &[usize], r: usize, k: usize, columns: &mut [f64])
+    requires { ⌜ (length (now v) ≡ n * n) × (r ≤ length (now js)) × Columns n (now js) r × (length (now columns) ≡ n * r) × (k < n) ⌝ }
+    ensures { λ _. ⌜ now (columns .exit) ≡ storedFrom (k * r) r (λ (j : ℕ). cell n (now (v .entry)) k (getD (now (js .entry)) j 0)) (now (columns .entry)) ⌝ }
+{
+    for j in 0..r {
+        let column = js[j];
+        columns[k * r + j] = v[k * n + column];
+    }
+}
+
+// The basis' columns that js names, side by side.
+pub fn gather(v: &[f64], n: usize, js: &[usize], r: usize, columns: &mut [f64])
+    requires { ⌜ (length (now v) ≡ n * n) × (r ≤ length (now js)) × Columns n (now js) r × (length (now columns) ≡ n * r) ⌝ }
+    ensures { λ _. ⌜ now (columns .exit) ≡ gathered n r (now (js .entry)) (now (v .entry)) ⌝ }
+{
+    for k in 0..n {
+        gather_row(v, n, js, r, k, columns);
+    }
+}
+
+// Whether a column is divided by its value.
+fn divided(value: f64) -> bool
+    ensures { λ r. ⌜ r ≡ divided value ⌝ }
+{
+    1e-30 < value
+}
+
+fn divide_column(u: &mut [f64], m: usize, r: usize, j: usize, value: f64)
+    requires { ⌜ (length (now u) ≡ m * r) × (j < r) ⌝ }
+    ensures { λ _. ⌜ now (u .exit) ≡ iter m (λ (i : ℕ) (t : List Float). set t (i * r + j) (over (at t (i * r + j)) value)) (now (u .entry)) ⌝ }
+{
+    for i in 0..m {
+        u[i * r + j] = u[i * r + j] / value;
+    }
+}
+
+fn clear_column(u: &mut [f64], m: usize, r: usize, j: usize)
+    requires { ⌜ (length (now u) ≡ m * r) × (j < r) ⌝ }
+    ensures { λ _. ⌜ now (u .exit) ≡ iter m (λ (i : ℕ) (t : List Float). set t (i * r + j) zero64) (now (u .entry)) ⌝ }
+{
+    for i in 0..m {
+        u[i * r + j] = 0.0;
+    }
+}
+
+// The test is made once a column.
+fn finish_column(u: &mut [f64], m: usize, r: usize, j: usize, value: f64)
+    requires { ⌜ (length (now u) ≡ m * r) × (j < r) ⌝ }
+    ensures { λ _. ⌜ now (u .exit) ≡ finishColumn m r j value (now (u .entry)) ⌝ }
+{
+    if divided(value) {
+        divide_column(u, m, r, j, value);
+        return;
+    }
+    clear_column(u, m, r, j);
+}
+
+// Each entry of m rows of r divided by its column's value, or 0.
+fn finish(u: &mut [f64], m: usize, r: usize, ss: &[f64])
+    requires { ⌜ (length (now u) ≡ m * r) × (r ≤ length (now ss)) ⌝ }
+    ensures { λ _. ⌜ now (u .exit) ≡ grid m r (λ (i j : ℕ). finished (at (now (ss .entry)) j) (cell r (now (u .entry)) i j)) ⌝ }
+{
+    for j in 0..r {
+        finish_column(u, m, r, j, ss[j]);
+    }
+}
