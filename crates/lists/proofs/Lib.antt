@@ -12,6 +12,7 @@ pub mod Picks
 pub mod Counts
 pub mod Ranks
 pub mod Over
+pub mod Parts
 pub mod Seen
 -- tests, and lists of f64
 pub mod Tests
