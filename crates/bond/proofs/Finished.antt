@@ -1,23 +1,28 @@
 -- The left factor and the carry, column by column and row by row. Assumes nothing.
 use mathlib.Core.Path.{_≡_, refl, sym, ap, _∙_}
 use mathlib.Core.Logic.{⊎-elim}
-use Prim.Native.Nat.{ℕ, zero, suc, _+_, _*_, _<_, _≤_}
+use Prim.Native.Nat.{ℕ, zero, suc, _+_, _-_, _*_, _<_, _≤_}
 use native.Mathlib.Nat.{not-suc-le-zero, le-of-suc-le-suc, le-of-eq, le-refl, eq-or-lt-of-le}
 use native.Mathlib.Omega.{arith}
 use mathlib.Core.Bool.{Bool, true, false}
-use mathlib.Core.List.{List}
-use lib.ListN.{length, set}
+use mathlib.Core.List.{List, _++_}
+use lib.ListN.{length, set, take, drop}
 use lib.Ieee.{Float, nan}
+use Rattle.answers.specs.declared.Stage.{Stage}
+use Rattle.answers.specs.Outcome.{staged, stageOf}
 use Rattle.numbers.specs.Arithmetic.{over, zero64}
 use Rattle.lists.specs.Lists.{iter, grid, pick}
-use Rattle.lists.specs.Floats.{at, cell}
+use Rattle.lists.specs.Floats.{at, cell, stored}
 use Rattle.lists.proofs.Altered.{altered, altered-length, altered-other, altered-at}
 use Rattle.lists.proofs.Cells.{cell-lt, cell-row, cell-column}
 use Rattle.lists.proofs.Loops.{iter-same}
-use Rattle.lists.proofs.Tables.{iter-keeps, grid-is}
+use Rattle.lists.proofs.Parts.{part-again, front-again}
+use Rattle.lists.proofs.Stages.{stored-staged}
+use Rattle.lists.proofs.Tables.{iter-keeps, grid-is, grid-same, length-grid, getD-grid}
 use Rattle.lists.proofs.Turns.{iter-done}
 use Rattle.bond.specs.Bonds.{divided}
-use Rattle.bond.specs.Stages.{finished, finishColumn}
+use Rattle.bond.specs.Products.{dotAt, productOf}
+use Rattle.bond.specs.Stages.{finished, finishColumn, leftRows}
 
 -- ---- one column: by the test on its value
 module _ (m r j : ℕ) (value : Float) (l u : List Float) (b : Bool) (eb : b ≡ divided value) where
@@ -71,3 +76,28 @@ module _ (m r : ℕ) (ss l : List Float) (long : length l ≡ m * r) where
   finish-done k u e p q =
       iter-done (λ (j : ℕ). finishColumn m r j (at ss j)) l k r u e p q
       ∙ grid-is m r (λ (i j : ℕ). finished (at ss j) (cell r l i j)) nan (to r) (to-length r) (λ i j a b. done-at r j (le-refl r) b i a)
+
+-- ---- the left factor: rows copied, multiplied, finished and stored
+pub grid-long : (m r : ℕ) (f : ℕ → ℕ → Float) (l : List Float) → l ≡ grid m r f → length l ≡ m * r
+grid-long m r f l e = ap length e ∙ length-grid m r f
+
+module _ (m n r : ℕ) (columns core : List Float) where
+  pub multiply-is : (ys rest u : List Float) → ys ≡ core → u ≡ productOf (take (length core - 0) (ys ++ rest)) n 1 columns r n m ++ drop (m * r) core → u ≡ productOf core n 1 columns r n m ++ drop (m * r) core
+  multiply-is ys rest u e d = d ∙ ap (λ (x : List Float). productOf x n 1 columns r n m ++ drop (m * r) core) (part-again ys rest (length core) (ap length e) ∙ e)
+
+  pub left-is : (ss u f rest : List Float) (s : Stage) → u ≡ productOf core n 1 columns r n m ++ drop (m * r) core
+      → f ≡ grid m r (λ (i j : ℕ). finished (at ss j) (cell r (take (m * r - 0) u) i j))
+      → s ≡ stageOf (stored (take (m * r - 0) (f ++ rest)))
+      → stored (leftRows m n r columns ss core) ≡ staged s (take (m * r) (f ++ rest))
+  unfolding productOf leftRows
+  left-is ss u f rest s eu ef es =
+      let P = productOf core n 1 columns r n m in
+      let long : length P ≡ m * r = length-grid m r (λ (i j : ℕ). dotAt core (i * n) 1 columns r n j) in
+      let part : take (m * r - 0) u ≡ P = ap (take (m * r - 0)) eu ∙ part-again P (drop (m * r) core) (m * r) long in
+      let len = grid-long m r (λ (i j : ℕ). finished (at ss j) (cell r (take (m * r - 0) u) i j)) f ef in
+      let is : leftRows m n r columns ss core ≡ f =
+      sym (ef ∙ grid-same m r (λ (i j : ℕ). finished (at ss j) (cell r (take (m * r - 0) u) i j)) (λ (i j : ℕ). finished (at ss j) (dotAt core (i * n) 1 columns r n j))
+      (λ i j a b. ap (finished (at ss j)) (ap (λ (x : List Float). at x (i * r + j)) part ∙ getD-grid m r (λ (i j : ℕ). dotAt core (i * n) 1 columns r n j) i j nan a b))) in
+      ap stored is
+      ∙ stored-staged f s (es ∙ ap (λ (x : List Float). stageOf (stored x)) (part-again f rest (m * r) len))
+      ∙ ap (staged s) (sym (front-again f rest (m * r) len))

@@ -79,3 +79,52 @@ fn finish(u: &mut [f64], m: usize, r: usize, ss: &[f64])
         finish_column(u, m, r, j, ss[j]);
     }
 }
+
+// m rows of n in core times the columns, at the front of core. The rows are read in room.
+fn multiply(core: &mut [f64], m: usize, n: usize, columns: &[f64], r: usize, room: &mut [f64])
+    requires { ⌜ (length (now core) ≡ m * n) × (length (now columns) ≡ n * r) × (r ≤ n) × (length (now core) ≤ length (now room)) ⌝ }
+    ensures { λ _. ⌜ now (core .exit) ≡ productOf (now (core .entry)) n 1 (now (columns .entry)) r n m ++ drop (m * r) (now (core .entry)) ⌝ }
+{
+    let e = core.len();
+    lists::copy(core, &mut room[0..e]);
+    crate::products::product(&room[0..e], n, 1, columns, r, n, m, core);
+}
+
+// The left factor, at the front of core.
+fn left_factor(
+    core: &mut [f64],
+    m: usize,
+    n: usize,
+    columns: &[f64],
+    r: usize,
+    ss: &[f64],
+    room: &mut [f64],
+) -> answers::Stage
+    requires { ⌜ (length (now core) ≡ m * n) × (length (now columns) ≡ n * r) × (r ≤ n) × (r ≤ length (now ss)) × (length (now core) ≤ length (now room)) ⌝ }
+    ensures { λ s. ⌜ stored (leftRows m n r (now (columns .entry)) (now (ss .entry)) (now (core .entry))) ≡ staged s (take (m * r) (now (core .exit))) ⌝ }
+{
+    multiply(core, m, n, columns, r, room);
+    let e = m * r;
+    finish(&mut core[0..e], m, r, ss);
+    lists::stored(&core[0..e])
+}
+
+// Row i of the carry.
+fn carry_row(columns: &[f64], n: usize, r: usize, i: usize, value: f64, carry: &mut [f64])
+    requires { ⌜ (length (now columns) ≡ n * r) × (i < r) × (length (now carry) ≡ r * n) ⌝ }
+    ensures { λ _. ⌜ now (carry .exit) ≡ storedFrom (i * n) n (λ (j : ℕ). times value (at (now (columns .entry)) (j * r + i))) (now (carry .entry)) ⌝ }
+{
+    for j in 0..n {
+        carry[i * n + j] = value * columns[j * r + i];
+    }
+}
+
+// Each column times its value.
+fn carry_rows(columns: &[f64], n: usize, r: usize, ss: &[f64], carry: &mut [f64])
+    requires { ⌜ (length (now columns) ≡ n * r) × (r ≤ length (now ss)) × (length (now carry) ≡ r * n) ⌝ }
+    ensures { λ _. ⌜ now (carry .exit) ≡ carryRows n r (now (columns .entry)) (now (ss .entry)) ⌝ }
+{
+    for i in 0..r {
+        carry_row(columns, n, r, i, ss[i], carry);
+    }
+}
