@@ -6,23 +6,27 @@ use native.Mathlib.Nat.{not-suc-le-zero, le-of-suc-le-suc, le-of-eq, le-refl, eq
 use native.Mathlib.Omega.{arith}
 use mathlib.Core.Bool.{Bool, true, false}
 use mathlib.Core.List.{List, _++_}
-use lib.ListN.{length, set, take, drop}
+use lib.ListN.{length, getD, set, take, drop}
 use lib.Ieee.{Float, nan}
 use Rattle.answers.specs.declared.Stage.{Stage}
-use Rattle.answers.specs.Outcome.{staged, stageOf}
-use Rattle.numbers.specs.Arithmetic.{over, zero64}
+use Rattle.answers.specs.declared.Stage.the-variants.{Whole, Spilt}
+use Rattle.answers.specs.Outcome.{Made, done, bind, staged, stageOf}
+use Rattle.numbers.specs.Arithmetic.{times, over, zero64}
 use Rattle.lists.specs.Lists.{iter, grid, pick}
 use Rattle.lists.specs.Floats.{at, cell, stored}
 use Rattle.lists.proofs.Altered.{altered, altered-length, altered-other, altered-at}
 use Rattle.lists.proofs.Cells.{cell-lt, cell-row, cell-column}
 use Rattle.lists.proofs.Loops.{iter-same}
 use Rattle.lists.proofs.Parts.{part-again, front-again}
-use Rattle.lists.proofs.Stages.{stored-staged}
+use Rattle.lists.proofs.Stages.{stored-staged, staged-on, staged-stop, staged-last}
+use Rattle.lists.proofs.Sums.{sum-same}
 use Rattle.lists.proofs.Tables.{iter-keeps, grid-is, grid-same, length-grid, getD-grid}
 use Rattle.lists.proofs.Turns.{iter-done}
-use Rattle.bond.specs.Bonds.{divided}
+use Rattle.shape.specs.Cores.{coreWith, entry}
+use Rattle.shape.proofs.Places.{entry-row, block-rows}
+use Rattle.bond.specs.Bonds.{divided, leftFactor, carryOf}
 use Rattle.bond.specs.Products.{dotAt, productOf}
-use Rattle.bond.specs.Stages.{finished, finishColumn, leftRows}
+use Rattle.bond.specs.Stages.{Factors, factorsOf, gathered, finished, finishColumn, leftRows, carryRows}
 
 -- ---- one column: by the test on its value
 module _ (m r j : ℕ) (value : Float) (l u : List Float) (b : Bool) (eb : b ≡ divided value) where
@@ -101,3 +105,35 @@ module _ (m n r : ℕ) (columns core : List Float) where
       ap stored is
       ∙ stored-staged f s (es ∙ ap (λ (x : List Float). stageOf (stored x)) (part-again f rest (m * r) len))
       ∙ ap (staged s) (sym (front-again f rest (m * r) len))
+
+-- ---- with the basis' columns gathered, these are the left factor and the carry
+module _ (rl n rr r : ℕ) (core v : List Float) (js : List ℕ) (ss columns : List Float) (ec : columns ≡ gathered rr r js v) where
+  column : (k j : ℕ) → k < rr → j < r → at columns (k * r + j) ≡ cell rr v k (getD js j 0)
+  unfolding gathered
+  column k j a b = ap (λ (x : List Float). at x (k * r + j)) ec ∙ getD-grid rr r (λ (k j : ℕ). cell rr v k (getD js j 0)) k j nan a b
+
+  left-rows : leftRows (rl * n) rr r columns ss core ≡ leftFactor (coreWith rl n rr core) r ss js v
+  unfolding leftRows leftFactor finished dotAt
+  left-rows =
+      sym (block-rows rl n r _ (λ (i j : ℕ). finished (at ss j) (dotAt core (i * rr) 1 columns r rr j))
+      (λ il im j a b c. ap (finished (at ss j))
+      (sum-same rr (λ (k : ℕ). times (at core (k * 1 + (il * n + im) * rr)) (at columns (k * r + j))) (λ (k : ℕ). times (entry (coreWith rl n rr core) il im k) (cell rr v k (getD js j 0)))
+      (λ k d. let z : k * 1 + (il * n + im) * rr ≡ (il * n + im) * rr + k = omega arith in rw (z, entry-row rl n rr core il im k, column k j d c)))))
+
+  carry-rows : carryRows rr r columns ss ≡ carryOf rr r ss js v
+  unfolding carryRows carryOf
+  carry-rows = grid-same r rr (λ (i j : ℕ). times (at ss i) (at columns (j * r + i))) (λ (i j : ℕ). times (at ss i) (cell rr v j (getD js i 0))) (λ i j a b. ap (times (at ss i)) (column j i b a))
+
+  module _ (left : List Float) (s : Stage) (el : stored (leftRows (rl * n) rr r columns ss core) ≡ staged s left) where
+    opened : factorsOf (coreWith rl n rr core) r ss js v ≡ bind (staged s left) (λ u. bind (stored (carryOf rr r ss js v)) (λ b. done (record { left = u; carry = b })))
+    unfolding factorsOf
+    opened = ap (λ (o : Made (List Float)). bind o (λ u. bind (stored (carryOf rr r ss js v)) (λ b. done (record { left = u; carry = b })))) (ap stored (sym left-rows) ∙ el)
+
+    pub factors-stop : (i : ℕ) (f : Factors) → s ≡ Spilt i → factorsOf (coreWith rl n rr core) r ss js v ≡ staged (Spilt i) f
+    factors-stop i f h = opened ∙ staged-stop s left (λ u. bind (stored (carryOf rr r ss js v)) (λ b. done (record { left = u; carry = b }))) i f h
+
+    pub factors-end : s ≡ Whole → (carry : List Float) (t : Stage) → carry ≡ carryRows rr r columns ss → t ≡ stageOf (stored carry) → factorsOf (coreWith rl n rr core) r ss js v ≡ staged t (record { left = left; carry = carry })
+    factors-end h carry t eb et =
+        opened ∙ staged-on s left (λ u. bind (stored (carryOf rr r ss js v)) (λ b. done (record { left = u; carry = b }))) h
+        ∙ ap (λ (o : Made (List Float)). bind o (λ b. done (record { left = left; carry = b }))) (ap stored (sym (eb ∙ carry-rows)) ∙ stored-staged carry t et)
+        ∙ staged-last t carry (λ b. record { left = left; carry = b })

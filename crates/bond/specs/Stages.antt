@@ -18,12 +18,14 @@ pub record Diagonal : Type 0 where
   pub swept : Swept
   pub values : List Float
 
+unfoldable pub sweptOf : Core → Made Swept
+sweptOf c = bind (stored (gram c)) (λ g. diagonalized (c .rr) (eig g (eye (c .rr))))
+
 unfoldable pub diagonalOf : Core → Made Diagonal
 diagonalOf c =
-    bind (stored (gram c)) (λ g.
-    bind (diagonalized (c .rr) (eig g (eye (c .rr)))) (λ w.
+    bind (sweptOf c) (λ w.
     bind (stored (singulars (c .rr) (w .eig .g))) (λ sv.
-    done (record { swept = w; values = sv }))))
+    done (record { swept = w; values = sv })))
 
 -- ---- the left factor and the carry
 pub record Factors : Type 0 where

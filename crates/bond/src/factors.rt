@@ -8,9 +8,10 @@ ghost use Rattle.numbers.specs.Arithmetic.{times, over, zero64};
 ghost use Rattle.answers.specs.Outcome.{staged};
 ghost use Rattle.lists.specs.Lists.{iter, grid};
 ghost use Rattle.lists.specs.Floats.{at, cell, stored};
+ghost use Rattle.shape.specs.Cores.{coreWith};
 ghost use Rattle.bond.specs.Products.{productOf, storedFrom};
 ghost use Rattle.bond.specs.Bonds.{divided};
-ghost use Rattle.bond.specs.Stages.{Columns, gathered, finished, finishColumn, leftRows, carryRows};
+ghost use Rattle.bond.specs.Stages.{Columns, gathered, finished, finishColumn, leftRows, carryRows, factorsOf};
 
 // Row k of the basis' columns that js names.
 fn gather_row(v: &[f64], n: usize, js: &[usize], r: usize, k: usize, columns: &mut [f64])
@@ -127,4 +128,30 @@ fn carry_rows(columns: &[f64], n: usize, r: usize, ss: &[f64], carry: &mut [f64]
     for i in 0..r {
         carry_row(columns, n, r, i, ss[i], carry);
     }
+}
+
+// Both, the left factor at the front of core.
+pub fn left_and_carry(
+    core: &mut [f64],
+    rl: usize,
+    n: usize,
+    rr: usize,
+    v: &[f64],
+    js: &[usize],
+    ss: &[f64],
+    r: usize,
+    columns: &mut [f64],
+    carry: &mut [f64],
+    room: &mut [f64],
+) -> answers::Stage
+    requires { ⌜ (length (now core) ≡ rl * n * rr) × (1 ≤ rr) × (length (now v) ≡ rr * rr) × (r ≤ length (now js)) × Columns rr (now js) r × (r ≤ length (now ss)) × (r ≤ rr) × (length (now columns) ≡ rr * r) × (length (now carry) ≡ r * rr) × (length (now core) ≤ length (now room)) ⌝ }
+    ensures { λ s. ⌜ factorsOf (coreWith rl n rr (now (core .entry))) r (now (ss .entry)) (now (js .entry)) (now (v .entry)) ≡ staged s (record { left = take (rl * n * r) (now (core .exit)); carry = now (carry .exit) }) ⌝ }
+{
+    gather(v, rr, js, r, columns);
+    let made = left_factor(core, rl * n, rr, columns, r, ss, room);
+    if let answers::Stage::Spilt(i) = made {
+        return answers::Stage::Spilt(i);
+    }
+    carry_rows(columns, rr, r, ss, carry);
+    lists::stored(carry)
 }
