@@ -8,3 +8,4 @@ pub mod Rotations
 pub mod Swept
 pub mod Ranked
 pub mod Finished
+pub mod Staged

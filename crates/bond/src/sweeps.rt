@@ -214,7 +214,7 @@ pub struct Sweeps {
     pub settles: bool,
 }
 
-fn sweeps_are(stage: answers::Stage, count: usize, settles: bool) -> Sweeps
+pub fn sweeps_are(stage: answers::Stage, count: usize, settles: bool) -> Sweeps
     ensures { λ r. ⌜ r ≡ record { stage = stage; count = count; settles = settles } ⌝ }
 {
     Sweeps {
