@@ -6,7 +6,9 @@ use native.Mathlib.Omega.{arith}
 use mathlib.Core.Bool.{Bool, true, false}
 use mathlib.Core.Logic.{⊎-elim}
 use Rattle.answers.specs.declared.Refusal.{Refusal}
-use Rattle.answers.specs.Outcome.{done, refused, bind, Answer, Check, _then_, demand, demandEach}
+use Rattle.answers.specs.declared.Verdict.{Verdict}
+use Rattle.answers.specs.declared.Verdict.the-variants.{Fits, Refused}
+use Rattle.answers.specs.Outcome.{done, refused, Answer, Check, _then_, demand, demandEach, verdictOf}
 use Rattle.answers.proofs.Outcomes.{done-refused}
 
 pub demand-yes : (b : Bool) (r : Refusal) → b ≡ true → demand b r ≡ done tt
@@ -65,3 +67,27 @@ module _ (r : ℕ → Refusal) where
       ap (λ (j : ℕ). demandEach r p j k) (suc-add z m)
       ∙ then-skip (demand (p k) (r k)) (demandEach r p (z + m) (suc k)) (demandEach r p m (suc k + z)) (demand-yes (p k) (r k) (h k (le-refl k) (omega arith))) (each-from p z m (suc k) (λ j a b. h j (omega arith) (omega arith)))
       ∙ ap (λ (j : ℕ). demandEach r p m j) (suc-add k z ∙ sym (add-suc k z))
+
+-- ---- the verdict of checks in a row, by what code found: one law for a return, one to go on
+module _ {A : Type 0} (c : Check) (o : Answer A) (v : Verdict) (e : v ≡ verdictOf c) where
+  pub then-stops : (r : Refusal) → v ≡ Refused r → Refused r ≡ verdictOf (c then o)
+  then-stops r h = go c (sym h ∙ e)
+    where
+      go : (c : Check) → Refused r ≡ verdictOf c → Refused r ≡ verdictOf (c then o)
+      go (done tt) q = let z : _≡_ {A = ℕ} 0 1 = cc in let n : ⊥ = omega arith in absurd n
+      go (refused x) q = q
+
+  pub then-passes : (w : Verdict) → v ≡ Fits → w ≡ verdictOf o → w ≡ verdictOf (c then o)
+  then-passes w h g = go c (sym h ∙ e)
+    where
+      go : (c : Check) → Fits ≡ verdictOf c → w ≡ verdictOf (c then o)
+      go (done tt) q = g
+      go (refused x) q = let z : _≡_ {A = ℕ} 0 1 = cc in let n : ⊥ = omega arith in absurd n
+
+pub verdict-passed : (c : Check) (v : Verdict) → v ≡ verdictOf c → v ≡ Fits → c ≡ done tt
+verdict-passed (done tt) v e h = refl
+verdict-passed (refused r) v e h = let z : _≡_ {A = ℕ} 0 1 = cc in let n : ⊥ = omega arith in absurd n
+
+pub verdict-refused : (c : Check) (v : Verdict) (r : Refusal) → v ≡ verdictOf c → v ≡ Refused r → c ≡ refused r
+verdict-refused (done tt) v r e h = let z : _≡_ {A = ℕ} 0 1 = cc in let n : ⊥ = omega arith in absurd n
+verdict-refused (refused x) v r e h = let q : x ≡ r = cc in ap refused q

@@ -4,10 +4,13 @@ pub mod Tables
 -- loops: what a turn more, the end and an early return say
 pub mod Turns
 pub mod Loops
+pub mod Strips
 pub mod Altered
 pub mod Pairs
 pub mod Stages
 pub mod Firsts
+pub mod Demands
+pub mod Asked
 pub mod Picks
 pub mod Counts
 pub mod Ranks

@@ -1,24 +1,26 @@
--- A part at the front that was lent and is read again. Assumes nothing.
-use mathlib.Core.Path.{_≡_, sym, ap, _∙_}
-use Prim.Native.Nat.{ℕ, _-_, _≤_}
-use native.Mathlib.Nat.{sub-zero}
-use native.Mathlib.Omega.{arith}
+-- Front parts of a list that a call was lent: their lengths, and what comes back. Assumes nothing.
+use mathlib.Core.Path.{_≡_, refl, sym, ap, _∙_, subst}
 use mathlib.Core.List.{List, _++_}
-use lib.ListN.{length, take, length-append}
-use lib.Seq.{take-at, length-take-le}
+use Prim.Native.Nat.{ℕ, _*_, _≤_}
+use lib.ListN.{length, take, drop, length-append}
+use lib.Seq.{length-take-le, take-at}
 
-module _ {A : Type 0} where
-  -- the part up to e
-  pub part-length : (l : List A) (e : ℕ) → e ≤ length l → length (take (e - 0) l) ≡ e
-  part-length l e h = rw sub-zero (length-take-le e l h)
+module _ {A : Type 0} (n : ℕ) (l : List A) (h : n ≤ length l) where
+  pub part-count : n ≡ length (take n l)
+  part-count = sym (length-take-le n l h)
 
-  -- q stands at the front of the whole
-  module _ (q r : List A) (e : ℕ) (h : length q ≡ e) where
-    pub part-again : take (e - 0) (q ++ r) ≡ q
-    part-again = rw sub-zero (take-at q r e h)
+  pub part-rows : (m k : ℕ) → n * m ≤ k → length (take n l) * m ≤ k
+  part-rows m k g = subst (λ (x : ℕ). x * m ≤ k) part-count g
 
-    pub front-again : take e (q ++ r) ≡ q
-    front-again = take-at q r e h
+  pub part-some : (k : ℕ) → k ≤ n → k ≤ length (take n l)
+  part-some k g = subst (λ (x : ℕ). k ≤ x) part-count g
 
-    pub part-end : e ≤ length (q ++ r)
-    part-end = let l = length-append q r in omega arith
+  -- two front parts of one length
+  pub parts-even : {B : Type 0} (m : List B) → n ≤ length m → length (take n l) ≡ length (take n m)
+  parts-even m g = length-take-le n l h ∙ sym (length-take-le n m g)
+
+pub ruleset parts = (part-count, part-rows, part-some, parts-even)
+
+-- a front part that was lent and came back as x
+pub part-again : {A : Type 0} (n : ℕ) (x r : List A) → length x ≡ n → take n (x ++ r) ≡ x
+part-again n x r e = take-at x r n e

@@ -19,6 +19,12 @@ iter-keeps P f s p q (suc k) = q k (iter k f s) (iter-keeps P f s p q k)
 
 -- ---- lists by number
 module _ {A : Type 0} where
+  -- within the list it doesn't matter what stands beyond it
+  pub getD-any : (l : List A) (i : ℕ) (d e : A) → i < length l → getD l i d ≡ getD l i e
+  getD-any [] i d e h = absurd (not-suc-le-zero h)
+  getD-any (x ∷ l) zero d e h = refl
+  getD-any (x ∷ l) (suc i) d e h = getD-any l i d e (le-of-suc-le-suc h)
+
   pub listed-length : (m k : ℕ) (f : ℕ → A) → length (listed m k f) ≡ m
   unfolding listed
   listed-length zero k f = refl

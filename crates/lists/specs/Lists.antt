@@ -1,6 +1,6 @@
 -- Lists by index, and counting loops. Definitions only.
 use Prim.Native.Nat.{ℕ, zero, suc, _+_, _-_}
-use mathlib.Core.Bool.{Bool, true, false, cond}
+use mathlib.Core.Bool.{Bool, true, false, cond, not}
 use mathlib.Core.List.{List, [], _∷_, _++_}
 use lib.ListN.{length, take, drop}
 
@@ -31,10 +31,6 @@ joined m f = flat (tab m f)
 abbrev pub grid : {A : Type 0} → ℕ → ℕ → (ℕ → ℕ → A) → List A
 grid m n f = joined m (λ (i : ℕ). tab n (f i))
 
--- xs written over l from `start` on
-unfoldable pub overlaid : {A : Type 0} → ℕ → List A → List A → List A
-overlaid start xs l = take start l ++ (xs ++ drop (start + length xs) l)
-
 -- the first i from lo on, among d, at which p holds, and lo + d where there is none
 abbrev pub firstFrom : (ℕ → Bool) → ℕ → ℕ → ℕ
 firstFrom p lo zero = lo
@@ -43,6 +39,10 @@ firstFrom p lo (suc d) = cond (p lo) lo (firstFrom p (suc lo) d)
 -- the first below n, or n
 unfoldable pub first : (ℕ → Bool) → ℕ → ℕ
 first p n = firstFrom p 0 n
+
+-- the first below n at which p fails, or n
+unfoldable pub firstNot : (ℕ → Bool) → ℕ → ℕ
+firstNot p n = first (λ (i : ℕ). not (p i)) n
 
 -- how many i below n there are at which p holds
 unfoldable pub count : (ℕ → Bool) → ℕ → ℕ

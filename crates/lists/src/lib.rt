@@ -1,9 +1,10 @@
 // Lists of numbers in lent slices: fill, copy, and the search for a number that isn't finite.
 ghost use mathlib.Core.Path.{_≡_};
-ghost use Prim.Native.Nat.{_<_};
+ghost use Prim.Native.Nat.{_+_, _≤_};
 ghost use lib.ListN.{length, replicate};
 ghost use Rattle.answers.specs.Outcome.{stageOf};
-ghost use Rattle.lists.specs.Floats.{allFinite, firstNotFinite, stored};
+ghost use Rattle.lists.specs.Floats.{at, allFinite, firstNotFinite, stored};
+ghost use Rattle.lists.specs.Strips.{stripWidth, storedFrom};
 
 // Every number of s becomes v.
 pub fn fill(s: &mut [f64], v: f64)
@@ -64,4 +65,17 @@ pub fn stored(s: &[f64]) -> answers::Stage
         return answers::Stage::Whole;
     }
     answers::Stage::Spilt(first_not_finite(s))
+}
+
+// The widest strip of sums that a loop keeps in registers.
+pub const STRIP: usize = 8;
+
+// The first h sums go to out, from e on.
+pub fn store_sums(sums: &[f64; STRIP], h: usize, out: &mut [f64], e: usize)
+    requires { ⌜ (h ≤ stripWidth) × (e + h ≤ length (now out)) ⌝ }
+    ensures { λ _. ⌜ now (out .exit) ≡ storedFrom e h (at (now (sums .entry))) (now (out .entry)) ⌝ }
+{
+    for t in 0..h {
+        out[e + t] = sums[t];
+    }
 }

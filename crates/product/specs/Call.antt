@@ -20,12 +20,14 @@ use Rattle.product.specs.declared.Started.{Started}
 use Rattle.product.specs.Product.{inner}
 
 -- ---- the inner product: slices are the chain, the weights
+unfoldable pub innerLent : Shape → ℕ → ℕ → Check
+innerLent s chain weights = demand (eqb chain (entriesOf s)) (Length 0) then demand (eqb weights (allPoints s)) (Length 1)
+
+unfoldable pub innerFinite : Shape → List Float → List Float → Check
+innerFinite s chain weights = demandEach Number (λ (k : ℕ). allFinite (coreAt s chain k .entries) && allFinite (pointsAt s weights k)) (s .d) 0
+
 unfoldable pub innerOk : Shape → List Float → List Float → Check
-innerOk s chain weights =
-    chainOk s
-    then demand (eqb (length chain) (entriesOf s)) (Length 0)
-    then demand (eqb (length weights) (allPoints s)) (Length 1)
-    then demandEach Number (λ (k : ℕ). allFinite (coreAt s chain k .entries) && allFinite (pointsAt s weights k)) (s .d) 0
+innerOk s chain weights = chainOk s then innerLent s (length chain) (length weights) then innerFinite s chain weights
 
 -- each core with its axis' weights
 unfoldable pub weighed : Shape → List Float → List Float → List (Core × List Float)
@@ -39,13 +41,17 @@ unfoldable pub innerCall : Shape → List Float → List Float → Figure
 innerCall s chain weights = figureBy (innerOk s chain weights then inner (weighed s chain weights))
 
 -- ---- the separable start reads d and the sizes n alone; slices are the vectors, the chain
-unfoldable pub startOk : Shape → List Float → List Float → Check
-startOk s vectors chain =
-    demand (within mostAxes (s .d)) Axes
-    then demandEach Size (λ (k : ℕ). within mostPoints (pointsOf s k)) (s .d) 0
-    then demand (eqb (length vectors) (allPoints s)) (Length 0)
-    then demand (eqb (length chain) (allPoints s)) (Length 1)
-    then demandEach Number (λ (k : ℕ). allFinite (pointsAt s vectors k)) (s .d) 0
+unfoldable pub startSized : Shape → Check
+startSized s = demand (within mostAxes (s .d)) Axes then demandEach Size (λ (k : ℕ). within mostPoints (pointsOf s k)) (s .d) 0
+
+unfoldable pub startLent : Shape → ℕ → ℕ → Check
+startLent s vectors chain = demand (eqb vectors (allPoints s)) (Length 0) then demand (eqb chain (allPoints s)) (Length 1)
+
+unfoldable pub startFinite : Shape → List Float → Check
+startFinite s vectors = demandEach Number (λ (k : ℕ). allFinite (pointsAt s vectors k)) (s .d) 0
+
+unfoldable pub startOk : Shape → List Float → ℕ → Check
+startOk s vectors chain = startSized s then startLent s (length vectors) chain then startFinite s vectors
 
 -- the shape with every rank 1
 unfoldable pub rankOne : Shape → Shape
@@ -61,4 +67,4 @@ startBy s vectors chain (done u) = record { result = record { verdict = Fits; sh
 startBy s vectors chain (refused r) = record { result = record { verdict = Refused r; shape = s }; chain = chain }
 
 unfoldable pub startCall : Shape → List Float → List Float → StartEnded
-startCall s vectors chain = startBy s vectors chain (startOk s vectors chain)
+startCall s vectors chain = startBy s vectors chain (startOk s vectors (length chain))

@@ -1,3 +1,4 @@
 pub mod Product
 pub mod Entry
 pub mod Call
+pub mod Loops

@@ -1,4 +1,16 @@
-// The separable start and the inner product: what the calls answer.
+// The separable start and the inner product with the zones' weights.
+ghost use mathlib.Core.Path.{_≡_};
+ghost use Prim.Native.Nat.{ℕ, _≤_};
+ghost use lib.ListN.{length};
+ghost use Rattle.answers.specs.Outcome.{done, verdictOf};
+ghost use Rattle.answers.specs.declared.Verdict.the-variants.{Fits, Refused};
+ghost use Rattle.numbers.specs.Arithmetic.{zero64};
+ghost use Rattle.shape.specs.Shapes.{chainOk, entriesOf, allPoints};
+ghost use Rattle.shape.specs.Sizes.{PointsWithin, SizesWithin};
+ghost use Rattle.product.specs.Call.{innerLent, innerFinite, innerOk, weighed, figureBy, innerCall, startSized, startLent, startFinite, startOk, rankOne, startCall};
+ghost use Rattle.product.specs.Product.{inner};
+
+pub mod contraction;
 
 // The figure, +0 where it is refused.
 pub struct Figure {
@@ -10,4 +22,200 @@ pub struct Figure {
 pub struct Started {
     pub verdict: answers::Verdict,
     pub shape: shape::Shape,
+}
+
+// The lengths that an inner product asks for: refusal 5.
+fn inner_lent(s: shape::Shape, chain: usize, weights: usize) -> answers::Verdict
+    requires { ⌜ SizesWithin s ⌝ }
+    ensures { λ r. ⌜ r ≡ verdictOf (innerLent s chain weights) ⌝ }
+{
+    if chain != s.entries() {
+        return answers::Verdict::Refused(answers::Refusal::Length(0));
+    }
+    if weights != s.points() {
+        return answers::Verdict::Refused(answers::Refusal::Length(1));
+    }
+    answers::Verdict::Fits
+}
+
+// The first core or axis with a number that isn't finite: refusal 6.
+fn inner_finite(s: shape::Shape, chain: &[f64], weights: &[f64]) -> answers::Verdict
+    requires { ⌜ SizesWithin s ⌝ }
+    requires { ⌜ (entriesOf s ≤ length (now chain)) × (allPoints s ≤ length (now weights)) ⌝ }
+    ensures { λ r. ⌜ r ≡ verdictOf (innerFinite s (now (chain .entry)) (now (weights .entry))) ⌝ }
+{
+    let d = s.d;
+    let core = s.first_not_finite_core(chain);
+    let axis = s.first_not_finite_axis(weights);
+    if core <= axis {
+        if core < d {
+            return answers::Verdict::Refused(answers::Refusal::Number(core));
+        }
+        return answers::Verdict::Fits;
+    }
+    answers::Verdict::Refused(answers::Refusal::Number(axis))
+}
+
+fn inner_ok(s: shape::Shape, chain: &[f64], weights: &[f64]) -> answers::Verdict
+    ensures { λ r. ⌜ r ≡ verdictOf (innerOk s (now (chain .entry)) (now (weights .entry))) ⌝ }
+{
+    let shaped = s.check();
+    if let answers::Verdict::Refused(r) = shaped {
+        return answers::Verdict::Refused(r);
+    }
+    let lent = inner_lent(s, chain.len(), weights.len());
+    if let answers::Verdict::Refused(r) = lent {
+        return answers::Verdict::Refused(r);
+    }
+    inner_finite(s, chain, weights)
+}
+
+fn refused_figure(r: answers::Refusal) -> Figure
+    ensures { λ f. ⌜ f ≡ record { verdict = Refused r; value = zero64 } ⌝ }
+{
+    Figure {
+        verdict: answers::Verdict::Refused(r),
+        value: 0.0,
+    }
+}
+
+fn figure_of(x: f64) -> Figure
+    ensures { λ f. ⌜ f ≡ record { verdict = Fits; value = x } ⌝ }
+{
+    Figure {
+        verdict: answers::Verdict::Fits,
+        value: x,
+    }
+}
+
+// Axis after axis, from sums that start as 1.
+fn inner_sums(s: shape::Shape, chain: &[f64], weights: &[f64]) -> Figure
+    requires { ⌜ chainOk s ≡ done tt ⌝ }
+    requires { ⌜ (entriesOf s ≤ length (now chain)) × (allPoints s ≤ length (now weights)) ⌝ }
+    ensures { λ r. ⌜ r ≡ figureBy (inner (weighed s (now (chain .entry)) (now (weights .entry)))) ⌝ }
+{
+    let mut eta = [1.0; shape::MOST_RANK];
+    let mut rank = 1;
+    let mut at = 0;
+    let mut points = 0;
+    let mut k = 0;
+    while k < s.d {
+        let rr = s.right[k];
+        let end = at + s.core_size(k);
+        let last = points + s.n[k];
+        let stage = contraction::sum_axis(
+            &chain[at..end],
+            rank,
+            rr,
+            &weights[points..last],
+            &mut eta,
+        );
+        if let answers::Stage::Spilt(i) = stage {
+            return refused_figure(answers::Refusal::Stored(answers::Part::Sum, k, i));
+        }
+        rank = rr;
+        at = end;
+        points = last;
+        k += 1;
+    }
+    figure_of(eta[0])
+}
+
+// The figure: the inner product of a chain with its axes' weights.
+pub fn inner_separable(s: shape::Shape, chain: &[f64], weights: &[f64]) -> Figure
+    ensures { λ r. ⌜ r ≡ innerCall s (now (chain .entry)) (now (weights .entry)) ⌝ }
+{
+    let ok = inner_ok(s, chain, weights);
+    if let answers::Verdict::Refused(r) = ok {
+        return refused_figure(r);
+    }
+    inner_sums(s, chain, weights)
+}
+
+// d and the sizes: refusals 1 and 2.
+fn start_sized(s: shape::Shape) -> answers::Verdict
+    ensures { λ r. ⌜ r ≡ verdictOf (startSized s) ⌝ }
+{
+    let d = s.d;
+    if !shape::within(shape::MOST_AXES, d) {
+        return answers::Verdict::Refused(answers::Refusal::Axes);
+    }
+    let axis = s.first_bad_points();
+    if axis < d {
+        return answers::Verdict::Refused(answers::Refusal::Size(axis));
+    }
+    answers::Verdict::Fits
+}
+
+// The lengths that a start asks for: refusal 5.
+fn start_lent(s: shape::Shape, vectors: usize, chain: usize) -> answers::Verdict
+    requires { ⌜ PointsWithin s ⌝ }
+    ensures { λ r. ⌜ r ≡ verdictOf (startLent s vectors chain) ⌝ }
+{
+    let points = s.points();
+    if vectors != points {
+        return answers::Verdict::Refused(answers::Refusal::Length(0));
+    }
+    if chain != points {
+        return answers::Verdict::Refused(answers::Refusal::Length(1));
+    }
+    answers::Verdict::Fits
+}
+
+// The first vector with a number that isn't finite: refusal 6.
+fn start_finite(s: shape::Shape, vectors: &[f64]) -> answers::Verdict
+    requires { ⌜ PointsWithin s ⌝ }
+    requires { ⌜ allPoints s ≤ length (now vectors) ⌝ }
+    ensures { λ r. ⌜ r ≡ verdictOf (startFinite s (now (vectors .entry))) ⌝ }
+{
+    let d = s.d;
+    let axis = s.first_not_finite_axis(vectors);
+    if axis < d {
+        return answers::Verdict::Refused(answers::Refusal::Number(axis));
+    }
+    answers::Verdict::Fits
+}
+
+fn start_ok(s: shape::Shape, vectors: &[f64], chain: usize) -> answers::Verdict
+    ensures { λ r. ⌜ r ≡ verdictOf (startOk s (now (vectors .entry)) chain) ⌝ }
+{
+    let sized = start_sized(s);
+    if let answers::Verdict::Refused(r) = sized {
+        return answers::Verdict::Refused(r);
+    }
+    let lent = start_lent(s, vectors.len(), chain);
+    if let answers::Verdict::Refused(r) = lent {
+        return answers::Verdict::Refused(r);
+    }
+    start_finite(s, vectors)
+}
+
+fn refused_start(r: answers::Refusal, s: shape::Shape) -> Started
+    ensures { λ x. ⌜ x ≡ record { verdict = Refused r; shape = s } ⌝ }
+{
+    Started {
+        verdict: answers::Verdict::Refused(r),
+        shape: s,
+    }
+}
+
+fn start_of(s: shape::Shape) -> Started
+    ensures { λ x. ⌜ x ≡ record { verdict = Fits; shape = rankOne s } ⌝ }
+{
+    Started {
+        verdict: answers::Verdict::Fits,
+        shape: s.rank_one(),
+    }
+}
+
+// The separable start: a chain of rank one whose core k holds vector k.
+pub fn rank1_separable(s: shape::Shape, vectors: &[f64], chain: &mut [f64]) -> Started
+    ensures { λ r. ⌜ (r ≡ startCall s (now (vectors .entry)) (now (chain .entry)) .result) × (now (chain .exit) ≡ startCall s (now (vectors .entry)) (now (chain .entry)) .chain) ⌝ }
+{
+    let ok = start_ok(s, vectors, chain.len());
+    if let answers::Verdict::Refused(r) = ok {
+        return refused_start(r, s);
+    }
+    lists::copy(vectors, chain);
+    start_of(s)
 }

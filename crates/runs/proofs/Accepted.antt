@@ -1,8 +1,7 @@
 -- What the checks of an accepted replacement say, on any run, also one that others wrote to. Assumes nothing of the rules.
 use mathlib.Core.Path.{_≡_}
-use lib.Dec.{ltb}
 use Rattle.answers.specs.declared.Refusal.the-variants.{Zone, Length}
-use Rattle.answers.specs.Outcome.{done, Check, demand}
+use Rattle.answers.specs.Outcome.{done, Check}
 use Rattle.answers.proofs.Checks.{demand-is, then-is}
 use Rattle.lists.proofs.Tests.{ltb-is}
 use Rattle.shape.specs.Shapes.{shapeOk}
@@ -12,21 +11,19 @@ use Rattle.runs.specs.Checks.{rankOk, inputsLent, keptLent}
 use Rattle.runs.specs.Requests.{Request, zoneOf, present, partFits, numbersOk, replaceOk, redo, replace}
 use Rattle.runs.proofs.Found.{InOrder}
 
-pub record Accepted (R : Rules) (room : Check) (k : Kept) (q : Request) (k' : Kept) : Type 0 where
+pub record Accepted (R : Rules) (room : Check) (k : Kept) (q : Request) : Type 0 where
   pub shape : shapeOk (k .inputs .shape) (rankOk (k .inputs .shape) (k .stepped)) ≡ done tt
   pub order : InOrder (k .inputs .shape) q
   pub inputs : inputsLent (k .inputs) ≡ done tt
   pub slices : keptLent (k .inputs .shape) (k .stepped .chain) (k .stepped .carries) (k .summed .sums) ≡ done tt
   pub scratch : room ≡ done tt
   pub numbers : numbersOk R k q ≡ done tt
-  pub work : redo R q (running (present (k .inputs) q) (k .stepped) (k .summed)) ≡ done k'
 
-pub accepted : (R : Rules) (room : Check) (k k' : Kept) (q : Request) → replace R room k q ≡ done k' → Accepted R room k q k'
-unfolding replace replaceOk
-accepted R room k k' q e =
+pub checks-say : (R : Rules) (room : Check) (k : Kept) (q : Request) → replaceOk R room k q ≡ done tt → Accepted R room k q
+unfolding replaceOk
+checks-say R room k q e =
     let s = k .inputs .shape in
-    let A = then-is (replaceOk R room k q) (redo R q (running (present (k .inputs) q) (k .stepped) (k .summed))) k' e in
-    let a = then-is _ _ tt (A .0) in
+    let a = then-is _ _ tt e in
     let b = then-is _ _ tt (a .1) in
     let c = then-is _ _ tt (b .1) in
     let d = then-is _ _ tt (c .1) in
@@ -39,5 +36,10 @@ accepted R room k k' q e =
       slices = d .0;
       scratch = g .0;
       numbers = g .1;
-      work = A .1;
     }
+
+-- and its work was done
+pub accepted : (R : Rules) (room : Check) (k k' : Kept) (q : Request) → replace R room k q ≡ done k'
+    → Accepted R room k q × (redo R q (running (present (k .inputs) q) (k .stepped) (k .summed)) ≡ done k')
+unfolding replace
+accepted R room k k' q e = let A = then-is (replaceOk R room k q) (redo R q (running (present (k .inputs) q) (k .stepped) (k .summed))) k' e in (checks-say R room k q (A .0), A .1)

@@ -3,7 +3,7 @@ use mathlib.Core.Path.{_≡_, refl, sym, ap, _∙_, subst}
 use Prim.Native.Nat.{ℕ, zero, suc, _+_, _-_, _*_, _≤_, _<_}
 use native.Mathlib.Nat.{add-zero}
 use native.Mathlib.Omega.{arith}
-use mathlib.Core.Bool.{Bool, false, cond}
+use mathlib.Core.Bool.{Bool, cond}
 use mathlib.Core.List.{List, map}
 use lib.Dec.{ltb}
 use lib.ListN.{length, take, getD}
@@ -17,8 +17,8 @@ use Rattle.shape.specs.declared.Shape.{Shape}
 use Rattle.shape.specs.Shapes.{pointsOf, rightOf, coreSize}
 use Rattle.shape.specs.Cores.{Core, coreWith}
 use Rattle.rounding.specs.Rounding.{Carry, Cut}
-use Rattle.runs.specs.Kept.{Stepped, bondSize, carrySize, rankAt, leftRank, rightRank, keptCore}
-use Rattle.runs.specs.Work.{rankIn, keepStep}
+use Rattle.runs.specs.Kept.{Stepped, bondSize, carrySize, rankAt, leftRank, rightRank, keptCore, keptCarry}
+use Rattle.runs.specs.Work.{rankIn, numbersIn, keepStep}
 use Rattle.runs.proofs.Held.{bond-offset}
 
 -- d zones have d - 1 bonds
@@ -72,3 +72,14 @@ module _ (s : Shape) (t : Stepped) (roomy : Roomy s t) (z : ℕ) (inside : z < s
       ∙ ap (λ (b : ℕ). of (leftRank t k) b X) (right-before k lt)
       ∙ ap (λ (x : List Float). of (leftRank t k) (rightRank s t k) x)
       (slot-before (coreSize s) k z (write (coreSize s) zero64 (s .d) z q (t .chain)) (t .chain) lt (write-before (coreSize s) zero64 (s .d) z q (t .chain) (omega arith)))
+
+  pub carry-before : (k : ℕ) → k < z → keptCarry s (keepStep s z c t) k ≡ keptCarry s t k
+  unfolding keepStep
+  carry-before k lt =
+      let m = offset-mono (carrySize s) z (s .d) (omega arith) in
+      let r = roomy .carries in
+      let q = map (λ (x : Carry × Cut). numbersIn (x .0)) c in
+      let X = slot (carrySize s) k (keepStep s z c t .carries) in
+      ap (λ (a : ℕ). take (a * rightOf s k) X) (rank-before k lt)
+      ∙ ap (take (rankAt t k * rightOf s k))
+      (slot-before (carrySize s) k z (write (carrySize s) zero64 (s .d) z q (t .carries)) (t .carries) lt (write-before (carrySize s) zero64 (s .d) z q (t .carries) (omega arith)))

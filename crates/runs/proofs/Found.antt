@@ -1,16 +1,16 @@
 -- A run that a fresh start made passes every check that a replacement makes of what it finds: what is left is asked of the new part. Of the rules only `Sound` is used.
-use mathlib.Core.Path.{_≡_, refl, sym, ap, _∙_}
-use Prim.Native.Nat.{ℕ, suc, _-_, _<_}
+use mathlib.Core.Path.{_≡_, refl, ap, _∙_}
+use Prim.Native.Nat.{ℕ, suc, _<_}
 use native.Mathlib.Omega.{arith}
 use mathlib.Core.Bool.{Bool, true, false, cond, _&&_}
 use mathlib.Core.List.{List}
-use lib.Dec.{leb, ltb, eqb}
-use lib.ListN.{length, getD}
+use lib.Dec.{ltb}
+use lib.ListN.{length}
 use lib.Ieee.{Float}
 use Rattle.numbers.specs.Arithmetic.{zero64}
 use Rattle.numbers.specs.Finite.{finite}
 use Rattle.answers.specs.declared.Refusal.the-variants.{Zone, Length, Number, Setting}
-use Rattle.answers.specs.Outcome.{done, Check, _then_, demand, demandEach}
+use Rattle.answers.specs.Outcome.{done, Check, _then_, demandEach}
 use Rattle.answers.proofs.Checks.{demand-yes, then-skip, then-on, each-same}
 use Rattle.lists.specs.Floats.{allFinite}
 use Rattle.lists.proofs.Tests.{ltb-yes, ltb-is, leb-yes, eqb-yes, and-yes}
@@ -22,9 +22,9 @@ use Rattle.shape.proofs.Shaped.{shape-same}
 use Rattle.axes.specs.Axes.{axisOk}
 use Rattle.rounding.specs.Rounding.{Carry, Cut}
 use Rattle.stepping.specs.Zones.{axisAt, Rules}
-use Rattle.runs.specs.Kept.{Inputs, Stepped, Summed, running, carrySize, sumSize, allCarries, allSums, bare, blank, rankAt, keptCore, keptCarry, keptSums}
+use Rattle.runs.specs.Kept.{Inputs, Stepped, Summed, carrySize, sumSize, allCarries, allSums, bare, blank, rankAt, keptCarry}
 use Rattle.runs.specs.Work.{numbersIn, keepStep, keepSums}
-use Rattle.runs.specs.Checks.{rankOk, inputsLent, keptLent, loneFinite, zoneFinite, keptFinite, loneOk}
+use Rattle.runs.specs.Checks.{rankOk, keptLent, loneFinite, zoneFinite, keptFinite, loneOk}
 use Rattle.runs.specs.Requests.{Request, zoneOf, present, partFits, partFinite, partOk, shiftsOk, numbersOk, replaceOk}
 use Rattle.runs.proofs.Sound.{Sound}
 use Rattle.runs.proofs.Trace.{Trace, steppedBy, summedBy, keptBy}

@@ -1,10 +1,10 @@
 -- What a fresh run holds is what its walks left: carries and sums are read again as the walks' states, kept ranks lie within their bounds, every kept number is finite. Of the rules only `Sound` is used.
 use mathlib.Core.Path.{_≡_, refl, sym, ap, _∙_, subst}
-use Prim.Native.Nat.{ℕ, zero, suc, _+_, _-_, _*_, _≤_, _<_}
+use Prim.Native.Nat.{ℕ, zero, suc, _-_, _*_, _≤_, _<_}
 use native.Mathlib.Nat.{zero-add, add-zero, sub-zero, le-refl, mul-le-mul-right}
 use native.Mathlib.Omega.{arith}
 use mathlib.Core.Bool.{Bool, true, false, cond}
-use mathlib.Core.List.{List, [], map}
+use mathlib.Core.List.{List, []}
 use lib.Dec.{ltb}
 use lib.ListN.{length, take, getD}
 use lib.Seq.{getD-take}
@@ -13,8 +13,7 @@ use Rattle.numbers.specs.Arithmetic.{zero64}
 use Rattle.numbers.specs.Finite.{finite}
 use Rattle.answers.specs.Outcome.{done, bind}
 use Rattle.answers.proofs.Outcomes.{bind-done, done-inj}
-use Rattle.lists.specs.Lists.{listed, tab}
-use Rattle.lists.specs.Slots.{offset, slot, fit, write}
+use Rattle.lists.specs.Slots.{offset, slot, fit}
 use Rattle.lists.specs.Walks.{every, walk, stateAt}
 use Rattle.lists.specs.Floats.{at, allFinite}
 use Rattle.lists.proofs.Tests.{ltb-yes, ltb-no, ltb-is}
@@ -33,10 +32,10 @@ use Rattle.product.specs.Product.{startSums}
 use Rattle.stepping.specs.Zones.{Zone, Rules}
 use Rattle.stepping.specs.Steps.{holding, shiftZone, scaleZone, roundZone, stepFrom}
 use Rattle.stepping.proofs.Restart.{step-length}
-use Rattle.runs.specs.Kept.{Inputs, Stepped, Summed, bondSize, carrySize, sumSize, blank, zoneAt, zonesFrom, rankAt, leftRank, rightRank, keptCore, keptCarry, carryAt, keptSums, sumsAt, weighedAt, weighedFrom}
+use Rattle.runs.specs.Kept.{Inputs, bondSize, carrySize, sumSize, blank, zoneAt, zonesFrom, rankAt, leftRank, rightRank, keptCore, keptCarry, carryAt, keptSums, sumsAt, weighedAt, weighedFrom}
 use Rattle.runs.specs.Work.{rankIn, numbersIn, keepStep, keepSums, sumZone}
 use Rattle.runs.proofs.Sound.{Carried, Sound}
-use Rattle.runs.proofs.Trace.{StepTrace, Trace, FineZone, fine-zone, steppedBy, summedBy}
+use Rattle.runs.proofs.Trace.{StepTrace, Trace, fine-zone, steppedBy, summedBy}
 
 -- bond k's place in the arrays of the record is k
 pub bond-offset : (s : Shape) (k : ℕ) → k < s .d → offset (bondSize s) k ≡ k

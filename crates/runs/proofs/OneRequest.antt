@@ -1,12 +1,12 @@
 -- One replacement on a run that a fresh start made answers what a fresh run with the new part in answers: the same run, or the same refusal. Of the rules only `Sound` is used.
-use mathlib.Core.Path.{_≡_, refl, sym, ap, _∙_, subst}
-use Prim.Native.Nat.{ℕ, zero, suc, _+_, _-_, _≤_, _<_}
+use mathlib.Core.Path.{_≡_, refl, sym, ap, _∙_}
+use Prim.Native.Nat.{ℕ, suc, _+_, _-_, _≤_, _<_}
 use native.Mathlib.Nat.{zero-add}
 use native.Mathlib.Omega.{arith}
-use mathlib.Core.Bool.{Bool, true, false, _&&_}
+use mathlib.Core.Bool.{Bool, true, false}
 use mathlib.Core.List.{List}
 use lib.Dec.{eqb}
-use lib.ListN.{length, getD, set}
+use lib.ListN.{length, set}
 use lib.Seq.{getD-set-same, getD-set-other}
 use lib.Ieee.{Float}
 use Rattle.numbers.specs.Arithmetic.{zero64}
@@ -25,14 +25,13 @@ use Rattle.shape.specs.Cores.{Core, coreWith, coreAt, pointsAt}
 use Rattle.axes.specs.declared.Axis.{Axis}
 use Rattle.axes.specs.Axes.{axisFinite, axisOk}
 use Rattle.rounding.specs.Call.{coreFinite}
-use Rattle.stepping.specs.Zones.{Zone, zone, axisAt, Rules}
+use Rattle.stepping.specs.Zones.{zone, axisAt, Rules}
 use Rattle.stepping.specs.Call.{reachesAt}
-use Rattle.runs.specs.Kept.{Inputs, Kept, running, blank, zoneAt}
-use Rattle.runs.specs.Work.{sumFrom, workFrom}
+use Rattle.runs.specs.Kept.{Inputs, zoneAt}
 use Rattle.runs.specs.Checks.{loneFinite, zoneFinite, loneOk, inReachAt, freshOk, freshRun}
 use Rattle.runs.specs.Requests.{Request, newCore, newAxis, newWeights, present, partFinite, partOk, shiftsOk, replace}
 use Rattle.runs.proofs.Sound.{Sound}
-use Rattle.runs.proofs.Trace.{Lent, lent-is, lent-passes, fine-zone, Trace, steppedBy, summedBy, keptBy}
+use Rattle.runs.proofs.Trace.{Lent, lent-is, lent-passes, fine-zone, Trace, keptBy}
 use Rattle.runs.proofs.Same.{changed, work-same, sums-same}
 use Rattle.runs.proofs.Found.{InOrder, partPasses, found-passes}
 

@@ -1,6 +1,6 @@
 -- The rules of 000 and 001 are sound, and make as many numbers as they should.
 use mathlib.Core.Path.{_≡_, refl, sym, ap, _∙_, subst}
-use Prim.Native.Nat.{ℕ, _*_, _≤_}
+use Prim.Native.Nat.{ℕ, _≤_}
 use mathlib.Core.Bool.{Bool, true, false, cond}
 use mathlib.Core.List.{List, [], _∷_, map}
 use lib.ListN.{length, length-map}
@@ -14,13 +14,14 @@ use Rattle.lists.proofs.Tables.{length-tab}
 use Rattle.lists.proofs.Floats.{making-stored}
 use Rattle.shape.specs.Cores.{Core, coreWith}
 use Rattle.shape.proofs.Places.{block-length}
-use Rattle.shift.specs.Shifts.{Shift, stay, by, shiftOf, shifted, moveCore, scaled}
+use Rattle.shift.specs.declared.Shift.{Shift}
+use Rattle.shift.specs.declared.Shift.the-variants.{Stay as stay, By as by}
+use Rattle.shift.specs.Shifts.{shiftOf, shifted, moveCore, scaled}
 use Rattle.bond.specs.Bonds.{Bond, cutBond, absorb}
 use Rattle.bond.proofs.Made.{CutFrom, cut-from}
 use Rattle.rounding.specs.Rounding.{Carry, none, some, Cut, takenIn, cutIf, roundCore}
 use Rattle.product.specs.Product.{contract, contractAt}
-use Rattle.stepping.specs.declared.Settings.{Settings}
-use Rattle.stepping.specs.Zones.{Zone, Rules, rules}
+use Rattle.stepping.specs.Zones.{rules}
 use Rattle.runs.proofs.Sound.{Carried, Sound, volume, rankOn, CutOf, Sized}
 
 -- ---- shift and scaling

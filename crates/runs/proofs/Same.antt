@@ -1,25 +1,24 @@
 -- THE RESTART, in memory: on inputs that differ from those of a fresh run at zone z and behind it only, the work from z on, from the carry and the sum that the run holds there, leaves what the work from zone 0 on a blank run leaves, or refuses alike. Of the rules only `Sound` is used.
 use mathlib.Core.Path.{_≡_, refl, sym, ap, _∙_}
-use Prim.Native.Nat.{ℕ, zero, suc, _+_, _-_, _<_}
+use Prim.Native.Nat.{ℕ, zero, suc, _+_, _-_, _≤_, _<_}
 use native.Mathlib.Nat.{zero-add, sub-zero}
 use native.Mathlib.Omega.{arith}
 use mathlib.Core.Bool.{false}
-use mathlib.Core.List.{List, _++_, map}
+use mathlib.Core.List.{List, _++_}
 use lib.ListN.{length, take, replicate, length-replicate}
 use lib.Ieee.{Float}
 use Rattle.numbers.specs.Arithmetic.{zero64}
 use Rattle.answers.specs.Outcome.{Answer, done, bind}
 use Rattle.answers.proofs.Outcomes.{bind-assoc, bind-cong, bind-done, done-inj}
-use Rattle.lists.specs.Lists.{listed, tab}
-use Rattle.lists.specs.Slots.{offset, slot}
+use Rattle.lists.specs.Lists.{listed}
+use Rattle.lists.specs.Slots.{slot}
 use Rattle.lists.specs.Walks.{walk, stateAt}
-use Rattle.lists.specs.Floats.{zeros}
 use Rattle.lists.proofs.Tables.{listed-length, listed-same, listed-split}
 use Rattle.lists.proofs.Walks.{walk-restart}
 use Rattle.lists.proofs.Written.{written-again, written-length, written-from}
 use Rattle.shape.specs.declared.Shape.{Shape}
 use Rattle.shape.specs.Limits.{mostAxes}
-use Rattle.shape.specs.Shapes.{coreSize, entriesOf}
+use Rattle.shape.specs.Shapes.{coreSize}
 use Rattle.shape.specs.Cores.{Core, pointsAt}
 use Rattle.axes.specs.declared.Axis.{Axis}
 use Rattle.rounding.specs.Rounding.{Carry, none, Cut}
@@ -27,21 +26,21 @@ use Rattle.product.specs.Product.{startSums}
 use Rattle.stepping.specs.Zones.{Zone, Rules}
 use Rattle.stepping.specs.Steps.{stepFrom}
 use Rattle.stepping.proofs.Restart.{step-restart}
-use Rattle.runs.specs.Kept.{Inputs, Stepped, Summed, Kept, running, bondSize, carrySize, sumSize, bare, blank, zoneAt, zonesFrom, rightRank, keptCore, carryAt, sumsAt, weighedAt, weighedFrom}
+use Rattle.runs.specs.Kept.{Inputs, Stepped, Summed, Kept, running, bondSize, carrySize, sumSize, bare, blank, zoneAt, zonesFrom, keptCore, carryAt, sumsAt, weighedAt, weighedFrom}
 use Rattle.runs.specs.Work.{rankIn, numbersIn, keepStep, keepSums, sumZone, restep, resum, sumFrom, workFrom}
 use Rattle.runs.proofs.Sound.{Sound}
-use Rattle.runs.proofs.Trace.{StepTrace, Trace, steppedBy, summedBy, keptBy}
+use Rattle.runs.proofs.Trace.{StepTrace, Trace, steppedBy, summedBy}
 use Rattle.runs.proofs.Held.{sizes, cuts-length, sums-length, carry-read, sums-read}
 use Rattle.runs.proofs.Before.{bond-count, Roomy, core-before}
 
 -- ---- what was kept, and what is kept anew from z on
 pub keep-again : (s : Shape) (z : ℕ) (tr c : List (Carry × Cut)) (t : Stepped) → length tr ≡ s .d → z < s .d → keepStep s z c (keepStep s 0 tr t) ≡ keepStep s 0 (take z tr ++ c) t
 unfolding keepStep
-keep-again s z tr c t e lt = let le : Prim.Native.Nat._≤_ z (s .d) = omega arith in search (written-again, e, le)
+keep-again s z tr c t e lt = let le : z ≤ s .d = omega arith in search (written-again, e, le)
 
 pub sums-again : (s : Shape) (z : ℕ) (tr c : List (List Float × Unit {0})) (u : Summed) → length tr ≡ s .d → z < s .d → keepSums s z c (keepSums s 0 tr u) ≡ keepSums s 0 (take z tr ++ c) u
 unfolding keepSums
-sums-again s z tr c u e lt = let le : Prim.Native.Nat._≤_ z (s .d) = omega arith in rw written-again
+sums-again s z tr c u e lt = let le : z ≤ s .d = omega arith in rw written-again
 
 -- ---- a fresh run has room for its zones
 pub step-roomy : (R : Rules) (S : Sound R) (i : Inputs) (P : StepTrace R i) → Roomy (i .shape) (steppedBy i (P .cuts))

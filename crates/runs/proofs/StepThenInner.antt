@@ -1,41 +1,42 @@
 -- A fresh run is one step, then the inner product over the step's own cores: what the sums read out of the chain's slots is what the rounding made. The same run, and the same refusals in the same order.
 use mathlib.Core.Path.{_≡_, refl, sym, ap, _∙_, subst}
-use Prim.Native.Nat.{ℕ, zero, suc, _+_, _-_, _*_, _≤_, _<_}
-use native.Mathlib.Nat.{zero-add, sub-zero, le-refl, le-trans, le-of-eq, mul-le-mul-right, mul-le-mul-left}
+use Prim.Native.Nat.{ℕ, zero, suc, _-_, _*_, _≤_, _<_}
+use native.Mathlib.Nat.{zero-add, sub-zero, le-trans, le-of-eq, mul-le-mul-right, mul-le-mul-left}
 use native.Mathlib.Omega.{arith}
 use mathlib.Core.Bool.{Bool, true, false, cond}
-use mathlib.Core.List.{List, [], _∷_, map}
+use mathlib.Core.List.{List, _∷_}
 use lib.Dec.{ltb}
 use lib.ListN.{length, take, getD, length-map, List·getD-map}
-use lib.Seq.{getD-take}
-use lib.Ieee.{Float, nan}
+use lib.Ieee.{Float}
 use Rattle.numbers.specs.Arithmetic.{zero64}
 use Rattle.answers.specs.Outcome.{Answer, done, refused, bind, Check, _then_}
 use Rattle.answers.proofs.Outcomes.{bind-assoc, bind-done, bind-cong, done-inj}
 use Rattle.lists.specs.Lists.{listed, tab}
-use Rattle.lists.specs.Slots.{offset, slot, fit}
+use Rattle.lists.specs.Slots.{slot, fit}
 use Rattle.lists.specs.Walks.{every, walk, stateAt}
 use Rattle.lists.specs.Floats.{at}
-use Rattle.lists.proofs.Tests.{ltb-yes, ltb-no, ltb-is}
+use Rattle.lists.proofs.Tests.{ltb-is}
 use Rattle.lists.proofs.Tables.{listed-length, listed-same, tab-getD}
 use Rattle.lists.proofs.Slots.{offset-mono, fit-used, slot-length}
-use Rattle.lists.proofs.Walks.{All, listed-all, every-all, AllFrom, from-at, walk-from, state-at}
+use Rattle.lists.proofs.Walks.{All, listed-all, every-all, from-at, walk-from, state-at}
 use Rattle.shape.specs.declared.Shape.{Shape}
 use Rattle.shape.specs.Shapes.{leftOf, pointsOf, rightOf, atBond, coreSize}
 use Rattle.shape.specs.Cores.{Core, coreWith, coreAt, coresOf, pointsAt}
 use Rattle.axes.specs.declared.Axis.{Axis}
-use Rattle.rounding.specs.Rounding.{Carry, none, some, Cut, coresIn}
+use Rattle.rounding.specs.Rounding.{Carry, none, Cut, coresIn}
 use Rattle.product.specs.Product.{startSums, sumAxis, sums, inner}
+use Rattle.stepping.specs.declared.Settings.{Settings}
 use Rattle.stepping.specs.Zones.{Zone, zone, axisAt, zonesOf, Rules, rules}
 use Rattle.stepping.specs.Steps.{holding, shiftZone, scaleZone, roundZone, stepFrom, step}
-use Rattle.runs.specs.Kept.{Inputs, Stepped, Summed, Kept, running, blank, bare, zoneAt, zonesFrom, rankAt, leftRank, rightRank, keptCore, carryAt, sumsAt, weighedAt, weighedFrom}
-use Rattle.runs.specs.Work.{keepStep, keepSums, sumZone, restep, resum, sumFrom, workFrom}
+use Rattle.runs.specs.Kept.{Inputs, Stepped, Kept, running, blank, bare, zoneAt, zonesFrom, rankAt, leftRank, rightRank, keptCore, carryAt, sumsAt, weighedAt, weighedFrom}
+use Rattle.runs.specs.Work.{sumZone, restep, resum, sumFrom, workFrom}
 use Rattle.runs.specs.Checks.{freshOk, freshRun}
+use Rattle.runs.specs.Call.{Room, roomOk, freshEnd, freshBy, freshCall}
 use Rattle.runs.specs.StepThenInner.{paired, stepThenInner}
-use Rattle.runs.proofs.Sound.{Sound, volume, rankOn, CutOf, Sized}
+use Rattle.runs.proofs.Sound.{Sound, volume, rankOn, Sized}
 use Rattle.runs.proofs.Rules.{rules-sound, rules-sized}
-use Rattle.runs.proofs.Trace.{Passed, passed, Lent, lent-is, StepTrace, Trace, steppedBy, summedBy}
-use Rattle.runs.proofs.Held.{no-cut, no-sums, sizes, cuts-length, sums-length, rank-fits, right-fits, carry-read, core-slot, figure-read}
+use Rattle.runs.proofs.Trace.{passed, lent-is, StepTrace, Trace, steppedBy, summedBy}
+use Rattle.runs.proofs.Held.{no-cut, sizes, cuts-length, rank-fits, right-fits, carry-read, core-slot, figure-read}
 
 product-most : (a b c d f : ℕ) → a ≤ d → c ≤ f → a * b * c ≤ d * b * f
 product-most a b c d f p r = le-trans (mul-le-mul-right c (mul-le-mul-right b p)) (mul-le-mul-left (d * b) r)
@@ -211,3 +212,14 @@ fresh-is room i = bind-cong (freshOk rules room i) (λ _. workFrom rules (blank 
     bind-assoc walked (λ tr. done (steppedBy i tr)) (λ t. sumFrom rules (running i t (blank i .summed)) 0)
     ∙ bind-cong walked (λ tr. sumFrom rules (running i (steppedBy i tr) (blank i .summed)) 0) rest (λ tr h. summed-is i (record { ok = ok; cuts = tr; ran = h }))
     ∙ ap (λ (o : Answer (List (Carry × Cut))). bind o rest) (sym (step-is i)))
+
+-- and so of the call
+pub fresh-call-is : (s : Shape) (axes : List Axis) (t : Settings) (source weights chain carries sums scratch : List Float)
+    → let i : Inputs = record { shape = s; axes = axes; set = t; source = source; weights = weights } in
+    let m : Room = record { chain = chain; carries = carries; sums = sums; scratch = scratch } in
+    freshCall s axes t source weights chain carries sums scratch ≡ freshEnd i m (freshOk rules (roomOk s m) i then stepThenInner i)
+unfolding freshBy
+fresh-call-is s axes t source weights chain carries sums scratch =
+    let i : Inputs = record { shape = s; axes = axes; set = t; source = source; weights = weights } in
+    let m : Room = record { chain = chain; carries = carries; sums = sums; scratch = scratch } in
+    ap (freshEnd i m) (fresh-is (roomOk s m) i)

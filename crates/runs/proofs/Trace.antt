@@ -1,21 +1,20 @@
 -- A fresh run taken apart: what its checks say of the inputs, and what its two walks left. Assumes nothing of the rules.
-use mathlib.Core.Path.{_≡_, sym, ap, _∙_}
+use mathlib.Core.Path.{_≡_, ap, _∙_}
 use Prim.Native.Nat.{ℕ, _<_}
 use native.Mathlib.Omega.{arith}
 use mathlib.Core.Bool.{true, _&&_}
 use mathlib.Core.List.{List}
-use lib.Dec.{eqb}
 use lib.ListN.{length}
 use lib.Ieee.{Float}
 use Rattle.answers.specs.declared.Refusal.the-variants.{Length, Number, Setting, Reach}
-use Rattle.answers.specs.Outcome.{done, bind, Check, _then_, demand}
+use Rattle.answers.specs.Outcome.{done, Check}
 use Rattle.answers.proofs.Outcomes.{bind-done, done-inj}
 use Rattle.answers.proofs.Checks.{demand-yes, demand-is, then-is, then-skip, each-is}
 use Rattle.lists.specs.Walks.{walk}
 use Rattle.lists.specs.Floats.{allFinite}
 use Rattle.lists.proofs.Tests.{eqb-yes, eqb-is, both}
 use Rattle.shape.specs.Shapes.{chainOk, entriesOf, allPoints}
-use Rattle.shape.specs.Cores.{coreAt, pointsAt}
+use Rattle.shape.specs.Cores.{pointsAt}
 use Rattle.axes.specs.Axes.{axisFinite, axisOk}
 use Rattle.rounding.specs.Rounding.{Carry, none, Cut}
 use Rattle.rounding.specs.Call.{coreFinite}
@@ -47,16 +46,18 @@ passed R room i e =
     let f = then-is _ _ tt (c .1) in
     let g = then-is _ _ tt (f .1) in
     let h = then-is _ _ tt (g .1) in
-    let d = i .shape .d in
-    (record {
-      shape = a .0;
-      lent = b .0;
-      lone = demand-is (loneFinite (i .set)) (Number 0) (c .0);
-      fine = λ k lt. each-is Number (zoneFinite i) d 0 (f .0) k (omega arith) (omega arith);
-      mild = demand-is (loneOk (i .set)) (Setting 0) (g .0);
-      axes = λ k lt. each-is Setting (λ (j : ℕ). axisOk (axisAt (i .axes) j)) d 0 (h .0) k (omega arith) (omega arith);
-      reach = λ k lt. each-is Reach (inReachAt R i) d 0 (h .1) k (omega arith) (omega arith);
-    }, m .0)
+    let d = i .shape .d in (
+      record {
+        shape = a .0;
+        lent = b .0;
+        lone = demand-is (loneFinite (i .set)) (Number 0) (c .0);
+        fine = λ k lt. each-is Number (zoneFinite i) d 0 (f .0) k (omega arith) (omega arith);
+        mild = demand-is (loneOk (i .set)) (Setting 0) (g .0);
+        axes = λ k lt. each-is Setting (λ (j : ℕ). axisOk (axisAt (i .axes) j)) d 0 (h .0) k (omega arith) (omega arith);
+        reach = λ k lt. each-is Reach (inReachAt R i) d 0 (h .1) k (omega arith) (omega arith);
+      },
+      m .0,
+    )
 
 -- refusal 5 of source and weights, as lengths and back
 pub record Lent (i : Inputs) : Type 0 where

@@ -10,7 +10,7 @@ use Rattle.numbers.specs.Arithmetic.{zero64}
 use Rattle.answers.specs.declared.Refusal.the-variants.{Length}
 use Rattle.answers.specs.declared.Refusal.{Refusal}
 use Rattle.answers.specs.declared.Verdict.the-variants.{Fits, Refused}
-use Rattle.answers.specs.Outcome.{Answer, done, refused, bind, verdictOf}
+use Rattle.answers.specs.Outcome.{Answer, done, refused, verdictOf}
 use Rattle.answers.proofs.Outcomes.{bind-done, done-inj, fits-done}
 use Rattle.answers.proofs.Checks.{demand-is, then-is}
 use Rattle.lists.specs.Walks.{walk}
@@ -33,7 +33,7 @@ use Rattle.runs.specs.Requests.{Request, newCore, newAxis, newWeights, z
 use Rattle.runs.specs.Call.{scratchPlace, replaceEnd, replaceBy}
 use Rattle.runs.specs.Sequence.{keptAfter}
 use Rattle.runs.proofs.Found.{InOrder}
-use Rattle.runs.proofs.Accepted.{Accepted, accepted}
+use Rattle.runs.proofs.Accepted.{accepted}
 use Rattle.runs.proofs.Before.{bond-count, Roomy}
 
 -- ---- what is left
@@ -144,10 +144,11 @@ module _ (R : Rules) (k : Kept) (q : Request) (scratch : List Float) where
   untouched A e =
       let room = scratchLent (k .inputs .shape) (scratchPlace q) scratch in
       let D = fits-done (replace R room k q) e in
-      let P = accepted R room k (D .0) q (D .1) in
+      let W = accepted R room k (D .0) q (D .1) in
+      let P = W .0 in
       let L = slices-are (k .inputs .shape) (k .stepped .chain) (k .stepped .carries) (k .summed .sums) (P .slices) in
       let M = roomy k A (shaped (k .inputs .shape) (rankOk (k .inputs .shape) (k .stepped)) (P .shape)) L in
-      subst (λ (o : Answer Kept). Left k (keptAfter (replaceEnd k scratch o)) q) (sym (D .1)) (redone-left R k (D .0) q (P .order) M (L .sums-long) (P .work))
+      subst (λ (o : Answer Kept). Left k (keptAfter (replaceEnd k scratch o)) q) (sym (D .1)) (redone-left R k (D .0) q (P .order) M (L .sums-long) (W .1))
 
   -- refused: record and slices are as they were
   pub refused-leaves : (r : Refusal) → replaceBy R k q scratch .result .verdict ≡ Refused r → keptAfter (replaceBy R k q scratch) ≡ k

@@ -5,11 +5,13 @@ use lib.ListN.{length}
 use lib.Ieee.{Float}
 use Rattle.answers.specs.declared.Verdict.{Verdict}
 use Rattle.answers.specs.declared.Verdict.the-variants.{Fits, Refused}
+use Rattle.answers.specs.Outcome.{done}
 use Rattle.lists.specs.Floats.{zeros}
+use Rattle.shape.specs.Limits.{mostAxes}
 use Rattle.stepping.specs.Zones.{Rules}
 use Rattle.runs.specs.Kept.{Inputs, Kept, keptOf, recordOf}
 use Rattle.runs.specs.Requests.{Request, present}
-use Rattle.runs.specs.Call.{FreshEnd, Room, freshBy, ReplaceEnd, replaceBy}
+use Rattle.runs.specs.Call.{FreshEnd, Room, roomOk, freshBy, ReplaceEnd, replaceBy}
 
 -- the run that a call leaves: its record, and the slices
 abbrev pub keptAfterFresh : Inputs → FreshEnd → Kept
@@ -22,10 +24,14 @@ keptAfter e = keptOf (e .result .run) (e .source) (e .weights) (e .chain) (e .ca
 abbrev pub leaving : Room → Kept → FreshEnd
 leaving m k = record { result = record { verdict = Fits; run = recordOf k }; chain = k .stepped .chain; carries = k .stepped .carries; sums = k .summed .sums; scratch = zeros (length (m .scratch)) }
 
--- the run k is, in its record and its five slices, what a fresh run on the inputs i leaves
-pub record AsFresh (R : Rules) (i : Inputs) (m : Room) (k : Kept) : Type 0 where
+-- the run k is, in its record and its five slices, what a fresh run on the inputs i leaves, whatever slices of the right lengths it is lent
+pub record AsFresh (R : Rules) (i : Inputs) (k : Kept) : Type 0 where
+  -- the array of axis records has 16 places, as its type says
+  pub array : length (i .axes) ≡ mostAxes
+  -- shape, axes, settings, source and weights
   pub inputs : k .inputs ≡ i
-  pub end : freshBy R i m ≡ leaving m k
+  -- all that is kept
+  pub end : (m : Room) → roomOk (i .shape) m ≡ done tt → freshBy R i m ≡ leaving m k
 
 -- a call for a replacement: what it asks for, and the scratch that it is lent
 pub record Asked : Type 0 where

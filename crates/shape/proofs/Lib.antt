@@ -1,3 +1,10 @@
+-- a shape that is accepted, and the verdict on any
+pub mod Shaped
+pub mod Verdicts
+-- where things stand
 pub mod Places
 pub mod Packing
-pub mod Shaped
+pub mod Offsets
+pub mod Slotwise
+-- other ranks
+pub mod Ranks

@@ -1,8 +1,12 @@
 -- Where an entry stands, and that a core's numbers hold what they were made from. Nobody else needs to know the layout. Assumes nothing.
 use mathlib.Core.Path.{_≡_, refl, sym, ap, _∙_}
-use Prim.Native.Nat.{ℕ, _+_, _*_, _<_, _≤_}
-use native.Mathlib.Nat.{mul-assoc, add-assoc, le-refl}
+use Prim.Native.Nat.{ℕ, _+_, _-_, _*_, _/_, _<_, _≤_, min}
+use native.Mathlib.Nat.{mul-assoc, add-assoc, le-refl, suc-mul, mul-le-mul-left, mul-le-mul-right, div-add-mod', div-lt-iff-lt-mul}
 use native.Mathlib.Omega.{arith}
+use mathlib.Core.Bool.{Bool, true, false}
+use borrow.Author.Tests.{leb-false}
+use lib.Dec.{leb}
+use Rattle.lists.proofs.Tests.{leb-is}
 use mathlib.Core.List.{List}
 use lib.ListN.{length, getD}
 use lib.Ieee.{Float, nan}
@@ -10,7 +14,7 @@ use Rattle.lists.specs.Lists.{tab, grid}
 use Rattle.lists.specs.Floats.{at}
 use Rattle.lists.proofs.Cells.{cell-lt}
 use Rattle.lists.proofs.Tables.{length-joined, getD-joined, length-grid, getD-grid, joined-same, joined-rows, tab-rows, grid-same}
-use Rattle.shape.specs.Cores.{Core, coreWith, place, entry, block}
+use Rattle.shape.specs.Cores.{coreWith, place, entry, block}
 
 -- in line il of n * rr numbers, and in row (il, im) of rr
 pub place-line : (n rr il im ir : ℕ) → place n rr il im ir ≡ il * (n * rr) + (im * rr + ir)
@@ -63,3 +67,22 @@ module _ (rl n rr : ℕ) where
     pub entry-block : (il im ir : ℕ) → il < rl → im < n → ir < rr → entry (coreWith rl n rr (block rl n rr f)) il im ir ≡ f il im ir
     unfolding entry
     entry-block il im ir a b c = block-at il im ir a b c
+
+-- ---- where an entry stands, cut off at m: row by row, each cut off by itself
+pub capped-at : (row n i m : ℕ) → i < n → (m - i) / n < row → m ≡ min (row * n + i) m
+capped-at row n i m l g = let h : m - i < row * n = div-lt-iff-lt-mul {k = n} (omega arith) .0 g in omega arith
+
+pub capped-not : (row n i m : ℕ) → i < m → row ≤ (m - i) / n → row * n + i ≤ m
+capped-not row n i m l g = omega (arith, mul-le-mul-right n g, div-add-mod' (m - i) n)
+
+module _ (n rr il im ir m : ℕ) where
+  pub place-capped : ir < rr → (row : ℕ) → row ≡ min (il * n + im) m → min (row * rr + ir) m ≡ min (place n rr il im ir) m
+  place-capped l row e = rw (place-row n rr il im ir) (go (leb (il * n + im) m) refl)
+    where
+      go : (t : Bool) → leb (il * n + im) m ≡ t → min (row * rr + ir) m ≡ min ((il * n + im) * rr + ir) m
+      go true h = let q : row ≡ il * n + im = omega (arith, leb-is (il * n + im) m h) in rw q
+      go false h =
+          let q : m < il * n + im = leb-false (il * n + im) m h in
+          let r : row ≡ m = omega arith in
+          let u : 1 ≤ rr = omega arith in
+          rw r (omega (arith, mul-le-mul-right rr q, suc-mul m rr, mul-le-mul-left m u))

@@ -1,3 +1,4 @@
 pub mod Limits
 pub mod Shapes
+pub mod Sizes
 pub mod Cores

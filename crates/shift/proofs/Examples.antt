@@ -1,9 +1,8 @@
 -- The weights of a fraction, shifts by a ratio on either side of zero and beyond n, subnormal entries, and the ratio of an axis, worked out in f64 arithmetic beside the definitions, by computation. Assumes nothing.
 use mathlib.Core.Path.{_≡_, refl}
-use mathlib.Core.Bool.{false}
 use mathlib.Core.List.{List, [], _∷_, map}
 use Prim.Native.Nat.{ℕ}
-use lib.Ieee.{Float, nan, binary64, add, sub, mul, div, neg, lt, le, eq, ofInt, ofBits, toBits}
+use lib.Ieee.{Float, binary64, add, sub, mul, div, neg, lt, le, eq, ofInt, ofBits, toBits}
 use Rattle.numbers.specs.Root.{rootIn, wholeRoot, rootOfUnits, rootOf}
 use Rattle.numbers.specs.Whole.{wholeOf, fractionOf}
 use Rattle.numbers.specs.Residues.{wrap}
@@ -12,7 +11,9 @@ use Rattle.lists.specs.Floats.{sumOn}
 use Rattle.shape.specs.Cores.{Core, coreWith, place, entry, block}
 use Rattle.axes.specs.declared.Axis.{Axis}
 use Rattle.shift.specs.Weights.{cubicBandWeights, bandOn, shiftedAt}
-use Rattle.shift.specs.Shifts.{distance, spacing, Shift, stay, by, shiftOf, shifted}
+use Rattle.shift.specs.declared.Shift.{Shift}
+use Rattle.shift.specs.declared.Shift.the-variants.{Stay, By}
+use Rattle.shift.specs.Shifts.{distance, spacing, shiftOf, shifted}
 
 abbrev of : ℕ → Float
 of n = ofBits binary64 n
@@ -30,8 +31,8 @@ abbrev some-axis : Axis
 some-axis = record { a = of 0x3fe3333333333333; b = of 0x3fc999999999999a; xmin = of 0xbff0000000000000; xmax = of 0x4000000000000000 }
 
 abbrev ratioOf : Shift → ℕ
-ratioOf stay = 0
-ratioOf (by r) = toBits binary64 r
+ratioOf Stay = 0
+ratioOf (By r) = toBits binary64 r
 
 pub record Examples : Type 0 where
   pub weights : bits (cubicBandWeights (of 0x3fd3333333333333)) ≡ 0xbfae76c8b4395810 ∷ 0x3fe8c083126e978d ∷ 0x3fd5374bc6a7ef9e ∷ 0xbfa74bc6a7ef9db1 ∷ []

@@ -15,10 +15,10 @@ use Rattle.numbers.specs.Residues.{wrap}
 use Rattle.numbers.specs.Zeros.{unsigned, Alike}
 use Rattle.numbers.proofs.Zeros.{zero-times, alike-refl, alike-trans, alike-plus}
 use Rattle.numbers.proofs.Residues.{wrap-lt}
-use Rattle.numbers.proofs.Wholes.{ZeroFraction, zero-fraction}
+use Rattle.numbers.proofs.Wholes.{zero-fraction}
 use Rattle.lists.specs.Floats.{at, sumOn}
 use Rattle.lists.proofs.Sums.{Fits, Zero, sum-fits, one-term}
-use Rattle.shape.specs.Cores.{Core, coreWith, entry, block}
+use Rattle.shape.specs.Cores.{Core, coreWith, entry}
 use Rattle.shape.proofs.Places.{entry-block}
 use Rattle.shift.specs.Weights.{cubicBandWeights, bandOn, shiftedAt}
 use Rattle.shift.specs.Shifts.{shifted}

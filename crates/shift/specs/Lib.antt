@@ -1,2 +1,4 @@
 pub mod Weights
 pub mod Shifts
+-- what the inner functions cite
+pub mod Doubled

@@ -14,6 +14,8 @@ use Rattle.lists.specs.Lists.{pick}
 use Rattle.lists.specs.Floats.{stored}
 use Rattle.shape.specs.Cores.{Core, entry, block}
 use Rattle.axes.specs.declared.Axis.{Axis}
+use Rattle.shift.specs.declared.Shift.{Shift}
+use Rattle.shift.specs.declared.Shift.the-variants.{Stay, By}
 use Rattle.shift.specs.Weights.{cubicBandWeights, shiftedAt}
 
 -- h = 2*sqrt(a*tau) + b*tau
@@ -24,22 +26,17 @@ distance x tau = plus (times two64 (rootOf (times (x .a) tau))) (times (x .b) ta
 unfoldable pub spacing : Axis → ℕ → Float
 spacing x n = pick (leb n 1) one64 (over (minus (x .xmax) (x .xmin)) (ofInt binary64 (pos (n - 1))))
 
--- the core stays, or is shifted by a ratio
-pub data Shift : Type 0 where
-  stay : Shift
-  by : Float → Shift
-
 -- if dx <= 0 or h = 0 the core stays; else the ratio is h/dx
 unfoldable pub shiftOf : Axis → Float → ℕ → Shift
 shiftOf x tau n =
     let h = distance x tau in
     let dx = spacing x n in
-    pick (le dx zero64 || eq h zero64) stay (by (over h dx))
+    pick (le dx zero64 || eq h zero64) Stay (By (over h dx))
 
 -- refusal 8 spares a core that stays, and a ratio of at most 2^31 in size
 abbrev pub reaches : Shift → Bool
-reaches stay = true
-reaches (by ratio) = inReach ratio
+reaches Stay = true
+reaches (By ratio) = inReach ratio
 
 -- every entry anew: s0 and the fraction of the ratio, and of minus the ratio
 unfoldable pub shifted : Core → Float → List Float
@@ -50,8 +47,8 @@ shifted c ratio =
 
 -- core k along its axis; one that stays is not made
 abbrev pub moveCore : ℕ → Shift → Core → Answer (List Float)
-moveCore k stay c = done (c .entries)
-moveCore k (by ratio) c = making Entry k (stored (shifted c ratio))
+moveCore k Stay c = done (c .entries)
+moveCore k (By ratio) c = making Entry k (stored (shifted c ratio))
 
 -- core 0 multiplied by 1 + tau*c
 unfoldable pub scaled : Float → Float → List Float → Answer (List Float)

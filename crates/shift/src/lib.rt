@@ -1,0 +1,274 @@
+// The shift of one core along its axis, and the scaling of core 0.
+ghost use mathlib.Core.Path.{_≡_};
+ghost use mathlib.Core.Bool.{true};
+ghost use Prim.Native.Nat.{suc, _+_, _*_, _^_, _<_, _≤_};
+ghost use mathlib.Core.List.{List, _++_, map};
+ghost use lib.ListN.{length};
+ghost use lib.Ieee.{Float};
+ghost use Rattle.numbers.specs.Arithmetic.{times};
+ghost use Rattle.numbers.specs.Whole.{wholeOf, fractionOf, inReach};
+ghost use Rattle.answers.specs.declared.Part.the-variants.{Entry};
+ghost use Rattle.answers.specs.Outcome.{making, answered, staged};
+ghost use Rattle.lists.specs.Lists.{tab};
+ghost use Rattle.shape.specs.Limits.{mostPoints};
+ghost use Rattle.shape.specs.Cores.{coreWith};
+ghost use Rattle.shift.specs.Weights.{cubicBandWeights};
+ghost use Rattle.shift.specs.Shifts.{distance, spacing, shiftOf, reaches, shifted, moveCore, scaled};
+ghost use Rattle.shift.specs.Doubled.{Lent, startsOf, Room, bandIn, entryIn, blocksOf};
+
+// A core stays, or is shifted by a ratio.
+pub enum Shift {
+    Stay,
+    By(f64),
+}
+
+// The four weights of a fraction, for the offsets -1 to 2.
+pub fn cubic_band_weights(t: f64) -> [f64; 4]
+    ensures { λ r. ⌜ r ≡ cubicBandWeights t ⌝ }
+{
+    let t1 = t - 1.0;
+    let t2 = t - 2.0;
+    let tp1 = t + 1.0;
+    let sixth = 0.16666666666666666;
+    let half = 0.5;
+    [
+        -(t * t1 * t2) * sixth,
+        (tp1 * t1 * t2) * half,
+        -(tp1 * t * t2) * half,
+        (tp1 * t * t1) * sixth,
+    ]
+}
+
+// How far a step goes along the axis.
+pub fn distance(x: axes::Axis, tau: f64) -> f64
+    ensures { λ r. ⌜ r ≡ distance x tau ⌝ }
+{
+    let width = numbers::root(x.a * tau);
+    2.0 * width + x.b * tau
+}
+
+// How far apart the points of the axis lie.
+pub fn spacing(x: axes::Axis, n: usize) -> f64
+    requires { ⌜ n ≤ mostPoints ⌝ }
+    ensures { λ r. ⌜ r ≡ spacing x n ⌝ }
+{
+    if n <= 1 {
+        return 1.0;
+    }
+    (x.xmax - x.xmin) / (n - 1) as f64
+}
+
+// What a step does to the core of an axis of n points.
+pub fn shift_of(x: axes::Axis, tau: f64, n: usize) -> Shift
+    requires { ⌜ n ≤ mostPoints ⌝ }
+    ensures { λ r. ⌜ r ≡ shiftOf x tau n ⌝ }
+{
+    let h = distance(x, tau);
+    let dx = spacing(x, n);
+    if dx <= 0.0 {
+        return Shift::Stay;
+    }
+    if h == 0.0 {
+        return Shift::Stay;
+    }
+    Shift::By(h / dx)
+}
+
+// Whether the shift is near enough to be made.
+pub fn reaches(s: Shift) -> bool
+    ensures { λ r. ⌜ r ≡ reaches s ⌝ }
+{
+    match s {
+        Shift::Stay => true,
+        Shift::By(ratio) => numbers::in_reach(ratio),
+    }
+}
+
+// The four weights of a band: those of the ratio's fraction.
+fn weights_of(ratio: f64) -> [f64; 4]
+    ensures { λ r. ⌜ r ≡ cubicBandWeights (fractionOf ratio) ⌝ }
+{
+    cubic_band_weights(numbers::fraction(ratio))
+}
+
+// Where the rows of a band start: at the offsets s0 - 1 to s0 + 2, modulo n, for the floor s0 of the ratio.
+fn starts_of(ratio: f64, n: usize, rr: usize) -> [usize; 4]
+    requires { ⌜ (1 ≤ n) × (n ≤ mostPoints) × (n * rr < 2 ^ 64) × (inReach ratio ≡ true) ⌝ }
+    ensures { λ r. ⌜ r ≡ startsOf n rr (wholeOf ratio) ⌝ }
+{
+    let s0 = numbers::whole(ratio);
+    [
+        numbers::stepped(n - 1, s0, n) * rr,
+        numbers::stepped(0, s0, n) * rr,
+        numbers::stepped(1, s0, n) * rr,
+        numbers::stepped(2, s0, n) * rr,
+    ]
+}
+
+// acc, then the four terms of a band at number j of t.
+fn band(acc: f64, t: &[f64], j: usize, weights: &[f64; 4], starts: &[usize; 4]) -> f64
+    requires { ⌜ Room (now starts) (suc j) (length (now t)) ⌝ }
+    ensures { λ r. ⌜ r ≡ bandIn acc (now (t .entry)) j (now (weights .entry)) (now (starts .entry)) 4 ⌝ }
+{
+    let mut x = acc;
+    for m in 0..4 {
+        x = x + (0.25 * weights[m]) * t[starts[m] + j];
+    }
+    x
+}
+
+// Number j of a block, shifted; t is the block twice.
+fn entry_at(
+    t: &[f64],
+    j: usize,
+    forward: &[f64; 4],
+    ahead: &[usize; 4],
+    backward: &[f64; 4],
+    behind: &[usize; 4],
+) -> f64
+    requires { ⌜ (j < length (now t)) × Room (now ahead) (suc j) (length (now t)) × Room (now behind) (suc j) (length (now t)) ⌝ }
+    ensures { λ r. ⌜ r ≡ entryIn (now (t .entry)) (now (forward .entry)) (now (ahead .entry)) (now (backward .entry)) (now (behind .entry)) j ⌝ }
+{
+    let x = band(0.5 * t[j], t, j, forward, ahead);
+    band(x, t, j, backward, behind)
+}
+
+// A block, shifted; t is the block twice.
+fn shift_block(
+    t: &[f64],
+    forward: &[f64; 4],
+    ahead: &[usize; 4],
+    backward: &[f64; 4],
+    behind: &[usize; 4],
+    out: &mut [f64],
+)
+    requires { ⌜ (length (now out) ≤ length (now t)) × Room (now ahead) (length (now out)) (length (now t)) × Room (now behind) (length (now out)) (length (now t)) ⌝ }
+    ensures { λ _. ⌜ now (out .exit) ≡ tab (length (now (out .entry))) (entryIn (now (t .entry)) (now (forward .entry)) (now (ahead .entry)) (now (backward .entry)) (now (behind .entry))) ⌝ }
+{
+    for j in 0..out.len() {
+        let x = entry_at(t, j, forward, ahead, backward, behind);
+        out[j] = x;
+    }
+}
+
+// s twice.
+fn twice(s: &[f64], d: &mut [f64])
+    requires { ⌜ length (now d) ≡ length (now s) + length (now s) ⌝ }
+    ensures { λ _. ⌜ now (d .exit) ≡ now (s .entry) ++ now (s .entry) ⌝ }
+{
+    let n = s.len();
+    lists::copy(s, &mut d[..n]);
+    lists::copy(s, &mut d[n..]);
+}
+
+// rl blocks of h numbers, each shifted; t has room for one of them twice.
+fn shift_blocks(
+    core: &[f64],
+    rl: usize,
+    h: usize,
+    forward: &[f64; 4],
+    ahead: &[usize; 4],
+    backward: &[f64; 4],
+    behind: &[usize; 4],
+    out: &mut [f64],
+    t: &mut [f64],
+)
+    requires { ⌜ (length (now core) ≡ rl * h) × (length (now out) ≡ rl * h) × (length (now t) ≡ h + h) × Room (now ahead) h (h + h) × Room (now behind) h (h + h) ⌝ }
+    ensures { λ _. ⌜ now (out .exit) ≡ blocksOf (now (core .entry)) rl h (now (forward .entry)) (now (ahead .entry)) (now (backward .entry)) (now (behind .entry)) ⌝ }
+{
+    for k in 0..rl {
+        let b = k * h;
+        let e = b + h;
+        twice(&core[b..e], t);
+        shift_block(t, forward, ahead, backward, behind, &mut out[b..e]);
+    }
+}
+
+// A core of rl blocks of n rows of rr numbers, shifted along its rows; block has room for one of its blocks twice.
+pub fn shift_core(
+    core: &[f64],
+    rl: usize,
+    n: usize,
+    rr: usize,
+    ratio: f64,
+    out: &mut [f64],
+    block: &mut [f64],
+)
+    requires { ⌜ Lent (now core) rl n rr (now out) (now block) × (inReach ratio ≡ true) ⌝ }
+    ensures { λ _. ⌜ now (out .exit) ≡ shifted (coreWith rl n rr (now (core .entry))) ratio ⌝ }
+{
+    let forward = weights_of(ratio);
+    let backward = weights_of(-ratio);
+    let ahead = starts_of(ratio, n, rr);
+    let behind = starts_of(-ratio, n, rr);
+    let h = n * rr;
+    let both = h + h;
+    shift_blocks(
+        core,
+        rl,
+        h,
+        &forward,
+        &ahead,
+        &backward,
+        &behind,
+        out,
+        &mut block[..both],
+    );
+}
+
+// What it comes to that the entries of core k are stored.
+fn storing(k: usize, made: answers::Stage) -> answers::Verdict
+    ensures { λ r. ⌜ ((l : List Float) → making Entry k (staged made l) ≡ answered r l) ⌝ }
+{
+    match made {
+        answers::Stage::Whole => answers::Verdict::Fits,
+        answers::Stage::Spilt(i) => {
+            answers::Verdict::Refused(answers::Refusal::Stored(answers::Part::Entry, k, i))
+        }
+    }
+}
+
+// Core k along its axis, into out; one that stays is copied.
+pub fn move_core(
+    core: &[f64],
+    k: usize,
+    rl: usize,
+    n: usize,
+    rr: usize,
+    shift: Shift,
+    out: &mut [f64],
+    block: &mut [f64],
+) -> answers::Verdict
+    requires { ⌜ Lent (now core) rl n rr (now out) (now block) × (reaches shift ≡ true) ⌝ }
+    ensures { λ r. ⌜ moveCore k shift (coreWith rl n rr (now (core .entry))) ≡ answered r (now (out .exit)) ⌝ }
+{
+    match shift {
+        Shift::Stay => {
+            lists::copy(core, out);
+            answers::Verdict::Fits
+        }
+        Shift::By(ratio) => {
+            shift_core(core, rl, n, rr, ratio, out, block);
+            storing(k, lists::stored(out))
+        }
+    }
+}
+
+// Every number times a factor.
+fn multiply(s: &mut [f64], factor: f64)
+    ensures { λ _. ⌜ now (s .exit) ≡ map (λ (v : Float). times v factor) (now (s .entry)) ⌝ }
+{
+    let mut i = 0;
+    while i < s.len() {
+        s[i] = s[i] * factor;
+        i += 1;
+    }
+}
+
+// Core 0 times 1 + tau*c.
+pub fn scale(core: &mut [f64], tau: f64, c: f64) -> answers::Verdict
+    ensures { λ r. ⌜ scaled tau c (now (core .entry)) ≡ answered r (now (core .exit)) ⌝ }
+{
+    multiply(core, 1.0 + tau * c);
+    storing(0, lists::stored(core))
+}

@@ -1,0 +1,12 @@
+-- `axes::axis_ok` meets its contract. Assumes nothing.
+use mathlib.Core.Path.{refl}
+use Rattle.axes.specs.Axes.{axisOk}
+use Rattle.axes.proofs.axis_ok.Statement.{statement}
+use Rattle.axes.proofs.axis_ok.Tie as tie
+
+returns : tie.Need-returns
+unfolding axisOk
+returns c = refl
+
+pub axis-ok-spec : {M : Type 1} → statement M
+axis-ok-spec = tie.close (tie.spec returns)

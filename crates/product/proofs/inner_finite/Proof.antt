@@ -1,0 +1,8 @@
+-- `product::inner_finite` meets its contract. Assumes nothing.
+use borrow.Author.Needs.{needs}
+use Rattle.product.proofs.Checks.{finite-found}
+use Rattle.product.proofs.inner_finite.Statement.{statement}
+use Rattle.product.proofs.inner_finite.Tie as tie
+
+pub inner-finite-spec : {M : Type 1} → statement M
+inner-finite-spec = tie.close (tie.spec (λ c κs. search (needs, finite-found)) (λ c κs. search (needs, finite-found)) (λ c. search (needs, finite-found)) (λ c. search (needs, finite-found)) (λ c. search (needs, finite-found)))

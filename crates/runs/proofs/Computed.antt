@@ -1,0 +1,32 @@
+-- Every case comes out as it is written, by computation. Assumes nothing.
+use mathlib.Core.Path.{refl}
+use lib.Ieee.{add, sub, mul, div, neg, lt, le, eq, ofInt, ofBits, toBits}
+use Rattle.answers.specs.Outcome.{demand, demandEach}
+use Rattle.numbers.specs.Root.{rootIn, wholeRoot, rootOfUnits, rootOf}
+use Rattle.lists.specs.Floats.{sumOn, sumTo, sumRows, allFinite, firstNotFinite, stored}
+use Rattle.lists.specs.Lists.{pick, listed, flat, first, count, pairs, folded}
+use Rattle.lists.specs.Slots.{offset, slot, put, fit, laid, write}
+use Rattle.lists.specs.Walks.{along, every, walk}
+use Rattle.shape.specs.Cores.{place, entry, block, coreAt, pointsAt}
+use Rattle.shape.specs.Shapes.{sizeOk, bondOk, shapeOk, coreSize, pointSize}
+use Rattle.axes.specs.Axes.{axisFinite, axisOk}
+use Rattle.shift.specs.Shifts.{distance, spacing, shiftOf, scaled}
+use Rattle.bond.specs.Bonds.{gram, divided, leftFactor, carryOf, cutBond, absorb}
+use Rattle.bond.specs.Sweeps.{eye, offSum, settled, sweepsFrom, diagonalized}
+use Rattle.bond.specs.Values.{singularOf, singulars, rankIn, indexAt, order, sorted, thresholdOf, keptRank}
+use Rattle.rounding.specs.Call.{coreFinite, notBelowZero, scratchAfter}
+use Rattle.rounding.specs.Rounding.{roundCore}
+use Rattle.product.specs.Product.{contract, contractAt}
+use Rattle.stepping.specs.Call.{reachesAt}
+use Rattle.stepping.specs.Steps.{shiftZone, scaleZone, roundZone, stepFrom}
+use Rattle.stepping.specs.Zones.{rules}
+use Rattle.runs.specs.Kept.{bondSize, carrySize, sumSize, bare, blank, zoneAt, keptCore, carryAt, sumsAt, weighedAt}
+use Rattle.runs.specs.Work.{keepStep, keepSums, sumZone, restep, resum, sumFrom, workFrom}
+use Rattle.runs.specs.Checks.{rankOk, inputsLent, keptLent, scratchLent, loneFinite, zoneFinite, keptFinite, loneOk, inReachAt, freshOk, freshRun}
+use Rattle.runs.specs.Requests.{numbersOk, replaceOk, replace}
+use Rattle.runs.specs.Call.{roomOk, freshEnd, replaceEnd, freshBy, replaceBy}
+use Rattle.runs.specs.Cases.{cases, AllRight}
+
+pub all-right : AllRight cases
+unfolding cases add sub mul div neg lt le eq ofInt ofBits toBits demand demandEach rootIn wholeRoot rootOfUnits rootOf sumOn sumTo sumRows allFinite firstNotFinite stored pick listed flat first count pairs folded offset slot put fit laid write along every walk place entry block coreAt pointsAt sizeOk bondOk shapeOk coreSize pointSize axisFinite axisOk distance spacing shiftOf scaled gram divided leftFactor carryOf cutBond absorb eye offSum settled sweepsFrom diagonalized singularOf singulars rankIn indexAt order sorted thresholdOf keptRank coreFinite notBelowZero scratchAfter roundCore contract contractAt reachesAt shiftZone scaleZone roundZone stepFrom rules bondSize carrySize sumSize bare blank zoneAt keptCore carryAt sumsAt weighedAt keepStep keepSums sumZone restep resum sumFrom workFrom rankOk inputsLent keptLent scratchLent loneFinite zoneFinite keptFinite loneOk inReachAt freshOk freshRun numbersOk replaceOk replace roomOk freshEnd replaceEnd freshBy replaceBy
+all-right = (refl, (refl, (refl, (refl, (refl, (refl, (refl, (refl, (refl, (refl, (refl, (refl, (refl, (refl, (refl, (refl, tt))))))))))))))))

@@ -1,0 +1,12 @@
+-- `shift::distance` meets its contract. Assumes nothing.
+use borrow.Author.Needs.{needs}
+use Rattle.shift.specs.Shifts.{distance}
+use Rattle.shift.proofs.distance.Statement.{statement}
+use Rattle.shift.proofs.distance.Tie as tie
+
+returns : tie.Need-returns
+unfolding distance
+returns c = rw (c .before .root .ensures)
+
+pub distance-spec : {M : Type 1} → statement M
+distance-spec = tie.close (tie.spec (λ c κs. search needs) returns)

@@ -1,0 +1,62 @@
+//! Prints cases with the Rust's answers, one a line; README.md says how to read them.
+mod calls;
+mod counted;
+mod draw;
+mod kinds;
+mod line;
+mod random;
+
+use draw::Most;
+use line::Line;
+use random::Random;
+use std::io::{BufWriter, Write};
+
+const USAGE: &str = "usage: oracle KIND SEED COUNT [CORES SIZE RANK STEPS]
+  KIND is round, inner, step, evolve, pair, root, floor or weights
+  CORES SIZE RANK STEPS are the most of each that a case has: 16 64 8 200 if not given";
+
+fn main() {
+    let words: Vec<String> = std::env::args().skip(1).collect();
+    let numbers: Option<Vec<usize>> = words.iter().skip(1).map(|w| w.parse().ok()).collect();
+    let kind = kinds::KINDS
+        .iter()
+        .find(|k| words.first().is_some_and(|w| w == k.0));
+    let (Some(&(name, draw)), Some(numbers)) = (kind, numbers) else {
+        return eprintln!("{USAGE}");
+    };
+    let (seed, count, most) = match numbers[..] {
+        [seed, count] => (
+            seed,
+            count,
+            Most {
+                cores: 16,
+                size: 64,
+                rank: 8,
+                steps: 200,
+            },
+        ),
+        [seed, count, cores, size, rank, steps] => (
+            seed,
+            count,
+            Most {
+                cores,
+                size,
+                rank,
+                steps,
+            },
+        ),
+        _ => return eprintln!("{USAGE}"),
+    };
+    let mut out = BufWriter::new(std::io::stdout().lock());
+    for index in 0..count {
+        let mut line = Line::of_case(name, index);
+        draw(
+            &mut Random::of_case(seed as u64, name, index),
+            &most,
+            &mut line,
+        );
+        if writeln!(out, "{}", line.text()).is_err() {
+            return;
+        }
+    }
+}
