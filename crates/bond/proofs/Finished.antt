@@ -17,7 +17,7 @@ use Rattle.lists.specs.Floats.{at, cell, stored}
 use Rattle.lists.proofs.Altered.{altered, altered-length, altered-other, altered-at}
 use Rattle.lists.proofs.Cells.{cell-lt, cell-row, cell-column}
 use Rattle.lists.proofs.Loops.{iter-same}
-use Rattle.lists.proofs.Parts.{part-again, front-again}
+use Rattle.lists.proofs.Parts.{part-again, span-again}
 use Rattle.lists.proofs.Stages.{stored-staged, staged-on, staged-stop, staged-last}
 use Rattle.lists.proofs.Sums.{sum-same}
 use Rattle.lists.proofs.Tables.{iter-keeps, grid-is, grid-same, length-grid, getD-grid}
@@ -87,7 +87,7 @@ grid-long m r f l e = ap length e ∙ length-grid m r f
 
 module _ (m n r : ℕ) (columns core : List Float) where
   pub multiply-is : (ys rest u : List Float) → ys ≡ core → u ≡ productOf (take (length core - 0) (ys ++ rest)) n 1 columns r n m ++ drop (m * r) core → u ≡ productOf core n 1 columns r n m ++ drop (m * r) core
-  multiply-is ys rest u e d = d ∙ ap (λ (x : List Float). productOf x n 1 columns r n m ++ drop (m * r) core) (part-again ys rest (length core) (ap length e) ∙ e)
+  multiply-is ys rest u e d = d ∙ ap (λ (x : List Float). productOf x n 1 columns r n m ++ drop (m * r) core) (span-again (length core) ys rest (ap length e) ∙ e)
 
   pub left-is : (ss u f rest : List Float) (s : Stage) → u ≡ productOf core n 1 columns r n m ++ drop (m * r) core
       → f ≡ grid m r (λ (i j : ℕ). finished (at ss j) (cell r (take (m * r - 0) u) i j))
@@ -97,14 +97,14 @@ module _ (m n r : ℕ) (columns core : List Float) where
   left-is ss u f rest s eu ef es =
       let P = productOf core n 1 columns r n m in
       let long : length P ≡ m * r = length-grid m r (λ (i j : ℕ). dotAt core (i * n) 1 columns r n j) in
-      let part : take (m * r - 0) u ≡ P = ap (take (m * r - 0)) eu ∙ part-again P (drop (m * r) core) (m * r) long in
+      let part : take (m * r - 0) u ≡ P = ap (take (m * r - 0)) eu ∙ span-again (m * r) P (drop (m * r) core) long in
       let len = grid-long m r (λ (i j : ℕ). finished (at ss j) (cell r (take (m * r - 0) u) i j)) f ef in
       let is : leftRows m n r columns ss core ≡ f =
       sym (ef ∙ grid-same m r (λ (i j : ℕ). finished (at ss j) (cell r (take (m * r - 0) u) i j)) (λ (i j : ℕ). finished (at ss j) (dotAt core (i * n) 1 columns r n j))
       (λ i j a b. ap (finished (at ss j)) (ap (λ (x : List Float). at x (i * r + j)) part ∙ getD-grid m r (λ (i j : ℕ). dotAt core (i * n) 1 columns r n j) i j nan a b))) in
       ap stored is
-      ∙ stored-staged f s (es ∙ ap (λ (x : List Float). stageOf (stored x)) (part-again f rest (m * r) len))
-      ∙ ap (staged s) (sym (front-again f rest (m * r) len))
+      ∙ stored-staged f s (es ∙ ap (λ (x : List Float). stageOf (stored x)) (span-again (m * r) f rest len))
+      ∙ ap (staged s) (sym (part-again (m * r) f rest len))
 
 -- ---- with the basis' columns gathered, these are the left factor and the carry
 module _ (rl n rr r : ℕ) (core v : List Float) (js : List ℕ) (ss columns : List Float) (ec : columns ≡ gathered rr r js v) where

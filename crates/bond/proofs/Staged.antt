@@ -17,7 +17,7 @@ use Rattle.answers.specs.Outcome.{Made, Answer, done, refused, bind, making, st
 use Rattle.answers.proofs.Outcomes.{bind-done, bind-cong, done-inj}
 use Rattle.lists.specs.Floats.{allFinite, stored}
 use Rattle.lists.proofs.Floats.{stored-is}
-use Rattle.lists.proofs.Parts.{part-length, front-again}
+use Rattle.lists.proofs.Parts.{part-again, span-length}
 use Rattle.lists.proofs.Stages.{stored-staged, staged-on, staged-stop, staged-last}
 use Rattle.shape.specs.Cores.{Core, coreWith}
 use Rattle.bond.specs.Sweeps.{Eig, eig, eye, Swept, swept, diagonalized}
@@ -130,7 +130,7 @@ module _ (k : ℕ) (eps : Float) (c : Core) where
 -- the carry stands at the front of the slice of which a part was lent
 pub factor-front : (T : Made Factors) (s : Stage) (left q rest carry : List Float) (r rr : ℕ) → T ≡ staged s (record { left = left; carry = q }) → length q ≡ length (take (rr * r - 0) carry) → rr * r ≤ length carry → T ≡ staged s (record { left = left; carry = take (r * rr) (q ++ rest) })
 factor-front T s left q rest carry r rr e l b =
-    e ∙ ap (λ (x : List Float). staged s (record { left = left; carry = x })) (sym (front-again q rest (r * rr) (l ∙ part-length carry (rr * r) b ∙ mul-comm rr r)))
+    e ∙ ap (λ (x : List Float). staged s (record { left = left; carry = x })) (sym (part-again (r * rr) q rest (l ∙ span-length (rr * r) carry b ∙ mul-comm rr r)))
 
 -- ---- what the second stage may ask of the first
 pub values-finite : (c : Core) (s : Stage) (d : Diagonal) → diagonalOf c ≡ staged s d → s ≡ Whole → allFinite (d .values) ≡ true

@@ -9,7 +9,8 @@ ghost use Rattle.answers.specs.Outcome.{staged};
 ghost use Rattle.lists.specs.Lists.{iter, grid};
 ghost use Rattle.lists.specs.Floats.{at, cell, stored};
 ghost use Rattle.shape.specs.Cores.{coreWith};
-ghost use Rattle.bond.specs.Products.{productOf, storedFrom};
+ghost use Rattle.lists.specs.Strips.{storedFrom};
+ghost use Rattle.bond.specs.Products.{productOf};
 ghost use Rattle.bond.specs.Bonds.{divided};
 ghost use Rattle.bond.specs.Stages.{Columns, gathered, finished, finishColumn, leftRows, carryRows, factorsOf};
 

@@ -6,7 +6,7 @@ use Rattle.numbers.specs.Arithmetic.{times}
 use Rattle.lists.specs.Floats.{at}
 use Rattle.lists.proofs.Cells.{exacts}
 use Rattle.lists.proofs.Turns.{turns}
-use Rattle.bond.specs.Products.{storedFrom}
+use Rattle.lists.specs.Strips.{storedFrom}
 use Rattle.bond.proofs.factors.carry_row.Statement.{statement}
 use Rattle.bond.proofs.factors.carry_row.Tie as tie
 

@@ -6,9 +6,9 @@ use Rattle.numbers.specs.Arithmetic.{times}
 use Rattle.lists.specs.Lists.{iter}
 use Rattle.lists.specs.Floats.{at}
 use Rattle.lists.proofs.Turns.{turns}
-use Rattle.bond.specs.Products.{storedFrom}
+use Rattle.lists.specs.Strips.{storedFrom}
 use Rattle.bond.specs.Stages.{carryRows}
-use Rattle.bond.proofs.Strips.{rows-whole}
+use Rattle.lists.proofs.Strips.{rows-whole}
 use Rattle.bond.proofs.factors.carry_rows.Statement.{statement}
 use Rattle.bond.proofs.factors.carry_rows.Tie as tie
 

@@ -5,9 +5,9 @@ use lib.ListN.{length, getD}
 use Rattle.lists.specs.Lists.{iter}
 use Rattle.lists.specs.Floats.{cell}
 use Rattle.lists.proofs.Turns.{turns}
-use Rattle.bond.specs.Products.{storedFrom}
+use Rattle.lists.specs.Strips.{storedFrom}
 use Rattle.bond.specs.Stages.{gathered}
-use Rattle.bond.proofs.Strips.{rows-whole}
+use Rattle.lists.proofs.Strips.{rows-whole}
 use Rattle.bond.proofs.factors.gather.Statement.{statement}
 use Rattle.bond.proofs.factors.gather.Tie as tie
 

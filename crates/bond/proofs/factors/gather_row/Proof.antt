@@ -5,7 +5,7 @@ use lib.ListN.{length, getD}
 use Rattle.lists.specs.Floats.{cell}
 use Rattle.lists.proofs.Cells.{exacts, exact-lt, exact-fits, exact-scaled}
 use Rattle.lists.proofs.Turns.{turns}
-use Rattle.bond.specs.Products.{storedFrom}
+use Rattle.lists.specs.Strips.{storedFrom}
 use Rattle.bond.proofs.factors.gather_row.Statement.{statement}
 use Rattle.bond.proofs.factors.gather_row.Tie as tie
 
