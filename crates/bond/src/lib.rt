@@ -178,6 +178,80 @@ fn cut(
     cut_made(r, d.count, d.settles)
 }
 
+// The room in parts of just the size.
+fn cut_within(
+    core: &mut [f64],
+    k: usize,
+    rl: usize,
+    n: usize,
+    rr: usize,
+    eps: f64,
+    carry: &mut [f64],
+    room: &mut [f64],
+    g: &mut [f64],
+    v: &mut [f64],
+    sv: &mut [f64],
+    ss: &mut [f64],
+    js: &mut [usize],
+) -> BondCut
+    requires { ⌜ (length (now core) ≡ rl * n * rr) × (1 ≤ rl) × (1 ≤ n) × (1 ≤ rr) × (rr * rr ≤ length (now g)) × (rr * rr ≤ length (now v)) × (rr ≤ length (now sv)) × (rr ≤ length (now ss)) × (rr ≤ length (now js)) × (rr * rr ≤ length (now carry)) × (length (now core) ≤ length (now room)) ⌝ }
+    ensures { λ r. ⌜ cutBond k eps (coreWith rl n rr (now (core .entry))) ≡ answered (r .verdict) (record { core = coreWith rl n (r .rank) (take (rl * n * r .rank) (now (core .exit))); sweeps = r .sweeps; settles = r .settles; carry = take (r .rank * rr) (now (carry .exit)) }) ⌝ }
+{
+    let e = rr * rr;
+    cut(
+        core,
+        k,
+        rl,
+        n,
+        rr,
+        eps,
+        carry,
+        room,
+        &mut g[0..e],
+        &mut v[0..e],
+        &mut sv[0..rr],
+        &mut ss[0..rr],
+        &mut js[0..rr],
+    )
+}
+
+// Cuts bond k: core, which is its left core, to the left factor, at the front of the slice, and the carry, at the front of its
+// own. Room is for a copy of the core.
+pub fn cut_bond(
+    core: &mut [f64],
+    k: usize,
+    rl: usize,
+    n: usize,
+    rr: usize,
+    eps: f64,
+    carry: &mut [f64],
+    room: &mut [f64],
+) -> BondCut
+    requires { ⌜ (length (now core) ≡ rl * n * rr) × (1 ≤ rl) × (1 ≤ n) × (1 ≤ rr) × (rr ≤ mostRank) × (rr * rr ≤ length (now carry)) × (length (now core) ≤ length (now room)) ⌝ }
+    ensures { λ r. ⌜ cutBond k eps (coreWith rl n rr (now (core .entry))) ≡ answered (r .verdict) (record { core = coreWith rl n (r .rank) (take (rl * n * r .rank) (now (core .exit))); sweeps = r .sweeps; settles = r .settles; carry = take (r .rank * rr) (now (carry .exit)) }) ⌝ }
+{
+    let mut g = [0.0; shape::MOST_RANK * shape::MOST_RANK];
+    let mut v = [0.0; shape::MOST_RANK * shape::MOST_RANK];
+    let mut sv = [0.0; shape::MOST_RANK];
+    let mut ss = [0.0; shape::MOST_RANK];
+    let mut js = [0; shape::MOST_RANK];
+    cut_within(
+        core,
+        k,
+        rl,
+        n,
+        rr,
+        eps,
+        carry,
+        room,
+        &mut g,
+        &mut v,
+        &mut sv,
+        &mut ss,
+        &mut js,
+    )
+}
+
 // A carry of r rows taken into a core from the left, at the front of out.
 pub fn absorb(
     carry: &[f64],
