@@ -17,18 +17,17 @@ use Rattle.shape.proofs.Places.{entry-row, entry-line, block-lines}
 use Rattle.bond.specs.Products.{dotAt, productOf}
 use Rattle.bond.specs.Bonds.{gram, absorb}
 
--- ---- sizes
--- a row, and the number of rows, are at most all; a line too
-module _ (rl n rr l : ℕ) (e : l ≡ rl * n * rr) (a : 1 ≤ rl) (b : 1 ≤ n) (c : 1 ≤ rr) where
-  pub row-most : rr ≤ l
-  row-most = omega (arith, mul-le-mul-right rr (mul-pos a b))
+-- ---- sizes: the number of rows, a row and a line are at most all
+pub rows-most : (m rr l : ℕ) → l ≡ m * rr → 1 ≤ rr → m ≤ l
+rows-most m rr l e c = omega (arith, mul-le-mul-left m c)
 
-  pub rows-most : rl * n ≤ l
-  rows-most = omega (arith, mul-le-mul-left (rl * n) c)
+pub row-most : (rl n rr l : ℕ) → l ≡ rl * n * rr → 1 ≤ rl → 1 ≤ n → rr ≤ l
+row-most rl n rr l e a b = omega (arith, mul-le-mul-right rr (mul-pos a b))
 
-  pub line-most : n * rr ≤ l
-  line-most = omega (arith, mul-le-mul-right (n * rr) a)
+pub line-most : (rl n rr l : ℕ) → l ≡ rl * n * rr → 1 ≤ rl → n * rr ≤ l
+line-most rl n rr l e a = omega (arith, mul-le-mul-right (n * rr) a)
 
+-- ---- products
 module _ (rl n rr : ℕ) (a : List Float) where
   -- rows times rows
   pub gram-is : (g u : List Float) → u ≡ productOf a 1 rr a rr (rl * n) rr ++ drop (rr * rr) g → length g ≡ rr * rr → u ≡ gram (coreWith rl n rr a)

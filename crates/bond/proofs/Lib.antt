@@ -5,3 +5,7 @@ pub mod Strips
 pub mod Cores
 pub mod Turned
 pub mod Rotations
+pub mod Swept
+pub mod Ranked
+pub mod Finished
+pub mod Staged

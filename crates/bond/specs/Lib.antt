@@ -5,3 +5,4 @@ pub mod Values
 pub mod Bonds
 pub mod Products
 pub mod Pairs
+pub mod Stages

@@ -3,29 +3,18 @@ ghost use mathlib.Core.Path.{_≡_};
 ghost use mathlib.Core.List.{_++_};
 ghost use Prim.Native.Nat.{ℕ, _+_, _*_, _<_, _≤_};
 ghost use lib.ListN.{length, drop};
+ghost use Rattle.numbers.specs.Arithmetic.{times};
 ghost use Rattle.lists.specs.Floats.{at};
-ghost use Rattle.bond.specs.Products.{stripWidth, dotAt, productOf, storedFrom, scaledIn};
-
-// The widest strip.
-const STRIP: usize = 8;
+ghost use Rattle.lists.specs.Strips.{stripWidth, addedIn, storedFrom};
+ghost use Rattle.bond.specs.Products.{dotAt, productOf};
 
 // x times the numbers of a from p on, added to the first h sums.
-fn add_scaled(sums: &mut [f64; STRIP], h: usize, x: f64, a: &[f64], p: usize)
+fn add_scaled(sums: &mut [f64; lists::STRIP], h: usize, x: f64, a: &[f64], p: usize)
     requires { ⌜ (h ≤ stripWidth) × (p + h ≤ length (now a)) ⌝ }
-    ensures { λ _. ⌜ now (sums .exit) ≡ scaledIn h x (now (a .entry)) p (now (sums .entry)) ⌝ }
+    ensures { λ _. ⌜ now (sums .exit) ≡ addedIn h (λ (t : ℕ). times x (at (now (a .entry)) (p + t))) (now (sums .entry)) ⌝ }
 {
     for t in 0..h {
         sums[t] = sums[t] + x * a[p + t];
-    }
-}
-
-// The first h sums go to out, from e on.
-fn store_sums(sums: &[f64; STRIP], h: usize, out: &mut [f64], e: usize)
-    requires { ⌜ (h ≤ stripWidth) × (e + h ≤ length (now out)) ⌝ }
-    ensures { λ _. ⌜ now (out .exit) ≡ storedFrom e h (at (now (sums .entry))) (now (out .entry)) ⌝ }
-{
-    for t in 0..h {
-        out[e + t] = sums[t];
     }
 }
 
@@ -45,12 +34,12 @@ fn strip(
     requires { ⌜ (h ≤ stripWidth) × (p + c * q < length (now b) + q) × (c * w ≤ length (now a)) × (j + h ≤ w) × (e + h ≤ length (now out)) ⌝ }
     ensures { λ _. ⌜ now (out .exit) ≡ storedFrom e h (λ (t : ℕ). dotAt (now (b .entry)) p q (now (a .entry)) w c (j + t)) (now (out .entry)) ⌝ }
 {
-    let mut sums = [0.0; STRIP];
+    let mut sums = [0.0; lists::STRIP];
     for k in 0..c {
         let x = b[k * q + p];
         add_scaled(&mut sums, h, x, a, k * w + j);
     }
-    store_sums(&sums, h, out, e);
+    lists::store_sums(&sums, h, out, e);
 }
 
 // One row of a product goes to out, from e on.

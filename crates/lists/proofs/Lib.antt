@@ -13,6 +13,7 @@ pub mod Demands
 pub mod Asked
 pub mod Picks
 pub mod Counts
+pub mod Ranks
 pub mod Over
 pub mod Parts
 pub mod Seen
@@ -20,6 +21,7 @@ pub mod Seen
 pub mod Tests
 pub mod Floats
 pub mod Sums
+pub mod Order
 -- slots and walks
 pub mod Slots
 pub mod Written

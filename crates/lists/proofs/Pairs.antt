@@ -1,7 +1,8 @@
--- What goes along the pairs p < q below n is two loops, one within the other. Assumes nothing.
+-- What goes along the pairs p < q below n is two loops, one within the other; and what goes along a list and leaves the state. Assumes nothing.
 use mathlib.Core.Path.{_≡_, refl, sym, ap, _∙_}
 use Prim.Native.Nat.{ℕ, zero, suc, _+_, _-_}
 use native.Mathlib.Numerals.{add-one}
+use mathlib.Core.Bool.{Bool, true, false, _&&_, true≢false}
 use mathlib.Core.List.{List, [], _∷_, _++_}
 use Rattle.answers.specs.Outcome.{Outcome, done, bind}
 use Rattle.answers.proofs.Outcomes.{bind-assoc, bind-eta, bind-cong}
@@ -72,3 +73,19 @@ folded-pairs n f s =
     (λ p t l. ap (λ (x : List (ℕ × ℕ)). folded x f t) (listed-from (n - suc p) (suc p) (λ (q : ℕ). (p, q)))
     ∙ folded-tab f (n - suc p) (λ (j : ℕ). (p, suc p + j)) t
     ∙ ap (λ (j : ℕ). iter (n - j) (λ (i : ℕ). f (p, j + i)) t) (sym (add-one p)))
+
+-- ---- where a test holds of each, and the turn of one for which it holds leaves the state, all leave it
+module _ {X : Type 0} (t : X → Bool) where
+  folded-not : (xs : List X) → folded xs (λ (x : X) (b : Bool). b && t x) false ≡ false
+  unfolding folded
+  folded-not [] = refl
+  folded-not (x ∷ xs) = folded-not xs
+
+  pub along-idle : {E A : Type 0} (f : X → A → Outcome E A) (a : A) → ((x : X) → t x ≡ true → f x a ≡ done a) → (xs : List X) → folded xs (λ (x : X) (b : Bool). b && t x) true ≡ true → along xs f a ≡ done a
+  unfolding folded along
+  along-idle f a h [] e = refl
+  along-idle {E} {A} f a h (x ∷ xs) e = go (t x) refl e (along-idle f a h xs)
+    where
+      go : (b : Bool) → t x ≡ b → folded xs (λ (y : X) (c : Bool). c && t y) b ≡ true → (folded xs (λ (y : X) (c : Bool). c && t y) true ≡ true → along xs f a ≡ done a) → bind (f x a) (λ c. along xs f c) ≡ done a
+      go true d k rest = ap (λ (o : Outcome E A). bind o (λ c. along xs f c)) (h x d) ∙ rest k
+      go false d k rest = absurd (true≢false (sym k ∙ folded-not xs))

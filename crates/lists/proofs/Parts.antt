@@ -1,8 +1,9 @@
 -- Front parts of a list that a call was lent: their lengths, and what comes back. Assumes nothing.
-use mathlib.Core.Path.{_≡_, refl, sym, ap, _∙_, subst}
+use mathlib.Core.Path.{_≡_, sym, _∙_, subst}
 use mathlib.Core.List.{List, _++_}
-use Prim.Native.Nat.{ℕ, _*_, _≤_}
-use lib.ListN.{length, take, drop, length-append}
+use Prim.Native.Nat.{ℕ, _-_, _*_, _≤_}
+use native.Mathlib.Nat.{sub-zero}
+use lib.ListN.{length, take}
 use lib.Seq.{length-take-le, take-at}
 
 module _ {A : Type 0} (n : ℕ) (l : List A) (h : n ≤ length l) where
@@ -24,3 +25,10 @@ pub ruleset parts = (part-count, part-rows, part-some, parts-even)
 -- a front part that was lent and came back as x
 pub part-again : {A : Type 0} (n : ℕ) (x r : List A) → length x ≡ n → take n (x ++ r) ≡ x
 part-again n x r e = take-at x r n e
+
+-- the same of a part that is written 0..n
+pub span-length : {A : Type 0} (n : ℕ) (l : List A) → n ≤ length l → length (take (n - 0) l) ≡ n
+span-length n l h = rw sub-zero (length-take-le n l h)
+
+pub span-again : {A : Type 0} (n : ℕ) (x r : List A) → length x ≡ n → take (n - 0) (x ++ r) ≡ x
+span-again n x r e = rw sub-zero (take-at x r n e)

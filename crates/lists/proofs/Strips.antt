@@ -1,19 +1,19 @@
 -- A strip of sums number by number, and strips stored one after another. Assumes nothing.
 use mathlib.Core.Path.{_≡_, refl, sym, ap, _∙_}
 use mathlib.Core.Logic.{⊎-elim}
-use mathlib.Core.List.{List, _++_}
-use Prim.Native.Nat.{ℕ, zero, suc, _+_, _<_, _≤_}
+use mathlib.Core.List.{List, _++_, append-nil}
+use Prim.Native.Nat.{ℕ, zero, suc, _+_, _*_, _<_, _≤_}
 use native.Mathlib.Nat.{add-assoc, zero-add, not-suc-le-zero, le-of-suc-le-suc, eq-or-lt-of-le}
 use native.Mathlib.Omega.{arith}
-use lib.ListN.{length, set, drop, length-set}
+use lib.ListN.{length, set, drop, length-set, drop-of-length-le}
 use lib.Seq.{getD-set-same, getD-set-other}
 use lib.Ieee.{Float, nan}
 use Rattle.numbers.specs.Arithmetic.{plus}
-use Rattle.lists.specs.Lists.{iter, iterFrom, tab}
+use Rattle.lists.specs.Lists.{iter, iterFrom, tab, grid}
 use Rattle.lists.specs.Floats.{at}
 use Rattle.lists.specs.Strips.{addedIn, storedFrom}
-use Rattle.lists.proofs.Tables.{iter-keeps, fill-tab}
-use Rattle.lists.proofs.Turns.{from-done}
+use Rattle.lists.proofs.Tables.{iter-keeps, fill-tab, fill-grid}
+use Rattle.lists.proofs.Turns.{iter-done, from-done}
 use Rattle.lists.proofs.Loops.{iter-same, from-all, from-on, from-add}
 
 -- ---- a strip: the first h each have their own term added, and none is read after it is written
@@ -68,3 +68,12 @@ row-whole e f j w o u d g h = from-done (λ (t : ℕ) (l : List Float). set l (e
 pub stored-tab : (w : ℕ) (f : ℕ → Float) (o : List Float) → w ≤ length o → storedFrom 0 w f o ≡ tab w f ++ drop w o
 unfolding storedFrom
 stored-tab w f o l = fill-tab o 0 w f (rw zero-add l) ∙ rw zero-add
+
+-- rows of w stored one after another are a grid: at the front, and over the whole
+module _ (m w : ℕ) (f : ℕ → ℕ → Float) (k : ℕ) (o u : List Float) (e : u ≡ iter k (λ (i : ℕ). storedFrom (i * w) w (f i)) o) (p : k ≤ m) (q : m ≤ k) where
+  pub rows-front : m * w ≤ length o → u ≡ grid m w f ++ drop (m * w) o
+  unfolding storedFrom
+  rows-front l = iter-done (λ (i : ℕ). storedFrom (i * w) w (f i)) o k m u e p q ∙ fill-grid o m w f l
+
+  pub rows-whole : length o ≡ m * w → u ≡ grid m w f
+  rows-whole l = let b : length o ≤ m * w = omega arith in rows-front (omega arith) ∙ rw (drop-of-length-le o b, append-nil)

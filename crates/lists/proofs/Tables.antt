@@ -6,10 +6,11 @@ use mathlib.Core.Logic.{⊎-elim}
 use native.Mathlib.Omega.{arith}
 use mathlib.Core.Path.{_≡_, refl, sym, ap, _∙_}
 use mathlib.Core.List.{List, [], _∷_, _++_, map, append-assoc, append-nil}
-use lib.ListN.{length, getD, set, take, drop, length-append, length-set, length-take, take-append-drop, List·getD-append, length-drop}
+use lib.ListN.{length, getD, set, take, drop, length-append, length-set, length-take, take-append-drop, List·getD-append, length-drop, drop-of-length-le}
 use lib.Seq.{set-at, drop-cons, length-take-le, getD-at, getD-append-add, take-at, drop-append-add, drop-drop}
 use Rattle.lists.proofs.Cells.{cell-lt}
 use Rattle.lists.specs.Lists.{iter, listed, tab, flat, joined, grid}
+use Rattle.lists.proofs.Loops.{iter-same}
 
 -- what each turn keeps, the loop keeps
 pub iter-keeps : {S : Type 0} (P : S → Type 0) (f : ℕ → S → S) (s : S) → P s → ((k : ℕ) (t : S) → P t → P (f k t)) → (k : ℕ) → P (iter k f s)
@@ -206,3 +207,21 @@ module _ {A : Type 0} where
   grid-is m n f o l e h =
       sym (tab-getD o l) ∙ ap (λ (k : ℕ). tab k (λ (x : ℕ). getD l x o)) e ∙ tab-rows m n (λ (x : ℕ). getD l x o)
       ∙ grid-same m n (λ (i j : ℕ). getD l (i * n + j) o) f h
+
+-- a list is the table of what stands at its places
+pub tab-is : {A : Type 0} (n : ℕ) (f : ℕ → A) (o : A) (l : List A) → length l ≡ n → ((i : ℕ) → i < n → getD l i o ≡ f i) → l ≡ tab n f
+tab-is n f o l e h = sym (tab-getD o l) ∙ ap (λ (k : ℕ). tab k (λ (x : ℕ). getD l x o)) e ∙ listed-same n 0 (λ (x : ℕ). getD l x o) f (λ j p q. h j (omega arith))
+
+-- ---- a table stored at the front, and over the whole
+module _ {A : Type 0} (l t : List A) (k n : ℕ) (f : ℕ → A) (e : t ≡ iter k (λ (j : ℕ) (u : List A). set u j (f j)) l) (p : k ≤ n) (q : n ≤ k) where
+  pub fill-front : n ≤ length l → t ≡ tab n f ++ drop n l
+  fill-front h =
+      let z : k ≡ n = omega arith in
+      let y : 0 + n ≡ n = zero-add n in
+      let b : 0 + n ≤ length l = omega arith in
+      e ∙ ap (λ (m : ℕ). iter m (λ (j : ℕ) (u : List A). set u j (f j)) l) z
+      ∙ iter-same n (λ (j : ℕ) (u : List A). set u j (f j)) (λ (j : ℕ) (u : List A). set u (0 + j) (f j)) l (λ j u g. rw zero-add)
+      ∙ fill-tab l 0 n f b ∙ rw y
+
+  pub fill-all : length l ≡ n → t ≡ tab n f
+  fill-all h = let b : length l ≤ n = omega arith in fill-front (omega arith) ∙ rw (drop-of-length-le l b, append-nil)

@@ -75,3 +75,12 @@ not-no false e = sym e
 pub not-yes : (b : Bool) → not b ≡ true → b ≡ false
 not-yes true e = sym e
 not-yes false e = refl
+
+-- tests that hold where the other does are one
+pub same-test : (a b : Bool) → (a ≡ true → b ≡ true) → (b ≡ true → a ≡ true) → a ≡ b
+same-test true b f g = sym (f refl)
+same-test false true f g = g refl
+same-test false false f g = refl
+
+pub eqb-swap : (m n : ℕ) → eqb m n ≡ eqb n m
+eqb-swap m n = same-test (eqb m n) (eqb n m) (λ e. eqb-yes n m (sym (eqb-is m n e))) (λ e. eqb-yes m n (sym (eqb-is n m e)))

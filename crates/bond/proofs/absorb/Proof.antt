@@ -6,7 +6,7 @@ use Rattle.bond.proofs.absorb.Statement.{statement}
 use Rattle.bond.proofs.absorb.Tie as tie
 
 mul-product : tie.Need-mul-product
-mul-product c = record { fits = omega (arith, line-most _ _ _ _ (c .before .before .before .pre .0) (c .before .before .before .pre .1) (c .before .before .before .pre .2) (c .before .before .before .pre .3)) }
+mul-product c = record { fits = omega (arith, line-most _ _ _ _ (c .before .before .before .pre .0) (c .before .before .before .pre .1)) }
 
 returns : tie.Need-returns
 returns c = absorb-is _ _ _ _ _ _ _ _ (c .before .before .product .ensures)

@@ -6,10 +6,10 @@ use Rattle.bond.proofs.gram.Statement.{statement}
 use Rattle.bond.proofs.gram.Tie as tie
 
 mul-product : tie.Need-mul-product
-mul-product c = record { fits = omega (arith, rows-most _ _ _ _ (c .before .before .pre .0) (c .before .before .pre .1) (c .before .before .pre .2) (c .before .before .pre .3)) }
+mul-product c = record { fits = omega (arith, rows-most _ _ _ (c .before .before .pre .0) (c .before .before .pre .3)) }
 
 product-requires : tie.Need-product-requires
-product-requires c κs = omega (arith, row-most _ _ _ _ (c .before .before .before .pre .0) (c .before .before .before .pre .1) (c .before .before .before .pre .2) (c .before .before .before .pre .3))
+product-requires c κs = omega (arith, row-most _ _ _ _ (c .before .before .before .pre .0) (c .before .before .before .pre .1) (c .before .before .before .pre .2))
 
 returns : tie.Need-returns
 returns c = gram-is _ _ _ _ _ _ (c .before .before .product .ensures) (c .before .before .before .before .before .before .pre .4)

@@ -4,7 +4,8 @@ use mathlib.Core.Path.{_≡_}
 use lib.ListN.{length}
 use Rattle.lists.specs.Lists.{iter}
 use Rattle.lists.proofs.Turns.{turns}
-use Rattle.bond.specs.Products.{dotAt, storedFrom}
+use Rattle.lists.specs.Strips.{storedFrom}
+use Rattle.bond.specs.Products.{dotAt}
 use Rattle.bond.proofs.Strips.{start-ok, rows-done}
 use Rattle.bond.proofs.products.product.Statement.{statement}
 use Rattle.bond.proofs.products.product.Tie as tie

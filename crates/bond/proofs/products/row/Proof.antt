@@ -5,7 +5,7 @@ use native.Mathlib.Omega.{arith}
 use lib.ListN.{length}
 use Rattle.lists.proofs.Turns.{turns}
 use Rattle.bond.specs.Products.{dotAt}
-use Rattle.bond.proofs.Strips.{rowTo, row-more, row-on, row-whole}
+use Rattle.lists.proofs.Strips.{rowTo, row-more, row-on, row-whole}
 use Rattle.bond.proofs.products.row.Statement.{statement}
 use Rattle.bond.proofs.products.row.Tie as tie
 
