@@ -8,3 +8,4 @@ pub mod Offsets
 pub mod Slotwise
 -- other ranks
 pub mod Ranks
+pub mod Insides

@@ -1,7 +1,7 @@
 -- A core, cores cut out of one list of numbers, and packed again. Definitions only.
 use Prim.Native.Nat.{ℕ, suc, _+_, _*_}
 use mathlib.Core.List.{List, [], _∷_, map}
-use lib.ListN.{length, set}
+use lib.ListN.{length, set, take}
 use lib.Ieee.{Float}
 use Rattle.numbers.specs.Arithmetic.{zero64}
 use Rattle.lists.specs.Lists.{tab, flat, joined, grid}
@@ -36,6 +36,10 @@ coreAt s l k = coreWith (leftOf s k) (pointsOf s k) (rightOf s k) (slot (coreSiz
 
 unfoldable pub coresOf : Shape → List Float → List Core
 coresOf s l = tab (s .d) (coreAt s l)
+
+-- core k of shape t, at the front of the room that core k of shape s has: work keeps every core where it began, however small it gets
+unfoldable pub standing : Shape → Shape → List Float → ℕ → Core
+standing s t l k = coreWith (leftOf t k) (pointsOf t k) (rightOf t k) (take (coreSize t k) (slot (coreSize s) k l))
 
 -- the weights, or the vector, of axis k
 unfoldable pub pointsAt : Shape → List Float → ℕ → List Float
