@@ -24,8 +24,8 @@ use Rattle.shape.specs.Cores.{Core, coreWith}
 use Rattle.shape.proofs.Shaped.{shape-same}
 use Rattle.rounding.specs.Rounding.{Carry, Cut}
 use Rattle.stepping.specs.Zones.{Rules}
-use Rattle.runs.specs.Kept.{Inputs, Stepped, Summed, Kept, running, bondSize, carrySize, rankAt, leftRank, rightRank, keptCore, keptCarry, keptSums}
-use Rattle.runs.specs.Work.{rankIn, numbersIn, keepStep}
+use Rattle.runs.specs.Kept.{Inputs, Summed, Kept, running, leftRank, rightRank, keptCore, keptCarry, keptSums}
+use Rattle.rounding.specs.Keeping.{Stepped, bondSize, carrySize, rankAt, rankIn, numbersIn, keepStep}
 use Rattle.runs.specs.Checks.{rankOk, inputsLent, keptLent, loneFinite, zoneFinite, keptFinite}
 use Rattle.runs.specs.Requests.{Request, zoneOf, partFits, partFinite, numbersOk, replaceOk}
 use Rattle.runs.proofs.Held.{bond-at}

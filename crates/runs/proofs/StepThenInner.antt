@@ -28,7 +28,8 @@ use Rattle.product.specs.Product.{startSums, sumAxis, sums, inner}
 use Rattle.stepping.specs.declared.Settings.{Settings}
 use Rattle.stepping.specs.Zones.{Zone, zone, axisAt, zonesOf, Rules, rules}
 use Rattle.stepping.specs.Steps.{holding, shiftZone, scaleZone, roundZone, stepFrom, step}
-use Rattle.runs.specs.Kept.{Inputs, Stepped, Kept, running, blank, bare, zoneAt, zonesFrom, rankAt, leftRank, rightRank, keptCore, carryAt, sumsAt, weighedAt, weighedFrom}
+use Rattle.runs.specs.Kept.{Inputs, Kept, running, blank, bare, zoneAt, zonesFrom, leftRank, rightRank, keptCore, carryAt, sumsAt, weighedAt, weighedFrom}
+use Rattle.rounding.specs.Keeping.{Stepped, rankAt}
 use Rattle.runs.specs.Work.{sumZone, restep, resum, sumFrom, workFrom}
 use Rattle.runs.specs.Checks.{freshOk, freshRun}
 use Rattle.runs.specs.Call.{Room, roomOk, freshEnd, freshBy, freshCall}
