@@ -19,7 +19,7 @@ use Rattle.shape.specs.Cores.{Core, coreWith}
 use Rattle.rounding.specs.Rounding.{Carry, Cut}
 use Rattle.runs.specs.Kept.{leftRank, rightRank, keptCore, keptCarry}
 use Rattle.rounding.specs.Keeping.{Stepped, bondSize, carrySize, rankAt, rankIn, numbersIn, keepStep}
-use Rattle.runs.proofs.Held.{bond-offset}
+use Rattle.rounding.proofs.Bonds.{bond-offset}
 
 -- d zones have d - 1 bonds
 pub bond-count : (s : Shape) → 1 ≤ s .d → offset (bondSize s) (s .d) ≡ s .d - 1

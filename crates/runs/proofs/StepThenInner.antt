@@ -34,7 +34,8 @@ use Rattle.runs.specs.Work.{sumZone, restep, resum, sumFrom, workFrom}
 use Rattle.runs.specs.Checks.{freshOk, freshRun}
 use Rattle.runs.specs.Call.{Room, roomOk, freshEnd, freshBy, freshCall}
 use Rattle.runs.specs.StepThenInner.{paired, stepThenInner}
-use Rattle.runs.proofs.Sound.{Sound, volume, rankOn, Sized}
+use Rattle.runs.proofs.Sound.{Sound, Sized}
+use Rattle.rounding.proofs.Cuts.{volume, rankOn}
 use Rattle.runs.proofs.Rules.{rules-sound, rules-sized}
 use Rattle.runs.proofs.Trace.{passed, lent-is, StepTrace, Trace, steppedBy, summedBy}
 use Rattle.runs.proofs.Held.{no-cut, sizes, cuts-length, rank-fits, right-fits, carry-read, core-slot, figure-read}
