@@ -25,7 +25,7 @@ use Rattle.lists.proofs.Turns.{iter-done}
 use Rattle.shape.specs.Cores.{coreWith, entry}
 use Rattle.shape.proofs.Places.{entry-row, block-rows}
 use Rattle.bond.specs.Bonds.{divided, leftFactor, carryOf}
-use Rattle.bond.specs.Products.{dotAt, productOf}
+use Rattle.strips.specs.Products.{dotAt, productOf}
 use Rattle.bond.specs.Stages.{Factors, factorsOf, gathered, finished, finishColumn, leftRows, carryRows}
 
 -- ---- one column: by the test on its value

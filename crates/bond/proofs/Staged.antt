@@ -20,12 +20,12 @@ use Rattle.lists.proofs.Floats.{stored-is}
 use Rattle.lists.proofs.Parts.{part-again, span-length}
 use Rattle.lists.proofs.Stages.{stored-staged, staged-on, staged-stop, staged-last}
 use Rattle.shape.specs.Cores.{Core, coreWith}
-use Rattle.bond.specs.Sweeps.{Eig, eig, eye, Swept, swept, diagonalized}
-use Rattle.bond.specs.Values.{singulars, order, sorted, keptRank}
+use Rattle.sweeps.specs.Sweeps.{Eig, eig, Swept, swept, diagonalized}
+use Rattle.rotation.specs.Rotation.{eye}
+use Rattle.values.specs.Values.{singulars, order, sorted, keptRank}
 use Rattle.bond.specs.Bonds.{gram, leftFactor, carryOf, Bond, cutBond}
 use Rattle.bond.specs.Stages.{Diagonal, sweptOf, diagonalOf, Factors, factorsOf, Columns}
-use Rattle.bond.proofs.Made.{rank-most}
-use Rattle.bond.proofs.Ranked.{order-lt}
+use Rattle.values.proofs.Ranked.{rank-most, order-lt}
 
 -- ---- the sweeps of a core's Gram matrix
 module _ (c : Core) (g : List Float) (r : Stage) (eg : g ≡ gram c) (er : r ≡ stageOf (stored g)) where

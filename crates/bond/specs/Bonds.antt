@@ -10,8 +10,9 @@ use Rattle.answers.specs.Outcome.{Answer, done, bind, making}
 use Rattle.lists.specs.Lists.{pick, grid}
 use Rattle.lists.specs.Floats.{at, cell, sumTo, sumRows, stored}
 use Rattle.shape.specs.Cores.{Core, coreWith, entry, block}
-use Rattle.bond.specs.Sweeps.{eig, eye, diagonalized}
-use Rattle.bond.specs.Values.{singulars, order, sorted, keptRank}
+use Rattle.sweeps.specs.Sweeps.{eig, diagonalized}
+use Rattle.rotation.specs.Rotation.{eye}
+use Rattle.values.specs.Values.{singulars, order, sorted, keptRank}
 
 -- entry (i, j) is the sum over the rows (il, im), ascending
 unfoldable pub gram : Core → List Float

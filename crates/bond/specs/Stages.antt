@@ -8,9 +8,10 @@ use Rattle.numbers.specs.Arithmetic.{times, over, zero64}
 use Rattle.lists.specs.Lists.{pick, grid, iter}
 use Rattle.lists.specs.Floats.{at, cell, stored}
 use Rattle.shape.specs.Cores.{Core}
-use Rattle.bond.specs.Products.{dotAt}
-use Rattle.bond.specs.Sweeps.{Swept, eig, eye, diagonalized}
-use Rattle.bond.specs.Values.{singulars}
+use Rattle.strips.specs.Products.{dotAt}
+use Rattle.sweeps.specs.Sweeps.{Swept, eig, diagonalized}
+use Rattle.rotation.specs.Rotation.{eye}
+use Rattle.values.specs.Values.{singulars}
 use Rattle.bond.specs.Bonds.{gram, divided, leftFactor, carryOf}
 
 -- ---- the Gram matrix made diagonal, and its values

@@ -10,7 +10,7 @@ ghost use Rattle.lists.specs.Lists.{iter, grid};
 ghost use Rattle.lists.specs.Floats.{at, cell, stored};
 ghost use Rattle.shape.specs.Cores.{coreWith};
 ghost use Rattle.lists.specs.Strips.{storedFrom};
-ghost use Rattle.bond.specs.Products.{productOf};
+ghost use Rattle.strips.specs.Products.{productOf};
 ghost use Rattle.bond.specs.Bonds.{divided};
 ghost use Rattle.bond.specs.Stages.{Columns, gathered, finished, finishColumn, leftRows, carryRows, factorsOf};
 
@@ -89,7 +89,7 @@ fn multiply(core: &mut [f64], m: usize, n: usize, columns: &[f64], r: usize, roo
 {
     let e = core.len();
     lists::copy(core, &mut room[0..e]);
-    crate::products::product(&room[0..e], n, 1, columns, r, n, m, core);
+    strips::product(&room[0..e], n, 1, columns, r, n, m, core);
 }
 
 // The left factor, at the front of core.

@@ -10,23 +10,19 @@ ghost use Rattle.answers.specs.Outcome.{staged, answered};
 ghost use Rattle.lists.specs.Floats.{allFinite};
 ghost use Rattle.shape.specs.Limits.{mostRank};
 ghost use Rattle.shape.specs.Cores.{coreWith};
-ghost use Rattle.bond.specs.Sweeps.{eig, swept};
-ghost use Rattle.bond.specs.Values.{order, sorted};
+ghost use Rattle.sweeps.specs.Sweeps.{eig, swept};
+ghost use Rattle.values.specs.Values.{order, sorted};
 ghost use Rattle.bond.specs.Bonds.{gram, cutBond, absorb};
 ghost use Rattle.bond.specs.Stages.{sweptOf, diagonalOf, factorsOf, Columns};
 
 pub mod factors;
-pub mod products;
-pub mod rotation;
-pub mod sweeps;
-pub mod values;
 
 // The Gram matrix of a core's rows.
 pub fn gram(core: &[f64], rl: usize, n: usize, rr: usize, g: &mut [f64])
     requires { ⌜ (length (now core) ≡ rl * n * rr) × (1 ≤ rl) × (1 ≤ n) × (1 ≤ rr) × (length (now g) ≡ rr * rr) ⌝ }
     ensures { λ _. ⌜ now (g .exit) ≡ gram (coreWith rl n rr (now (core .entry))) ⌝ }
 {
-    products::product(core, 1, rr, core, rr, rl * n, rr, g);
+    strips::product(core, 1, rr, core, rr, rl * n, rr, g);
 }
 
 // The Gram matrix made diagonal, with its basis.
@@ -46,7 +42,7 @@ fn swept_gram(
     if let answers::Stage::Spilt(i) = made {
         return sweeps::sweeps_are(answers::Stage::Spilt(i), 0, false);
     }
-    sweeps::eye(v, rr);
+    rotation::eye(v, rr);
     sweeps::diagonalize(g, v, rr)
 }
 
@@ -265,5 +261,5 @@ pub fn absorb(
     requires { ⌜ (length (now core) ≡ rl * n * rr) × (1 ≤ rl) × (r * rl ≤ length (now carry)) × (r * n * rr ≤ length (now out)) ⌝ }
     ensures { λ _. ⌜ now (out .exit) ≡ absorb r (take (r * rl) (now (carry .entry))) (coreWith rl n rr (now (core .entry))) ++ drop (r * n * rr) (now (out .entry)) ⌝ }
 {
-    products::product(carry, rl, 1, core, n * rr, rl, r, out);
+    strips::product(carry, rl, 1, core, n * rr, rl, r, out);
 }

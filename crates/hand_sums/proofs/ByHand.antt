@@ -16,9 +16,9 @@ use Rattle.axes.specs.Axes.{axisFinite, axisOk}
 use Rattle.shift.specs.Shifts.{distance, spacing, shiftOf, shifted, scaled}
 use Rattle.shift.specs.Weights.{cubicBandWeights, bandOn, shiftedAt}
 use Rattle.bond.specs.Bonds.{gram, divided, leftFactor, carryOf, cutBond, absorb}
-use Rattle.bond.specs.Rotation.{tangentOf, slopeOf, cosineOf, turnedAt}
-use Rattle.bond.specs.Sweeps.{eye, turnColumns, turnRows, cleared, turned, skipped, rotate, sweep, offSum, settled, sweepsFrom, diagonalized}
-use Rattle.bond.specs.Values.{singularOf, singulars, rankIn, indexAt, order, sorted, thresholdOf, keptRank}
+use Rattle.rotation.specs.Rotation.{tangentOf, slopeOf, cosineOf, turnedAt, eye}
+use Rattle.sweeps.specs.Sweeps.{turnColumns, turnRows, cleared, turned, skipped, rotate, sweep, offSum, settled, sweepsFrom, diagonalized}
+use Rattle.values.specs.Values.{singularOf, singulars, rankIn, indexAt, order, sorted, thresholdOf, keptRank}
 use Rattle.rounding.specs.Call.{lengthsOk, coreFinite, notBelowZero, roundFinite, roundOk, scratchAfter, endedBy, roundCall}
 use Rattle.rounding.specs.Rounding.{roundCore, rounding}
 use Rattle.product.specs.Call.{innerLent, innerFinite, innerOk, weighed, innerCall}
