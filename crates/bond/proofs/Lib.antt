@@ -1,5 +1,4 @@
 pub mod Made
 pub mod Examples
 pub mod Cores
-pub mod Finished
 pub mod Staged

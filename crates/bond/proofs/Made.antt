@@ -16,7 +16,8 @@ use Rattle.sweeps.specs.Sweeps.{eig, diagonalized}
 use Rattle.rotation.specs.Rotation.{eye}
 use Rattle.values.specs.Values.{singulars, order, sorted, keptRank}
 use Rattle.values.proofs.Ranked.{rank-least, rank-most}
-use Rattle.bond.specs.Bonds.{gram, leftFactor, carryOf, Bond, cutBond}
+use Rattle.bond.specs.Bonds.{gram, Bond, cutBond}
+use Rattle.factors.specs.Factors.{leftFactor, carryOf}
 
 -- the core c cut
 pub record CutFrom (c : Core) (b : Bond) : Type 0 where

@@ -1,11 +1,10 @@
 -- A cut stage by stage, in the form that proofs of code cite. Assumes nothing.
 use mathlib.Core.Path.{_≡_, refl, sym, ap, _∙_}
-use Prim.Native.Nat.{ℕ, _-_, _*_, _≤_}
-use native.Mathlib.Nat.{mul-comm}
+use Prim.Native.Nat.{ℕ, _-_, _≤_}
 use native.Mathlib.Omega.{arith}
-use mathlib.Core.Bool.{Bool, true}
-use mathlib.Core.List.{List, _++_}
-use lib.ListN.{length, take}
+use mathlib.Core.Bool.{true}
+use mathlib.Core.List.{List}
+use lib.ListN.{length}
 use lib.Ieee.{Float}
 use Rattle.answers.specs.declared.Part.{Part}
 use Rattle.answers.specs.declared.Part.the-variants.{Spectrum, Factor}
@@ -17,14 +16,15 @@ use Rattle.answers.specs.Outcome.{Made, Answer, done, refused, bind, making, st
 use Rattle.answers.proofs.Outcomes.{bind-done, bind-cong, done-inj}
 use Rattle.lists.specs.Floats.{allFinite, stored}
 use Rattle.lists.proofs.Floats.{stored-is}
-use Rattle.lists.proofs.Parts.{part-again, span-length}
 use Rattle.lists.proofs.Stages.{stored-staged, staged-on, staged-stop, staged-last}
 use Rattle.shape.specs.Cores.{Core, coreWith}
-use Rattle.sweeps.specs.Sweeps.{Eig, eig, Swept, swept, diagonalized}
+use Rattle.sweeps.specs.Sweeps.{eig, Swept, swept, diagonalized}
 use Rattle.rotation.specs.Rotation.{eye}
 use Rattle.values.specs.Values.{singulars, order, sorted, keptRank}
-use Rattle.bond.specs.Bonds.{gram, leftFactor, carryOf, Bond, cutBond}
-use Rattle.bond.specs.Stages.{Diagonal, sweptOf, diagonalOf, Factors, factorsOf, Columns}
+use Rattle.bond.specs.Bonds.{gram, Bond, cutBond}
+use Rattle.factors.specs.Factors.{leftFactor, carryOf}
+use Rattle.bond.specs.Stages.{Diagonal, sweptOf, diagonalOf}
+use Rattle.factors.specs.Rows.{Factors, factorsOf, Columns}
 use Rattle.values.proofs.Ranked.{rank-most, order-lt}
 
 -- ---- the sweeps of a core's Gram matrix
@@ -126,11 +126,6 @@ module _ (k : ℕ) (eps : Float) (c : Core) where
       pub cut-whole : t ≡ Whole → cutBond k eps c ≡ answered Fits (record { core = coreWith (c .rl) (c .n) r (f .left); sweeps = d .swept .count; settles = d .swept .settles; carry = f .carry })
       unfolding staged answered bondOf
       cut-whole e = second-opened ∙ rw e
-
--- the carry stands at the front of the slice of which a part was lent
-pub factor-front : (T : Made Factors) (s : Stage) (left q rest carry : List Float) (r rr : ℕ) → T ≡ staged s (record { left = left; carry = q }) → length q ≡ length (take (rr * r - 0) carry) → rr * r ≤ length carry → T ≡ staged s (record { left = left; carry = take (r * rr) (q ++ rest) })
-factor-front T s left q rest carry r rr e l b =
-    e ∙ ap (λ (x : List Float). staged s (record { left = left; carry = x })) (sym (part-again (r * rr) q rest (l ∙ span-length (rr * r) carry b ∙ mul-comm rr r)))
 
 -- ---- what the second stage may ask of the first
 pub values-finite : (c : Core) (s : Stage) (d : Diagonal) → diagonalOf c ≡ staged s d → s ≡ Whole → allFinite (d .values) ≡ true

@@ -13,9 +13,7 @@ ghost use Rattle.shape.specs.Cores.{coreWith};
 ghost use Rattle.sweeps.specs.Sweeps.{eig, swept};
 ghost use Rattle.values.specs.Values.{order, sorted};
 ghost use Rattle.bond.specs.Bonds.{gram, cutBond, absorb};
-ghost use Rattle.bond.specs.Stages.{sweptOf, diagonalOf, factorsOf, Columns};
-
-pub mod factors;
+ghost use Rattle.bond.specs.Stages.{sweptOf, diagonalOf};
 
 // The Gram matrix of a core's rows.
 pub fn gram(core: &[f64], rl: usize, n: usize, rr: usize, g: &mut [f64])
@@ -78,39 +76,6 @@ fn arrange(sv: &[f64], n: usize, js: &mut [usize], ss: &mut [f64])
     values::sorted(sv, n, js, ss);
 }
 
-// The left factor and the carry, each at the front of its slice; g has room for the basis' columns.
-fn factor(
-    core: &mut [f64],
-    rl: usize,
-    n: usize,
-    rr: usize,
-    v: &[f64],
-    js: &[usize],
-    ss: &[f64],
-    r: usize,
-    g: &mut [f64],
-    carry: &mut [f64],
-    room: &mut [f64],
-) -> answers::Stage
-    requires { ⌜ (length (now core) ≡ rl * n * rr) × (1 ≤ rr) × (length (now v) ≡ rr * rr) × (r ≤ length (now js)) × Columns rr (now js) r × (r ≤ length (now ss)) × (r ≤ rr) × (length (now g) ≡ rr * rr) × (rr * rr ≤ length (now carry)) × (length (now core) ≤ length (now room)) ⌝ }
-    ensures { λ s. ⌜ factorsOf (coreWith rl n rr (now (core .entry))) r (now (ss .entry)) (now (js .entry)) (now (v .entry)) ≡ staged s (record { left = take (rl * n * r) (now (core .exit)); carry = take (r * rr) (now (carry .exit)) }) ⌝ }
-{
-    let e = rr * r;
-    factors::left_and_carry(
-        core,
-        rl,
-        n,
-        rr,
-        v,
-        js,
-        ss,
-        r,
-        &mut g[0..e],
-        &mut carry[0..e],
-        room,
-    )
-}
-
 // What a cut came to: where it fits, the rank kept, the sweeps made, and whether the sum was small at their end.
 pub struct BondCut {
     pub verdict: answers::Verdict,
@@ -167,7 +132,7 @@ fn cut(
     }
     arrange(sv, rr, js, ss);
     let r = values::kept_rank(eps, rr, ss);
-    let made = factor(core, rl, n, rr, v, js, ss, r, g, carry, room);
+    let made = factors::factor(core, rl, n, rr, v, js, ss, r, g, carry, room);
     if let answers::Stage::Spilt(i) = made {
         return cut_refused(answers::Part::Factor, k, i);
     }

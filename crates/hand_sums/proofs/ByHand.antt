@@ -15,7 +15,8 @@ use Rattle.shape.specs.Shapes.{sizeOk, bondOk, shapeOk, coreSize, pointSize}
 use Rattle.axes.specs.Axes.{axisFinite, axisOk}
 use Rattle.shift.specs.Shifts.{distance, spacing, shiftOf, shifted, scaled}
 use Rattle.shift.specs.Weights.{cubicBandWeights, bandOn, shiftedAt}
-use Rattle.bond.specs.Bonds.{gram, divided, leftFactor, carryOf, cutBond, absorb}
+use Rattle.bond.specs.Bonds.{gram, cutBond, absorb}
+use Rattle.factors.specs.Factors.{divided, leftFactor, carryOf}
 use Rattle.rotation.specs.Rotation.{tangentOf, slopeOf, cosineOf, turnedAt, eye}
 use Rattle.sweeps.specs.Sweeps.{turnColumns, turnRows, cleared, turned, skipped, rotate, sweep, offSum, settled, sweepsFrom, diagonalized}
 use Rattle.values.specs.Values.{singularOf, singulars, rankIn, indexAt, order, sorted, thresholdOf, keptRank}
