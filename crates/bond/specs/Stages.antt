@@ -1,24 +1,23 @@
--- The first stage of a cut. Definitions only.
-use mathlib.Core.List.{List}
+-- The stages of a cut: the sweeps of the Gram matrix, and what follows them. Definitions for the code only.
+use Prim.Native.Nat.{ℕ}
 use lib.Ieee.{Float}
-use Rattle.answers.specs.Outcome.{Made, done, bind}
+use Rattle.answers.specs.declared.Part.the-variants.{Spectrum, Factor}
+use Rattle.answers.specs.Outcome.{Answer, Made, done, bind, making}
 use Rattle.lists.specs.Floats.{stored}
-use Rattle.shape.specs.Cores.{Core}
-use Rattle.sweeps.specs.Sweeps.{Swept, eig, diagonalized}
+use Rattle.shape.specs.Cores.{Core, coreWith}
 use Rattle.rotation.specs.Rotation.{eye}
-use Rattle.values.specs.Values.{singulars}
-use Rattle.bond.specs.Bonds.{gram}
+use Rattle.sweeps.specs.Sweeps.{Swept, eig, diagonalized}
+use Rattle.values.specs.Chosen.{chosenOf}
+use Rattle.factors.specs.Rows.{factorsOf}
+use Rattle.bond.specs.Bonds.{gram, Bond}
 
--- the Gram matrix made diagonal, and its values
-pub record Diagonal : Type 0 where
-  pub swept : Swept
-  pub values : List Float
-
+-- the Gram matrix made diagonal
 unfoldable pub sweptOf : Core → Made Swept
 sweptOf c = bind (stored (gram c)) (λ g. diagonalized (c .rr) (eig g (eye (c .rr))))
 
-unfoldable pub diagonalOf : Core → Made Diagonal
-diagonalOf c =
-    bind (sweptOf c) (λ w.
-    bind (stored (singulars (c .rr) (w .eig .g))) (λ sv.
-    done (record { swept = w; values = sv })))
+-- the values, the left factor and the carry
+unfoldable pub restOf : ℕ → Float → Core → Swept → Answer Bond
+restOf k eps c w =
+    bind (making Spectrum k (chosenOf eps (c .rr) (w .eig .g))) (λ q.
+    bind (making Factor k (factorsOf c (q .rank) (q .values) (q .order) (w .eig .v))) (λ f.
+    done (record { core = coreWith (c .rl) (c .n) (q .rank) (f .left); sweeps = w .count; settles = w .settles; carry = f .carry })))

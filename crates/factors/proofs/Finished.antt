@@ -2,7 +2,7 @@
 use mathlib.Core.Path.{_≡_, refl, sym, ap, _∙_}
 use mathlib.Core.Logic.{⊎-elim}
 use Prim.Native.Nat.{ℕ, zero, suc, _+_, _-_, _*_, _<_, _≤_}
-use native.Mathlib.Nat.{not-suc-le-zero, le-of-suc-le-suc, le-of-eq, le-refl, eq-or-lt-of-le, mul-comm, mul-le-mul-left}
+use native.Mathlib.Nat.{not-suc-le-zero, le-of-suc-le-suc, le-of-eq, le-refl, eq-or-lt-of-le, mul-comm, mul-le-mul-left, sub-zero}
 use native.Mathlib.Omega.{arith}
 use mathlib.Core.Bool.{Bool, true, false}
 use mathlib.Core.List.{List, _++_}
@@ -22,11 +22,11 @@ use Rattle.lists.proofs.Stages.{stored-staged, staged-on, staged-stop, staged-l
 use Rattle.lists.proofs.Sums.{sum-same}
 use Rattle.lists.proofs.Tables.{iter-keeps, grid-is, grid-same, length-grid, getD-grid}
 use Rattle.lists.proofs.Turns.{iter-done}
-use Rattle.shape.specs.Cores.{coreWith, entry}
+use Rattle.shape.specs.Cores.{Core, coreWith, entry}
 use Rattle.shape.proofs.Places.{entry-row, block-rows}
 use Rattle.factors.specs.Factors.{divided, leftFactor, carryOf}
 use Rattle.strips.specs.Products.{dotAt, productOf}
-use Rattle.factors.specs.Rows.{Factors, factorsOf, gathered, finished, finishColumn, leftRows, carryRows}
+use Rattle.factors.specs.Rows.{Factors, factorsOf, Columns, gathered, finished, finishColumn, leftRows, carryRows}
 
 -- ---- one column: by the test on its value
 module _ (m r j : ℕ) (value : Float) (l u : List Float) (b : Bool) (eb : b ≡ divided value) where
@@ -138,10 +138,17 @@ module _ (rl n rr r : ℕ) (core v : List Float) (js : List ℕ) (ss columns : L
         ∙ ap (λ (o : Made (List Float)). bind o (λ b. done (record { left = left; carry = b }))) (ap stored (sym (eb ∙ carry-rows)) ∙ stored-staged carry t et)
         ∙ staged-last t carry (λ b. record { left = left; carry = b })
 
--- the carry stands at the front of the slice of which a part was lent
-pub factor-front : (T : Made Factors) (s : Stage) (left q rest carry : List Float) (r rr : ℕ) → T ≡ staged s (record { left = left; carry = q }) → length q ≡ length (take (rr * r - 0) carry) → rr * r ≤ length carry → T ≡ staged s (record { left = left; carry = take (r * rr) (q ++ rest) })
-factor-front T s left q rest carry r rr e l b =
-    e ∙ ap (λ (x : List Float). staged s (record { left = left; carry = x })) (sym (part-again (r * rr) q rest (l ∙ span-length (rr * r) carry b ∙ mul-comm rr r)))
+-- ---- all stand at the front of slices of which parts were lent
+pub columns-front : (n : ℕ) (js : List ℕ) (r : ℕ) → Columns n (take n js) r → Columns n (take (n - 0) js) r
+columns-front n js r h = rw sub-zero h
+
+pub factor-front : (c : Core) (s : Stage) (left q rest carry ss v : List Float) (js : List ℕ) (r rr : ℕ) → factorsOf c r (take (rr - 0) ss) (take (rr - 0) js) (take (rr * rr - 0) v) ≡ staged s (record { left = left; carry = q })
+    → length q ≡ length (take (rr * r - 0) carry) → rr * r ≤ length carry
+    → factorsOf c r (take rr ss) (take rr js) (take (rr * rr) v) ≡ staged s (record { left = left; carry = take (r * rr) (q ++ rest) })
+factor-front c s left q rest carry ss v js r rr e l b =
+    ap (λ (x : ℕ). factorsOf c r (take x ss) (take x js) (take (rr * rr) v)) (sym (sub-zero rr))
+    ∙ ap (λ (x : ℕ). factorsOf c r (take (rr - 0) ss) (take (rr - 0) js) (take x v)) (sym (sub-zero (rr * rr)))
+    ∙ e ∙ ap (λ (x : List Float). staged s (record { left = left; carry = x })) (sym (part-again (r * rr) q rest (l ∙ span-length (rr * r) carry b ∙ mul-comm rr r)))
 
 -- the number of rows is at most all
 pub rows-most : (m rr l : ℕ) → l ≡ m * rr → 1 ≤ rr → m ≤ l

@@ -157,7 +157,8 @@ pub fn left_and_carry(
     lists::stored(carry)
 }
 
-// The left factor and the carry, each at the front of its slice; g has room for the basis' columns.
+// The left factor and the carry, each at the front of its slice. The basis, the order and the values stand at the front of theirs;
+// g has room for the basis' columns.
 pub fn factor(
     core: &mut [f64],
     rl: usize,
@@ -171,21 +172,22 @@ pub fn factor(
     carry: &mut [f64],
     room: &mut [f64],
 ) -> answers::Stage
-    requires { ⌜ (length (now core) ≡ rl * n * rr) × (1 ≤ rr) × (length (now v) ≡ rr * rr) × (r ≤ length (now js)) × Columns rr (now js) r × (r ≤ length (now ss)) × (r ≤ rr) × (length (now g) ≡ rr * rr) × (rr * rr ≤ length (now carry)) × (length (now core) ≤ length (now room)) ⌝ }
-    ensures { λ s. ⌜ factorsOf (coreWith rl n rr (now (core .entry))) r (now (ss .entry)) (now (js .entry)) (now (v .entry)) ≡ staged s (record { left = take (rl * n * r) (now (core .exit)); carry = take (r * rr) (now (carry .exit)) }) ⌝ }
+    requires { ⌜ (length (now core) ≡ rl * n * rr) × (1 ≤ rr) × (rr * rr ≤ length (now v)) × (rr ≤ length (now js)) × Columns rr (take rr (now js)) r × (rr ≤ length (now ss)) × (r ≤ rr) × (rr * rr ≤ length (now g)) × (rr * rr ≤ length (now carry)) × (length (now core) ≤ length (now room)) ⌝ }
+    ensures { λ s. ⌜ factorsOf (coreWith rl n rr (now (core .entry))) r (take rr (now (ss .entry))) (take rr (now (js .entry))) (take (rr * rr) (now (v .entry))) ≡ staged s (record { left = take (rl * n * r) (now (core .exit)); carry = take (r * rr) (now (carry .exit)) }) ⌝ }
 {
-    let e = rr * r;
+    let e = rr * rr;
+    let m = rr * r;
     left_and_carry(
         core,
         rl,
         n,
         rr,
-        v,
-        js,
-        ss,
+        &v[0..e],
+        &js[0..rr],
+        &ss[0..rr],
         r,
-        &mut g[0..e],
-        &mut carry[0..e],
+        &mut g[0..m],
+        &mut carry[0..m],
         room,
     )
 }

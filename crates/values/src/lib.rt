@@ -2,10 +2,13 @@
 ghost use mathlib.Core.Path.{_≡_};
 ghost use mathlib.Core.Bool.{true, cond};
 ghost use Prim.Native.Nat.{ℕ, _*_, _<_, _≤_};
-ghost use lib.ListN.{length};
+ghost use lib.ListN.{length, take};
 ghost use lib.Ieee.{lt, eq};
+ghost use Rattle.answers.specs.Outcome.{staged};
 ghost use Rattle.lists.specs.Lists.{count};
 ghost use Rattle.lists.specs.Floats.{at, allFinite};
+ghost use Rattle.shape.specs.Limits.{mostRank};
+ghost use Rattle.values.specs.Chosen.{chosenOf};
 ghost use Rattle.values.specs.Values.{singularOf, singulars, rankIn, order, sorted, thresholdOf, keptRank};
 
 // The root of a diagonal entry, +0 where it isn't above zero.
@@ -111,4 +114,63 @@ pub fn kept_rank(eps: f64, n: usize, ss: &[f64]) -> usize
         return 1;
     }
     k
+}
+
+// Whether all values are finite, and how many are kept.
+pub struct Kept {
+    pub stage: answers::Stage,
+    pub rank: usize,
+}
+
+fn kept_are(stage: answers::Stage, rank: usize) -> Kept
+    ensures { λ r. ⌜ r ≡ record { stage = stage; rank = rank } ⌝ }
+{
+    Kept { stage, rank }
+}
+
+// The values, then their order, then the values in it.
+fn keep_all(g: &[f64], n: usize, eps: f64, sv: &mut [f64], ss: &mut [f64], js: &mut [usize]) -> Kept
+    requires { ⌜ (length (now g) ≡ n * n) × (1 ≤ n) × (length (now sv) ≡ n) × (length (now ss) ≡ n) × (length (now js) ≡ n) ⌝ }
+    ensures { λ r. ⌜ chosenOf eps n (now (g .entry)) ≡ staged (r .stage) (record { rank = r .rank; order = now (js .exit); values = now (ss .exit) }) ⌝ }
+{
+    singular_values(g, n, sv);
+    let made = lists::stored(sv);
+    if let answers::Stage::Spilt(i) = made {
+        return kept_are(answers::Stage::Spilt(i), 0);
+    }
+    order(sv, n, js);
+    sorted(sv, n, js, ss);
+    kept_are(answers::Stage::Whole, kept_rank(eps, n, ss))
+}
+
+// The room in parts of just the size.
+fn keep_within(
+    g: &[f64],
+    n: usize,
+    eps: f64,
+    sv: &mut [f64],
+    ss: &mut [f64],
+    js: &mut [usize],
+) -> Kept
+    requires { ⌜ (n * n ≤ length (now g)) × (1 ≤ n) × (n ≤ length (now sv)) × (n ≤ length (now ss)) × (n ≤ length (now js)) ⌝ }
+    ensures { λ r. ⌜ chosenOf eps n (take (n * n) (now (g .entry))) ≡ staged (r .stage) (record { rank = r .rank; order = take n (now (js .exit)); values = take n (now (ss .exit)) }) ⌝ }
+{
+    let e = n * n;
+    keep_all(
+        &g[0..e],
+        n,
+        eps,
+        &mut sv[0..n],
+        &mut ss[0..n],
+        &mut js[0..n],
+    )
+}
+
+// Of the matrix at the front of g: its values, sorted, to the front of ss, their order to the front of js.
+pub fn keep(g: &[f64], n: usize, eps: f64, ss: &mut [f64], js: &mut [usize]) -> Kept
+    requires { ⌜ (n * n ≤ length (now g)) × (1 ≤ n) × (n ≤ mostRank) × (n ≤ length (now ss)) × (n ≤ length (now js)) ⌝ }
+    ensures { λ r. ⌜ chosenOf eps n (take (n * n) (now (g .entry))) ≡ staged (r .stage) (record { rank = r .rank; order = take n (now (js .exit)); values = take n (now (ss .exit)) }) ⌝ }
+{
+    let mut sv = [0.0; shape::MOST_RANK];
+    keep_within(g, n, eps, &mut sv, ss, js)
 }

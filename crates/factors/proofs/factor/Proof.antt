@@ -1,27 +1,27 @@
 -- `factors::factor` meets its contract. Assumes nothing.
+use native.Mathlib.Omega.{arith}
 use mathlib.Core.Path.{_∙_}
 use native.Mathlib.Nat.{mul-le-mul-left, mul-comm}
-use native.Mathlib.Omega.{arith}
-use borrow.Author.Needs.{needs}
 use Rattle.lists.proofs.Parts.{span-length}
-use Rattle.factors.proofs.Finished.{factor-front}
+use Rattle.factors.proofs.Finished.{factor-front, columns-front}
+use borrow.Author.Needs.{needs}
 use Rattle.factors.proofs.factor.Statement.{statement}
 use Rattle.factors.proofs.factor.Tie as tie
 
-mul-e : tie.Need-mul-e
-mul-e c = record { fits = omega (arith, mul-le-mul-left (c .before .before .before .before .before .before .before .args .rr) (c .before .before .before .before .before .before .before .pre .6)) }
+mul-m : tie.Need-mul-m
+mul-m c = record { fits = omega (arith, mul-le-mul-left (c .before .before .before .before .before .before .before .args .rr) (c .before .before .before .before .before .before .before .pre .6)) }
 
-part-left-and-carry-end : tie.Need-part-left-and-carry-end
-part-left-and-carry-end c = omega (arith, mul-le-mul-left (c .before .before .before .before .before .before .before .before .args .rr) (c .before .before .before .before .before .before .before .before .pre .6))
+part-left-and-carry-end-4 : tie.Need-part-left-and-carry-end-4
+part-left-and-carry-end-4 c = omega (arith, mul-le-mul-left (c .before .before .before .before .before .before .before .before .before .before .before .args .rr) (c .before .before .before .before .before .before .before .before .before .before .before .pre .6))
 
-part-left-and-carry-end-2 : tie.Need-part-left-and-carry-end-2
-part-left-and-carry-end-2 c = omega (arith, mul-le-mul-left (c .before .before .before .before .before .before .before .before .before .args .rr) (c .before .before .before .before .before .before .before .before .before .pre .6))
+part-left-and-carry-end-5 : tie.Need-part-left-and-carry-end-5
+part-left-and-carry-end-5 c = omega (arith, mul-le-mul-left (c .before .before .before .before .before .before .before .before .before .before .before .before .args .rr) (c .before .before .before .before .before .before .before .before .before .before .before .before .pre .6))
 
 left-and-carry-requires : tie.Need-left-and-carry-requires
-left-and-carry-requires c κs = (c .before .before .before .before .before .before .before .before .before .before .before .pre .0, c .before .before .before .before .before .before .before .before .before .before .before .pre .1, c .before .before .before .before .before .before .before .before .before .before .before .pre .2, c .before .before .before .before .before .before .before .before .before .before .before .pre .3, c .before .before .before .before .before .before .before .before .before .before .before .pre .4, c .before .before .before .before .before .before .before .before .before .before .before .pre .5, c .before .before .before .before .before .before .before .before .before .before .before .pre .6, span-length _ _ (omega (arith, mul-le-mul-left (c .before .before .before .before .before .before .before .before .before .before .before .args .rr) (c .before .before .before .before .before .before .before .before .before .before .before .pre .6))), span-length _ _ (omega (arith, mul-le-mul-left (c .before .before .before .before .before .before .before .before .before .before .before .args .rr) (c .before .before .before .before .before .before .before .before .before .before .before .pre .6))) ∙ mul-comm _ _, c .before .before .before .before .before .before .before .before .before .before .before .pre .9)
+left-and-carry-requires c κs = (c .before .before .before .before .before .before .before .before .before .before .before .before .before .before .pre .0, c .before .before .before .before .before .before .before .before .before .before .before .before .before .before .pre .1, span-length _ _ (c .before .before .before .before .before .before .before .before .before .before .before .before .before .before .pre .2), omega (arith, span-length (c .before .before .before .before .before .before .before .before .before .before .before .before .before .before .args .rr) (c .before .before .before .before .before .before .before .before .before .before .before .before .before .before .args .js .now) (c .before .before .before .before .before .before .before .before .before .before .before .before .before .before .pre .3)), columns-front _ _ _ (c .before .before .before .before .before .before .before .before .before .before .before .before .before .before .pre .4), omega (arith, span-length (c .before .before .before .before .before .before .before .before .before .before .before .before .before .before .args .rr) (c .before .before .before .before .before .before .before .before .before .before .before .before .before .before .args .ss .now) (c .before .before .before .before .before .before .before .before .before .before .before .before .before .before .pre .5)), c .before .before .before .before .before .before .before .before .before .before .before .before .before .before .pre .6, span-length _ _ (omega (arith, mul-le-mul-left (c .before .before .before .before .before .before .before .before .before .before .before .before .before .before .args .rr) (c .before .before .before .before .before .before .before .before .before .before .before .before .before .before .pre .6))), span-length _ _ (omega (arith, mul-le-mul-left (c .before .before .before .before .before .before .before .before .before .before .before .before .before .before .args .rr) (c .before .before .before .before .before .before .before .before .before .before .before .before .before .before .pre .6))) ∙ mul-comm _ _, c .before .before .before .before .before .before .before .before .before .before .before .before .before .before .pre .9)
 
 returns : tie.Need-returns
-returns c = factor-front _ _ _ _ _ (c .before .before .before .before .before .before .before .before .before .before .before .before .before .before .before .before .before .before .before .before .args .carry .now) (c .before .before .before .before .before .before .before .before .before .before .before .before .before .before .before .before .before .before .before .before .args .r) (c .before .before .before .before .before .before .before .before .before .before .before .before .before .before .before .before .before .before .before .before .args .rr) (c .before .before .before .before .before .before .before .before .left-and-carry .ensures) (c .before .before .before .carry .given .0) (omega (arith, mul-le-mul-left (c .before .before .before .before .before .before .before .before .before .before .before .before .before .before .before .before .before .before .before .before .args .rr) (c .before .before .before .before .before .before .before .before .before .before .before .before .before .before .before .before .before .before .before .before .pre .6)))
+returns c = factor-front _ _ _ _ _ (c .before .before .before .before .before .before .before .before .before .before .before .before .before .before .before .before .before .before .before .before .before .before .before .args .carry .now) (c .before .before .before .before .before .before .before .before .before .before .before .before .before .before .before .before .before .before .before .before .before .before .before .args .ss .now) (c .before .before .before .before .before .before .before .before .before .before .before .before .before .before .before .before .before .before .before .before .before .before .before .args .v .now) (c .before .before .before .before .before .before .before .before .before .before .before .before .before .before .before .before .before .before .before .before .before .before .before .args .js .now) (c .before .before .before .before .before .before .before .before .before .before .before .before .before .before .before .before .before .before .before .before .before .before .before .args .r) (c .before .before .before .before .before .before .before .before .before .before .before .before .before .before .before .before .before .before .before .before .before .before .before .args .rr) (c .before .before .before .before .before .before .before .before .left-and-carry .ensures) (c .before .before .before .carry .given .0) (omega (arith, mul-le-mul-left (c .before .before .before .before .before .before .before .before .before .before .before .before .before .before .before .before .before .before .before .before .before .before .before .args .rr) (c .before .before .before .before .before .before .before .before .before .before .before .before .before .before .before .before .before .before .before .before .before .before .before .pre .6)))
 
 pub factor-spec : {M : Type 1} → statement M
-factor-spec = tie.close (tie.spec mul-e (λ c. search needs) (λ c. search needs) part-left-and-carry-end (λ c. search needs) (λ c. search needs) part-left-and-carry-end-2 left-and-carry-requires (λ c. search needs) (λ c. search needs) (λ c. search needs) (λ c. search needs) returns)
+factor-spec = tie.close (tie.spec (λ c. search needs) mul-m (λ c. search needs) (λ c. search needs) (λ c. search needs) (λ c. search needs) (λ c. search needs) (λ c. search needs) (λ c. search needs) (λ c. search needs) (λ c. search needs) (λ c. search needs) (λ c. search needs) part-left-and-carry-end-4 (λ c. search needs) (λ c. search needs) part-left-and-carry-end-5 left-and-carry-requires (λ c. search needs) (λ c. search needs) (λ c. search needs) (λ c. search needs) returns)
