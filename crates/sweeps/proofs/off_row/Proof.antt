@@ -18,7 +18,7 @@ abbrev μ-loop : tie.MeasureT-loop
 
 loop-again : tie.Need-loop-again Inv-loop μ-loop
 unfolding offRow
-loop-again c = (search turns, search turns, from-more _ _ _ _ _ _ (c .before .before .loop .inv .2) (cc) (c .before .before .loop .inv .1))
+loop-again c = (search turns, search turns, from-more _ _ _ _ _ _ (c .before .before .loop .inv .2) (rw (c .number-at .ensures)) (c .before .before .loop .inv .1))
 
 pub off-row-spec : {M : Type 1} → statement M
 unfolding offRow

@@ -17,7 +17,7 @@ abbrev μ-loop : tie.MeasureT-loop
 
 loop-again : tie.Need-loop-again Inv-loop μ-loop
 unfolding stillRow
-loop-again c = (search turns, search turns, from-more _ _ _ _ _ _ (c .before .before .loop .inv .2) (cc) (c .before .before .loop .inv .1))
+loop-again c = (search turns, search turns, from-more _ _ _ _ _ _ (c .before .before .loop .inv .2) (rw (c .skipped .ensures)) (c .before .before .loop .inv .1))
 
 pub still-row-spec : {M : Type 1} → statement M
 unfolding stillRow

@@ -25,7 +25,7 @@ slice-write-js : tie.Need-slice-write-js Inv-loop μ-loop
 slice-write-js c = omega (arith, c .place-of .ensures, rank-lt _ _ (c .before .before .before .before .before .pre .0) (c .before .before .before .before .before .pre .2) _ (c .before .loop-test .taken))
 
 loop-again : tie.Need-loop-again Inv-loop μ-loop
-loop-again c = (search turns, search turns, rw add-one (cc))
+loop-again c = (search turns, search turns, rw (add-one, c .place-of .ensures, c .before .before .loop .inv .2))
 
 returns : tie.Need-returns Inv-loop μ-loop
 returns c = order-is _ _ (c .before .before .before .before .pre .0) (c .before .before .before .before .pre .2) _ _ _ (c .before .loop .inv .2) (c .before .loop .inv .0) (c .loop-test .left) (c .before .before .before .before .pre .1)

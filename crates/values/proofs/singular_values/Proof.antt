@@ -22,7 +22,7 @@ abbrev μ-loop : tie.MeasureT-loop
 
 loop-again : tie.Need-loop-again Inv-loop μ-loop
 unfolding singulars
-loop-again c = (search turns, search turns, rw add-one (cc))
+loop-again c = (search turns, search turns, rw (add-one, c .singular .ensures, c .before .before .before .loop .inv .2))
 
 returns : tie.Need-returns Inv-loop μ-loop
 unfolding singulars

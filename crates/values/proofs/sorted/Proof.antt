@@ -26,7 +26,7 @@ shared-slice-read-ss : tie.Need-shared-slice-read-ss Inv-loop μ-loop
 shared-slice-read-ss c = omega (arith, order-lt _ _ (c .before .before .before .before .pre .0) (c .before .before .before .before .pre .3) _ (c .before .before .before .before .pre .4) _ (c .before .before .loop-test .taken))
 
 loop-again : tie.Need-loop-again Inv-loop μ-loop
-loop-again c = (search turns, search turns, rw add-one (cc))
+loop-again c = (search turns, search turns, rw (add-one, c .before .before .before .loop .inv .2))
 
 returns : tie.Need-returns Inv-loop μ-loop
 returns c = sorted-is _ _ (c .before .before .pre .0) (c .before .before .pre .3) _ (c .before .before .pre .4) _ _ _ (c .before .loop .inv .2) (c .before .loop .inv .0) (c .loop-test .left) (c .before .before .pre .2)
