@@ -14,7 +14,7 @@ use Rattle.shape.specs.Cores.{place, entry, block, coreAt, coresOf, pointsAt, r
 use Rattle.shape.specs.Shapes.{sizeOk, bondOk, shapeOk, coreSize, pointSize}
 use Rattle.axes.specs.Axes.{axisFinite, axisOk}
 use Rattle.shift.specs.Shifts.{distance, spacing, shiftOf, shifted, scaled}
-use Rattle.shift.specs.Weights.{cubicBandWeights, bandOn, shiftedAt}
+use Rattle.bands.specs.Weights.{cubicBandWeights, bandOn, shiftedAt}
 use Rattle.bond.specs.Bonds.{gram, cutBond, absorb}
 use Rattle.factors.specs.Factors.{divided, leftFactor, carryOf}
 use Rattle.rotation.specs.Rotation.{tangentOf, slopeOf, cosineOf, turnedAt, eye}

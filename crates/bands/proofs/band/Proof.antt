@@ -1,12 +1,12 @@
--- `shift::band` meets its contract. Assumes nothing.
+-- `bands::band` meets its contract. Assumes nothing.
 use Prim.Native.Nat.{_≤_, _-_}
 use mathlib.Core.Path.{_≡_}
 use Rattle.lists.specs.Floats.{sumOn}
 use Rattle.lists.proofs.Turns.{turns}
-use Rattle.shift.specs.Doubled.{bandIn}
-use Rattle.shift.proofs.Around.{rooms}
-use Rattle.shift.proofs.band.Statement.{statement}
-use Rattle.shift.proofs.band.Tie as tie
+use Rattle.bands.specs.Starts.{bandIn}
+use Rattle.bands.proofs.Starts.{rooms}
+use Rattle.bands.proofs.band.Statement.{statement}
+use Rattle.bands.proofs.band.Tie as tie
 
 abbrev Inv-loop : tie.InvT-loop
 Inv-loop acc t j weights starts x₀ m₀ x m = (m ≤ 4) × (x ≡ bandIn acc t j weights starts m)

@@ -1,8 +1,8 @@
--- `shift::entry_at` meets its contract. Assumes nothing.
+-- `bands::entry_at` meets its contract. Assumes nothing.
 use borrow.Author.Needs.{needs}
-use Rattle.shift.specs.Doubled.{entryIn}
-use Rattle.shift.proofs.entry_at.Statement.{statement}
-use Rattle.shift.proofs.entry_at.Tie as tie
+use Rattle.bands.specs.Starts.{entryIn}
+use Rattle.bands.proofs.entry_at.Statement.{statement}
+use Rattle.bands.proofs.entry_at.Tie as tie
 
 pub entry-at-spec : {M : Type 1} → statement M
 unfolding entryIn
