@@ -23,7 +23,8 @@ use Rattle.values.specs.Values.{singularOf, singulars, rankIn, indexAt, order, 
 use Rattle.rounding.specs.Call.{lengthsOk, coreFinite, notBelowZero, roundFinite, roundOk, scratchAfter, endedBy, roundCall}
 use Rattle.rounding.specs.Rounding.{roundCore, rounding}
 use Rattle.product.specs.Call.{innerLent, innerFinite, innerOk, weighed, innerCall}
-use Rattle.product.specs.Product.{contract, contractAt, sumAxis, sums, inner}
+use Rattle.contraction.specs.Contract.{contract}
+use Rattle.product.specs.Product.{contractAt, sumAxis, sums, inner}
 use Rattle.stepping.specs.Call.{reachesAt, stepOk, stepCall}
 use Rattle.stepping.specs.Steps.{shiftZone, scaleZone, roundZone, stepFrom, step}
 use Rattle.stepping.specs.Zones.{zonesOf, rules}

@@ -10,8 +10,6 @@ ghost use Rattle.shape.specs.Sizes.{PointsWithin, SizesWithin};
 ghost use Rattle.product.specs.Call.{innerLent, innerFinite, innerOk, weighed, figureBy, innerCall, startSized, startLent, startFinite, startOk, rankOne, startCall};
 ghost use Rattle.product.specs.Product.{inner};
 
-pub mod contraction;
-
 // The figure, +0 where it is refused.
 pub struct Figure {
     pub verdict: answers::Verdict,

@@ -18,7 +18,8 @@ use Rattle.sweeps.specs.Sweeps.{offSum, settled, sweepsFrom, diagonalized}
 use Rattle.values.specs.Values.{singularOf, singulars, rankIn, indexAt, order, sorted, thresholdOf, keptRank}
 use Rattle.rounding.specs.Call.{coreFinite, notBelowZero, scratchAfter}
 use Rattle.rounding.specs.Rounding.{roundCore}
-use Rattle.product.specs.Product.{contract, contractAt}
+use Rattle.contraction.specs.Contract.{contract}
+use Rattle.product.specs.Product.{contractAt}
 use Rattle.stepping.specs.Call.{reachesAt}
 use Rattle.stepping.specs.Steps.{shiftZone, scaleZone, roundZone, stepFrom}
 use Rattle.stepping.specs.Zones.{rules}

@@ -20,7 +20,8 @@ use Rattle.shift.specs.Shifts.{shiftOf, shifted, moveCore, scaled}
 use Rattle.bond.specs.Bonds.{Bond, cutBond, absorb}
 use Rattle.bond.proofs.Made.{CutFrom, cut-from}
 use Rattle.rounding.specs.Rounding.{Carry, none, some, Cut, takenIn, cutIf, roundCore}
-use Rattle.product.specs.Product.{contract, contractAt}
+use Rattle.contraction.specs.Contract.{contract}
+use Rattle.product.specs.Product.{contractAt}
 use Rattle.stepping.specs.Zones.{rules}
 use Rattle.runs.proofs.Sound.{Carried, Sound, volume, rankOn, CutOf, Sized}
 

@@ -1,4 +1,4 @@
--- `product::contraction::add_weighed` meets its contract. Assumes nothing.
+-- `contraction::add_weighed` meets its contract. Assumes nothing.
 use Prim.Native.Nat.{ℕ, _+_, _-_, _≤_}
 use mathlib.Core.Path.{_≡_}
 use lib.ListN.{length}
@@ -6,8 +6,8 @@ use Rattle.numbers.specs.Arithmetic.{times}
 use Rattle.lists.specs.Floats.{at}
 use Rattle.lists.specs.Strips.{addedIn}
 use Rattle.lists.proofs.Turns.{turns}
-use Rattle.product.proofs.contraction.add_weighed.Statement.{statement}
-use Rattle.product.proofs.contraction.add_weighed.Tie as tie
+use Rattle.contraction.proofs.add_weighed.Statement.{statement}
+use Rattle.contraction.proofs.add_weighed.Tie as tie
 
 abbrev Inv-loop : tie.InvT-loop
 Inv-loop sums₀ h x core p y t₀ sums t = (t ≤ h) × (length sums ≡ length sums₀) × (sums ≡ addedIn t (λ (k : ℕ). times (times x (at core (p + k))) y) sums₀)

@@ -1,14 +1,14 @@
--- `product::contraction::contract_step` meets its contract. Assumes nothing.
+-- `contraction::contract_step` meets its contract. Assumes nothing.
 use Prim.Native.Nat.{_-_, _≤_}
 use mathlib.Core.Path.{_≡_}
 use native.Mathlib.Omega.{arith}
 use lib.ListN.{length}
 use Rattle.lists.proofs.Turns.{turns}
 use Rattle.lists.proofs.Strips.{rowTo, front-more, row-on}
-use Rattle.product.specs.Loops.{newSum}
-use Rattle.product.proofs.Strips.{contract-end}
-use Rattle.product.proofs.contraction.contract_step.Statement.{statement}
-use Rattle.product.proofs.contraction.contract_step.Tie as tie
+use Rattle.contraction.specs.Loops.{newSum}
+use Rattle.contraction.proofs.Strips.{contract-end}
+use Rattle.contraction.proofs.contract_step.Statement.{statement}
+use Rattle.contraction.proofs.contract_step.Tie as tie
 
 abbrev Inv-loop : tie.InvT-loop
 Inv-loop core rr f eta out₀ j₀ out j = (j₀ ≤ j) × (j ≤ rr) × (length out ≡ length out₀) × (out ≡ rowTo 0 (newSum core rr f eta) j₀ j out₀)

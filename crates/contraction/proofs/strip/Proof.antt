@@ -1,11 +1,11 @@
--- `product::contraction::strip` meets its contract. Assumes nothing.
+-- `contraction::strip` meets its contract. Assumes nothing.
 use Prim.Native.Nat.{_*_, _-_, _≤_}
 use mathlib.Core.Path.{_≡_}
 use lib.ListN.{length}
 use Rattle.lists.proofs.Turns.{turns}
-use Rattle.product.proofs.Strips.{blocks, sumsTo, strip-end}
-use Rattle.product.proofs.contraction.strip.Statement.{statement}
-use Rattle.product.proofs.contraction.strip.Tie as tie
+use Rattle.contraction.proofs.Strips.{blocks, sumsTo, strip-end}
+use Rattle.contraction.proofs.strip.Statement.{statement}
+use Rattle.contraction.proofs.strip.Tie as tie
 
 abbrev Inv-loop : tie.InvT-loop
 Inv-loop core rr f eta j h out sums₀ width a₀ sums a = (a ≤ length eta) × (width ≡ length f * rr) × (sums ≡ sumsTo h core rr f eta j a sums₀)

@@ -20,8 +20,8 @@ use Rattle.lists.proofs.Tables.{iter-keeps, listed-same, length-tab}
 use Rattle.lists.proofs.Stages.{stored-staged}
 use Rattle.lists.proofs.Strips.{added-length, added-at, stored-same, stored-tab, rowTo, row-whole}
 use Rattle.shape.specs.Cores.{coreWith, place, entry}
-use Rattle.product.specs.Product.{contract}
-use Rattle.product.specs.Loops.{pointsIn, newSum}
+use Rattle.contraction.specs.Contract.{contract}
+use Rattle.contraction.specs.Loops.{pointsIn, newSum}
 
 -- ---- indices
 -- h numbers of point i of n, whose rows are r wide, from p on

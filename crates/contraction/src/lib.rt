@@ -10,8 +10,8 @@ ghost use Rattle.lists.specs.Floats.{at, stored};
 ghost use Rattle.lists.specs.Strips.{stripWidth, addedIn, storedFrom};
 ghost use Rattle.shape.specs.Limits.{mostRank};
 ghost use Rattle.shape.specs.Cores.{coreWith};
-ghost use Rattle.product.specs.Product.{contract};
-ghost use Rattle.product.specs.Loops.{pointsIn, newSum};
+ghost use Rattle.contraction.specs.Contract.{contract};
+ghost use Rattle.contraction.specs.Loops.{pointsIn, newSum};
 
 // The widest strip.
 const STRIP: usize = 8;

@@ -1,12 +1,12 @@
--- `product::contraction::add_points` meets its contract. Assumes nothing.
+-- `contraction::add_points` meets its contract. Assumes nothing.
 use Prim.Native.Nat.{_-_, _≤_}
 use mathlib.Core.Path.{_≡_}
 use lib.ListN.{length}
 use Rattle.lists.proofs.Turns.{turns}
-use Rattle.product.specs.Loops.{pointsIn}
-use Rattle.product.proofs.Strips.{points}
-use Rattle.product.proofs.contraction.add_points.Statement.{statement}
-use Rattle.product.proofs.contraction.add_points.Tie as tie
+use Rattle.contraction.specs.Loops.{pointsIn}
+use Rattle.contraction.proofs.Strips.{points}
+use Rattle.contraction.proofs.add_points.Statement.{statement}
+use Rattle.contraction.proofs.add_points.Tie as tie
 
 abbrev Inv-loop : tie.InvT-loop
 Inv-loop sums₀ h x core p rr f i₀ sums i = (i ≤ length f) × (sums ≡ pointsIn h x core p rr f i sums₀)
