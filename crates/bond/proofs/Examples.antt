@@ -15,7 +15,7 @@ use Rattle.shape.specs.Cores.{Core, coreWith, place, entry, block}
 use Rattle.rotation.specs.Rotation.{tangentOf, slopeOf, cosineOf, turnedAt, eye}
 use Rattle.sweeps.specs.Sweeps.{turnColumns, turnRows, cleared, turned, skipped, rotate, sweep, offSum, settled, sweepsFrom, diagonalized}
 use Rattle.values.specs.Values.{singularOf, singulars, rankIn, indexAt, order, sorted, thresholdOf, keptRank}
-use Rattle.bond.specs.Bonds.{gram, Bond, cutBond, absorb}
+use Rattle.bond.specs.Bonds.{gram, Bond, cutBond}
 use Rattle.factors.specs.Factors.{divided, leftFactor, carryOf}
 
 -- what a bond came to, each float by its bits

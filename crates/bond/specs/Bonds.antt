@@ -1,9 +1,9 @@
--- One bond: the Gram matrix of its left core, the cut, the left factor, the carry, and the carry absorbed (000: `tt_round`). Definitions only.
+-- One bond: the Gram matrix of its left core, the cut, and a carry absorbed (000: `tt_round`). Definitions only.
 use Prim.Native.Nat.{ℕ}
 use mathlib.Core.Bool.{Bool}
 use mathlib.Core.List.{List}
 use lib.Ieee.{Float}
-use Rattle.numbers.specs.Arithmetic.{times, over}
+use Rattle.numbers.specs.Arithmetic.{times}
 use Rattle.answers.specs.declared.Part.the-variants.{Spectrum, Factor}
 use Rattle.answers.specs.Outcome.{Answer, done, bind, making}
 use Rattle.lists.specs.Lists.{grid}

@@ -1,6 +1,6 @@
 // The separable start and the inner product with the zones' weights.
 ghost use mathlib.Core.Path.{_≡_};
-ghost use Prim.Native.Nat.{ℕ, _≤_};
+ghost use Prim.Native.Nat.{_≤_};
 ghost use lib.ListN.{length};
 ghost use Rattle.answers.specs.Outcome.{done, verdictOf};
 ghost use Rattle.answers.specs.declared.Verdict.the-variants.{Fits, Refused};

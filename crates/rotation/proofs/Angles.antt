@@ -10,7 +10,7 @@ use lib.Ieee.{Float, nan, le}
 use Rattle.numbers.specs.Arithmetic.{plus, minus, times, over, zero64, one64}
 use Rattle.numbers.specs.Root.{rootOf}
 use Rattle.lists.specs.Lists.{iter, pick}
-use Rattle.lists.specs.Floats.{at, stored}
+use Rattle.lists.specs.Floats.{at}
 use Rattle.lists.proofs.Altered.{altered, altered-length, altered-other, altered-at}
 use Rattle.lists.proofs.Cells.{cell-lt, cell-row, cell-column}
 use Rattle.lists.proofs.Tables.{grid-is}

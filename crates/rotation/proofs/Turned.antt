@@ -1,8 +1,8 @@
 -- Pairs that are turned one after another at places that are all apart: each number by itself, then columns and rows. Assumes nothing.
-use mathlib.Core.Path.{_≡_, refl, sym, ap, _∙_, subst}
+use mathlib.Core.Path.{_≡_, refl, sym, _∙_}
 use mathlib.Core.Logic.{⊎-elim}
 use Prim.Native.Nat.{ℕ, zero, suc, _+_, _*_, _<_, _≤_}
-use native.Mathlib.Nat.{not-suc-le-zero, le-of-suc-le-suc, le-of-lt, le-of-eq, le-refl, eq-or-lt-of-le, mul-one, add-comm}
+use native.Mathlib.Nat.{not-suc-le-zero, le-of-suc-le-suc, le-of-eq, le-refl, eq-or-lt-of-le}
 use native.Mathlib.Omega.{arith}
 use mathlib.Core.Bool.{Bool, true, false}
 use mathlib.Core.List.{List}
@@ -15,7 +15,7 @@ use Rattle.lists.specs.Lists.{iter, grid, pick}
 use Rattle.lists.specs.Floats.{at, cell}
 use Rattle.lists.proofs.Cells.{cell-lt, cell-row, cell-column}
 use Rattle.lists.proofs.Tables.{iter-keeps, grid-is}
-use Rattle.lists.proofs.Tests.{eqb-yes, eqb-no, eqb-is, eqb-not}
+use Rattle.lists.proofs.Tests.{eqb-is, eqb-not}
 use Rattle.rotation.specs.Rotation.{turnedAt}
 use Rattle.rotation.specs.Pairs.{turnPair, turnPairs}
 

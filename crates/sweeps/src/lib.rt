@@ -1,7 +1,7 @@
 // Jacobi sweeps over a Gram matrix and its basis, both n rows of n, with their count.
 ghost use mathlib.Core.Path.{_≡_};
-ghost use mathlib.Core.Bool.{Bool, true, _&&_};
-ghost use Prim.Native.Nat.{ℕ, _+_, _*_, _<_, _≤_};
+ghost use mathlib.Core.Bool.{true};
+ghost use Prim.Native.Nat.{_+_, _*_, _<_};
 ghost use lib.ListN.{length, set};
 ghost use Rattle.answers.specs.Outcome.{staged};
 ghost use Rattle.lists.specs.Floats.{cell};

@@ -4,7 +4,7 @@ use mathlib.Core.Logic.{_⊎_, inl, inr, ⊎-elim}
 use Prim.Native.Nat.{ℕ, _+_, _≤_, _<_, max}
 use native.Mathlib.Omega.{arith}
 use native.Mathlib.Nat.{le-of-lt, le-refl}
-use mathlib.Core.Bool.{Bool, true, false, _&&_, _||_, true≢false}
+use mathlib.Core.Bool.{Bool, true, false, _&&_, _||_}
 use mathlib.Core.List.{List}
 use lib.Dec.{ltb}
 use lib.ListN.{length, getD, set}
@@ -19,7 +19,7 @@ use Rattle.lists.proofs.Order.{lt-or-eq, eq-swap, lt-not-eq, lt-not-self, lt-th
 use Rattle.lists.proofs.Ranks.{Strict, rank, rank-rises, rank-within, rank-apart, place-found, place-is, place-only}
 use Rattle.lists.proofs.Tables.{length-tab, getD-tab, tab-is, listed-same, fill-all}
 use Rattle.lists.proofs.Turns.{iter-done}
-use Rattle.lists.proofs.Tests.{ltb-yes, ltb-is, ltb-no, both, and-yes, fails, below-or-not}
+use Rattle.lists.proofs.Tests.{ltb-yes, ltb-is, both, fails, below-or-not}
 use Rattle.values.specs.Values.{rankIn, indexAt, order, sorted, thresholdOf, keptRank}
 
 module _ (n : ℕ) (sv : List Float) (long : length sv ≡ n) (fine : allFinite sv ≡ true) where

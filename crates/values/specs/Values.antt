@@ -2,7 +2,6 @@
 use Prim.Native.Nat.{ℕ, _+_, max}
 use mathlib.Core.List.{List}
 use lib.Dec.{eqb}
-use lib.ListN.{getD}
 use lib.Ieee.{Float, lt, eq}
 use Rattle.numbers.specs.Arithmetic.{times, zero64}
 use Rattle.numbers.specs.Root.{rootOf}
