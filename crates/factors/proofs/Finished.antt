@@ -150,6 +150,13 @@ factor-front c s left q rest carry ss v js r rr e l b =
     ∙ ap (λ (x : ℕ). factorsOf c r (take (rr - 0) ss) (take (rr - 0) js) (take x v)) (sym (sub-zero (rr * rr)))
     ∙ e ∙ ap (λ (x : List Float). staged s (record { left = left; carry = x })) (sym (part-again (r * rr) q rest (l ∙ span-length (rr * r) carry b ∙ mul-comm rr r)))
 
+pub span-some : {A : Type 0} (n : ℕ) (l : List A) → n ≤ length l → (k : ℕ) → k ≤ n → k ≤ length (take (n - 0) l)
+span-some n l h k g = let z = span-length n l h in omega arith
+
+-- r columns of n find room where n do
+pub columns-room : (n r l : ℕ) → r ≤ n → n * n ≤ l → n * r ≤ l
+columns-room n r l h p = omega (arith, mul-le-mul-left n h)
+
 -- the number of rows is at most all
 pub rows-most : (m rr l : ℕ) → l ≡ m * rr → 1 ≤ rr → m ≤ l
 rows-most m rr l e c = omega (arith, mul-le-mul-left m c)
