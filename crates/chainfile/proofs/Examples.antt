@@ -16,11 +16,11 @@ use Rattle.lists.specs.Floats.{allFinite}
 use Rattle.shape.specs.declared.Shape.{Shape}
 use Rattle.shape.specs.Shapes.{shapeOk, sizeOk, bondOk, coreSize}
 use Rattle.chainfile.specs.declared.Read.{Read}
-use Rattle.chainfile.specs.Bytes.{bytesOf, numberAt}
+use Rattle.words.specs.Bytes.{bytesOf, numberAt, numbersFrom}
 use Rattle.chainfile.specs.File.{fileOf, header, tableEntry, bodyStart, fileLength}
 use Rattle.chainfile.specs.Calls.{Exit, numbersOk}
 use Rattle.chainfile.specs.Writing.{writeCall, writeExit, writing}
-use Rattle.chainfile.specs.Reading.{readCall, readExit, reading, readContents, readHeader, readTable, shapeWith, shapeIn, entryOk, lengthsOk, numbersFrom, readNumbers, trimmed}
+use Rattle.chainfile.specs.Reading.{readCall, readExit, reading, readContents, readHeader, readTable, shapeWith, shapeIn, entryOk, lengthsOk, readNumbers, trimmed}
 
 -- ---- the two calls, with so much room lent
 writes : Shape → List Float → ℕ → Exit Verdict ℕ

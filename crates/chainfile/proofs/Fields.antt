@@ -17,11 +17,11 @@ use Rattle.lists.specs.Floats.{at, allFinite}
 use Rattle.lists.proofs.Tables.{listed-same}
 use Rattle.shape.specs.declared.Shape.{Shape}
 use Rattle.shape.specs.Shapes.{leftOf, pointsOf, rightOf, coreSize, entriesOf}
-use Rattle.chainfile.specs.Bytes.{bytesOf, numberAt, u16, f64, u16At, u32At, f64At}
+use Rattle.words.specs.Bytes.{bytesOf, numberAt, u16, f64, u16At, u32At, f64At}
 use Rattle.chainfile.specs.File.{entryStart, bodyStart, fileLength, mark, header, tableEntry, fileOf}
 use Rattle.chainfile.specs.Calls.{numbersOk}
-use Rattle.chainfile.proofs.Cuts.{cut, cut-all, cut-cut, cut-add, cut-first, cut-second, parts-length, part-at, cut-parts}
-use Rattle.chainfile.proofs.Bytes.{AreBytes, AreDoubles, bytes-length, append-bytes, joined-bytes, number-bytes, reads, written, f64-reads, f64-written}
+use Rattle.words.proofs.Cuts.{cut, cut-all, cut-cut, cut-add, cut-first, cut-second, parts-length, part-at, cut-parts}
+use Rattle.words.proofs.Bytes.{AreBytes, AreDoubles, bytes-length, append-bytes, joined-bytes, number-bytes, reads, written, f64-reads, f64-written}
 use Rattle.chainfile.proofs.Shapes.{Meets, axes-most, left-most, points-most, right-most, offset-most, Alike, alike-core, alike-offset, alike-entries}
 
 -- the fields of these bytes are those of this chain

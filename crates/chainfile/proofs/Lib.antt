@@ -1,10 +1,8 @@
 -- parts of a list, slots, turns that check, shapes
-pub mod Cuts
 pub mod Slots
 pub mod Turning
 pub mod Shapes
 -- numbers in bytes, the file field by field, what writing and reading accept
-pub mod Bytes
 pub mod Fields
 pub mod Writers
 pub mod Readers

@@ -26,14 +26,14 @@ use Rattle.shape.specs.declared.Shape.{Shape}
 use Rattle.shape.specs.Limits.{mostAxes, within}
 use Rattle.shape.specs.Shapes.{leftOf, pointsOf, rightOf, sizeOk, chainOk, entriesOf}
 use Rattle.chainfile.specs.declared.Read.{Read}
-use Rattle.chainfile.specs.Bytes.{numberAt, u16At, u32At, f64At}
+use Rattle.words.specs.Bytes.{numberAt, u16At, u32At, f64At, numbersFrom}
 use Rattle.chainfile.specs.File.{entryStart, bodyStart, fileLength, mark}
 use Rattle.chainfile.specs.Calls.{Exit, numbersOk}
-use Rattle.chainfile.specs.Reading.{readHeader, shapeWith, trimmed, shapeIn, entryOk, readTable, readContents, lengthsOk, numbersFrom, readNumbers, Chain, reading, readExit, readCall}
+use Rattle.chainfile.specs.Reading.{readHeader, shapeWith, trimmed, shapeIn, entryOk, readTable, readContents, lengthsOk, readNumbers, Chain, reading, readExit, readCall}
 use Rattle.chainfile.proofs.Slots.{fit-at}
 use Rattle.chainfile.proofs.Turning.{turning-yes, turning-is}
 use Rattle.chainfile.proofs.Shapes.{Meets, Alike, meets-ok, ok-meets, alike-size, alike-meets, alike-entries, axes-most}
-use Rattle.chainfile.proofs.Bytes.{AreDoubles}
+use Rattle.words.proofs.Bytes.{AreDoubles}
 use Rattle.chainfile.proofs.Writers.{Sound}
 use Rattle.chainfile.proofs.Fields.{Holds, alike-body, alike-length, alike-numbers}
 

@@ -19,12 +19,12 @@ use Rattle.lists.proofs.Slots.{offset-suc, offset-mono, fit-used}
 use Rattle.shape.specs.declared.Shape.{Shape}
 use Rattle.shape.specs.Shapes.{coreSize, entriesOf}
 use Rattle.chainfile.specs.declared.Read.{Read}
-use Rattle.chainfile.specs.Bytes.{f64At}
+use Rattle.words.specs.Bytes.{f64At}
 use Rattle.chainfile.specs.File.{bodyStart, fileOf}
 use Rattle.chainfile.specs.Calls.{Exit}
 use Rattle.chainfile.specs.Writing.{writing, writeExit, writeCall}
 use Rattle.chainfile.specs.Reading.{Chain, trimmed, reading, noShape, readExit, readCall}
-use Rattle.chainfile.proofs.Bytes.{AreBytes, AreDoubles}
+use Rattle.words.proofs.Bytes.{AreBytes, AreDoubles}
 use Rattle.chainfile.proofs.Fields.{file-bytes, file-holds, holds-file}
 use Rattle.chainfile.proofs.Readers.{Accepted, reading-yes, reading-is, read-fits}
 use Rattle.chainfile.proofs.Writers.{sound-finite, writing-yes, write-fits}

@@ -7,7 +7,7 @@ use Rattle.lists.specs.Slots.{offset}
 use Rattle.lists.specs.Floats.{at}
 use Rattle.shape.specs.declared.Shape.{Shape}
 use Rattle.shape.specs.Shapes.{leftOf, pointsOf, rightOf, coreSize, entriesOf}
-use Rattle.chainfile.specs.Bytes.{u16, u32, f64}
+use Rattle.words.specs.Bytes.{u16, u32, f64}
 
 -- ---- where things stand
 -- entry k of the table

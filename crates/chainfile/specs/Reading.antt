@@ -16,7 +16,7 @@ use Rattle.shape.specs.declared.Shape.{Shape}
 use Rattle.shape.specs.Limits.{mostAxes, within}
 use Rattle.shape.specs.Shapes.{leftOf, pointsOf, rightOf, sizeOk, chainOk, entriesOf}
 use Rattle.chainfile.specs.declared.Read.{Read}
-use Rattle.chainfile.specs.Bytes.{u16At, u32At, f64At}
+use Rattle.words.specs.Bytes.{u16At, u32At, numbersFrom}
 use Rattle.chainfile.specs.File.{entryStart, bodyStart, fileLength, mark}
 use Rattle.chainfile.specs.Calls.{Exit, numbersOk}
 
@@ -70,10 +70,6 @@ lengthsOk s bytes out =
     then demand (leb (entriesOf s) (length out)) (Length 1)
 
 -- ---- the numbers
--- m numbers from byte p on
-unfoldable pub numbersFrom : List ℕ → ℕ → ℕ → List Float
-numbersFrom bytes p m = tab m (λ (i : ℕ). f64At bytes (p + 8 * i))
-
 unfoldable pub readNumbers : List ℕ → Shape → Answer (List Float)
 readNumbers bytes s =
     let chain = numbersFrom bytes (entryStart (s .d)) (entriesOf s) in

@@ -2,19 +2,21 @@
 use mathlib.Core.Path.{_≡_, refl, sym, ap, _∙_}
 use Prim.Native.Nat.{ℕ, zero, suc, _+_, _*_, _/_, _%_, _^_, _≤_, _<_, zero-le, suc-le-suc}
 use native.Mathlib.Nat.{not-suc-le-zero, le-of-suc-le-suc}
+use native.Mathlib.Numerals.{add-one}
 use native.Mathlib.Omega.{arith}
-use mathlib.Core.Bool.{true, not, true≢false}
+use mathlib.Core.Bool.{true}
 use mathlib.Core.List.{List, [], _∷_, _++_}
 use lib.Dec.{T}
 use lib.ListN.{length, getD, take, drop, length-take, length-drop}
 use lib.Seq.{drop-cons}
-use lib.Ieee.{Float, nan, inf, fin, binary64, fits, isNan, toBits, ofBits}
+use lib.Ieee.{Float, binary64, fits, toBits, ofBits}
 use lib.Ieee.Bits.{ofBits-toBits, toBits-lt, toBits-ofBits}
 use Rattle.numbers.specs.Finite.{finite}
 use Rattle.lists.specs.Lists.{listed, flat}
 use Rattle.lists.specs.Floats.{at}
-use Rattle.chainfile.specs.Bytes.{bytesOf, numberAt, f64, f64At}
-use Rattle.chainfile.proofs.Cuts.{cut}
+use Rattle.words.specs.Bytes.{bytesOf, numberAt, f64, u16At, u32At, f64At}
+use Rattle.words.proofs.Cuts.{cut}
+use Rattle.words.proofs.Finite.{finite-known}
 
 -- each is a byte
 abbrev pub AreBytes : List ℕ → Type 0
@@ -83,11 +85,33 @@ module _ (l : List ℕ) (bytes : AreBytes l) where
 pub f64-reads : (x : Float) (p : ℕ) (l : List ℕ) → T (fits binary64 x) → cut p 8 l ≡ f64 x → f64At l p ≡ x
 f64-reads x p l fit e = ap (ofBits binary64) (reads 8 (toBits binary64 x) p l e (toBits-lt binary64 x fit)) ∙ ofBits-toBits binary64 x fit
 
-no-nan : (x : Float) → finite x ≡ true → T (not (isNan x))
-unfolding isNan
-no-nan nan e = true≢false (sym e)
-no-nan (inf s) e = tt
-no-nan (fin s m e) h = tt
-
 pub f64-written : (l : List ℕ) → AreBytes l → (p : ℕ) → p + 8 ≤ length l → finite (f64At l p) ≡ true → f64 (f64At l p) ≡ cut p 8 l
-f64-written l bytes p le e = ap (bytesOf 8) (toBits-ofBits binary64 (numberAt 8 l p) (number-lt l bytes 8 p le) (no-nan (f64At l p) e)) ∙ written l bytes 8 p le
+f64-written l bytes p le e = ap (bytesOf 8) (toBits-ofBits binary64 (numberAt 8 l p) (number-lt l bytes 8 p le) (finite-known (f64At l p) e)) ∙ written l bytes 8 p le
+
+-- ---- what code reads and makes: two bytes, four, eight, and the numbers of a loop
+module _ (l : List ℕ) (p : ℕ) where
+  pub two-at : (a b : ℕ) → (a ≡ getD l p 0) × (a < 256) → (b ≡ getD l (p + 1) 0) × (b < 256) → (a + 256 * b ≡ u16At l p) × (a + 256 * b < 65536)
+  unfolding numberAt
+  two-at a b h g = let e : b ≡ getD l (suc p) 0 = rw add-one at (g .0) in (omega arith, omega arith)
+
+  pub four-at : (a b : ℕ) → (a ≡ u16At l p) × (a < 65536) → (b ≡ u16At l (p + 2)) × (b < 65536) → (a + 65536 * b ≡ u32At l p) × (a + 65536 * b < 4294967296)
+  unfolding numberAt
+  four-at a b h g = let s : p + 2 ≡ suc (suc p) = omega arith in let e = rw s at (g .0) in (omega arith, omega arith)
+
+  pub eight-at : (a b : ℕ) → (a ≡ u32At l p) × (a < 4294967296) → (b ≡ u32At l (p + 4)) × (b < 4294967296) → a + 4294967296 * b ≡ numberAt 8 l p
+  unfolding numberAt
+  eight-at a b h g = let s : p + 4 ≡ suc (suc (suc (suc p))) = omega arith in let e = rw s at (g .0) in omega arith
+
+module _ (x a b : ℕ) (e : a ≡ x % 256) (f : b ≡ x / 256 % 256) where
+  pub two-bytes : a ∷ b ∷ [] ≡ bytesOf 2 x
+  unfolding bytesOf
+  two-bytes = rw (e, f)
+
+  pub four-bytes : (c d : ℕ) → c ≡ x / 256 / 256 % 256 → d ≡ x / 256 / 256 / 256 % 256 → a ∷ b ∷ c ∷ d ∷ [] ≡ bytesOf 4 x
+  unfolding bytesOf
+  four-bytes c d g h = rw (e, f, g, h)
+
+pub eight-bytes : (x : ℕ) (l h : List ℕ) → l ≡ bytesOf 4 x → h ≡ bytesOf 4 (x / 4294967296)
+    → getD l 0 0 ∷ getD l 1 0 ∷ getD l 2 0 ∷ getD l 3 0 ∷ getD h 0 0 ∷ getD h 1 0 ∷ getD h 2 0 ∷ getD h 3 0 ∷ [] ≡ bytesOf 8 x
+unfolding bytesOf
+eight-bytes x l h e f = let d : x / 4294967296 ≡ x / 256 / 256 / 256 / 256 = omega arith in rw (e, f, d)

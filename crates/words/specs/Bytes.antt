@@ -1,8 +1,10 @@
 -- Whole numbers and f64s in bytes, little-endian, both ways. A byte is a number below 256. Definitions only.
 use Prim.Native.Nat.{ℕ, zero, suc, _+_, _*_, _/_, _%_}
 use mathlib.Core.List.{List, [], _∷_}
-use lib.ListN.{getD}
+use lib.ListN.{length, getD}
 use lib.Ieee.{Float, binary64, toBits, ofBits}
+use Rattle.lists.specs.Lists.{tab, joined}
+use Rattle.lists.specs.Floats.{at}
 
 -- the w bytes of x, lowest first
 unfoldable pub bytesOf : ℕ → ℕ → List ℕ
@@ -32,3 +34,11 @@ u32At bytes p = numberAt 4 bytes p
 
 abbrev pub f64At : List ℕ → ℕ → Float
 f64At bytes p = ofBits binary64 (numberAt 8 bytes p)
+
+-- m numbers from byte p on
+unfoldable pub numbersFrom : List ℕ → ℕ → ℕ → List Float
+numbersFrom bytes p m = tab m (λ (i : ℕ). f64At bytes (p + 8 * i))
+
+-- the bytes of each number, in order, no gaps
+unfoldable pub bytesOfAll : List Float → List ℕ
+bytesOfAll l = joined (length l) (λ (i : ℕ). f64 (at l i))
