@@ -19,16 +19,16 @@ use Rattle.chainfile.specs.declared.Read.{Read}
 use Rattle.words.specs.Bytes.{bytesOf, numberAt, numbersFrom}
 use Rattle.chainfile.specs.File.{fileOf, header, tableEntry, bodyStart, fileLength}
 use Rattle.chainfile.specs.Calls.{Exit, numbersOk}
-use Rattle.chainfile.specs.Writing.{writeCall, writeExit, writing}
-use Rattle.chainfile.specs.Reading.{readCall, readExit, reading, readContents, readHeader, readTable, shapeWith, shapeIn, entryOk, lengthsOk, readNumbers, trimmed}
+use Rattle.chainfile.specs.Writing.{writeCall, writeExit, writing, writeOk, writeLent}
+use Rattle.chainfile.specs.Reading.{readCall, readExit, reading, readContents, readHeader, readTable, tableOk, shapeWith, shapeIn, entryOk, lengthsOk, numbersIn, readNumbers, trimmed}
 
 -- ---- the two calls, with so much room lent
 writes : Shape → List Float → ℕ → Exit Verdict ℕ
-unfolding writeCall writeExit writing shapeOk demand demandEach sizeOk bondOk coreSize offset fileLength bodyStart numbersOk slot allFinite fileOf header tableEntry bytesOf toBits ofBits listed flat
+unfolding writeCall writeExit writing writeOk writeLent shapeOk demand demandEach sizeOk bondOk coreSize offset fileLength bodyStart numbersOk slot allFinite fileOf header tableEntry bytesOf toBits ofBits listed flat
 writes s chain room = writeCall s chain (replicate room 7)
 
 reads : List ℕ → ℕ → Exit Read Float
-unfolding readCall readExit reading readContents readHeader readTable shapeWith shapeIn entryOk turning shapeOk demand demandEach sizeOk bondOk coreSize offset fileLength bodyStart lengthsOk readNumbers numbersFrom numberAt ofBits numbersOk slot allFinite listed fit
+unfolding readCall readExit reading readContents readHeader readTable tableOk shapeWith shapeIn entryOk turning shapeOk demand demandEach sizeOk bondOk coreSize offset fileLength bodyStart lengthsOk readNumbers numbersIn numbersFrom numberAt ofBits numbersOk slot allFinite listed fit
 reads bytes room = readCall bytes (replicate room nan)
 
 abbrev shaped : ℕ → List ℕ → List ℕ → List ℕ → Shape

@@ -2,10 +2,12 @@
 pub mod Slots
 pub mod Turning
 pub mod Shapes
+pub mod Headers
 -- numbers in bytes, the file field by field, what writing and reading accept
 pub mod Fields
 pub mod Writers
 pub mod Readers
+pub mod Tables
 -- the theorems, and worked examples
 pub mod Theorems
 pub mod Examples

@@ -19,17 +19,16 @@ use Rattle.numbers.specs.Arithmetic.{zero64}
 use Rattle.lists.specs.Lists.{tab}
 use Rattle.lists.specs.Slots.{fit}
 use Rattle.lists.specs.Floats.{at}
-use Rattle.lists.specs.Walks.{turning}
 use Rattle.lists.proofs.Tests.{eqb-yes, eqb-is, leb-yes, leb-is}
 use Rattle.lists.proofs.Tables.{listed-same, length-tab, getD-tab}
 use Rattle.shape.specs.declared.Shape.{Shape}
 use Rattle.shape.specs.Limits.{mostAxes, within}
-use Rattle.shape.specs.Shapes.{leftOf, pointsOf, rightOf, sizeOk, chainOk, entriesOf}
+use Rattle.shape.specs.Shapes.{leftOf, pointsOf, rightOf, sizeOk, entriesOf}
 use Rattle.chainfile.specs.declared.Read.{Read}
 use Rattle.words.specs.Bytes.{numberAt, u16At, u32At, f64At, numbersFrom}
 use Rattle.chainfile.specs.File.{entryStart, bodyStart, fileLength, mark}
 use Rattle.chainfile.specs.Calls.{Exit, numbersOk}
-use Rattle.chainfile.specs.Reading.{readHeader, shapeWith, trimmed, shapeIn, entryOk, readTable, readContents, lengthsOk, readNumbers, Chain, reading, readExit, readCall}
+use Rattle.chainfile.specs.Reading.{readHeader, shapeWith, trimmed, shapeIn, entryOk, tableOk, readTable, readContents, lengthsOk, numbersIn, readNumbers, Chain, reading, readExit, readCall}
 use Rattle.chainfile.proofs.Slots.{fit-at}
 use Rattle.chainfile.proofs.Turning.{turning-yes, turning-is}
 use Rattle.chainfile.proofs.Shapes.{Meets, Alike, meets-ok, ok-meets, alike-size, alike-meets, alike-entries, axes-most}
@@ -38,14 +37,14 @@ use Rattle.chainfile.proofs.Writers.{Sound}
 use Rattle.chainfile.proofs.Fields.{Holds, alike-body, alike-length, alike-numbers}
 
 -- ---- the header
-record Header (bytes : List ℕ) (d : ℕ) : Type 0 where
-  there : 8 ≤ length bytes
-  marked : u32At bytes 0 ≡ u32At mark 0
-  clear : u16At bytes 6 ≡ 0
-  few : within mostAxes d ≡ true
-  axes : u16At bytes 4 ≡ d
+pub record Header (bytes : List ℕ) (d : ℕ) : Type 0 where
+  pub there : 8 ≤ length bytes
+  pub marked : u32At bytes 0 ≡ u32At mark 0
+  pub clear : u16At bytes 6 ≡ 0
+  pub few : within mostAxes d ≡ true
+  pub axes : u16At bytes 4 ≡ d
 
-header-is : (bytes : List ℕ) (d : ℕ) → readHeader bytes ≡ done d → Header bytes d
+pub header-is : (bytes : List ℕ) (d : ℕ) → readHeader bytes ≡ done d → Header bytes d
 unfolding readHeader
 header-is bytes d h =
     let a = then-is _ _ d h in
@@ -96,12 +95,12 @@ shape-in bytes s chain h =
     λ i. record { d = s .d; left = left i; n = points i; right = right i }
 
 -- ---- an entry
-record Entry (bytes : List ℕ) (s : Shape) (k : ℕ) : Type 0 where
-  sizes : sizeOk s k ≡ true
-  void : u16At bytes (entryStart k + 6) ≡ 0
-  body : u32At bytes (entryStart k + 8) ≡ bodyStart s k
+pub record Entry (bytes : List ℕ) (s : Shape) (k : ℕ) : Type 0 where
+  pub sizes : sizeOk s k ≡ true
+  pub void : u16At bytes (entryStart k + 6) ≡ 0
+  pub body : u32At bytes (entryStart k + 8) ≡ bodyStart s k
 
-entry-is : (bytes : List ℕ) (s : Shape) (k : ℕ) → entryOk bytes s k ≡ done tt → Entry bytes s k
+pub entry-is : (bytes : List ℕ) (s : Shape) (k : ℕ) → entryOk bytes s k ≡ done tt → Entry bytes s k
 unfolding entryOk
 entry-is bytes s k h =
     let a = then-is _ _ tt h in
@@ -127,34 +126,31 @@ record Table (bytes : List ℕ) (s : Shape) : Type 0 where
 module _ (bytes : List ℕ) where
   -- what `readTable` makes of the shape that it finds
   abbrev tableOf : ℕ → Shape → Answer Shape
-  tableOf d s =
-      demand (leb (entryStart d) (length bytes)) (File (length bytes))
-      then turning d 0 (λ (k : ℕ) _. entryOk bytes s k) tt
-      then chainOk s
-      then done s
+  tableOf d s = demand (leb (entryStart d) (length bytes)) (File (length bytes)) then tableOk bytes s then done s
 
   table-is : (d : ℕ) (s : Shape) → readTable bytes d ≡ done s → (shapeIn bytes d ≡ s) × Table bytes (shapeIn bytes d)
-  unfolding readTable shapeIn shapeWith
+  unfolding readTable tableOk shapeIn shapeWith
   table-is d s h =
       let sh = shapeIn bytes d in
       let a = then-is _ _ s h in
-      let b = then-is _ _ s (a .1) in
-      let c = then-is _ _ s (b .1) in (
-        done-inj (c .1),
+      let b = then-is (tableOk bytes sh) (done sh) s (a .1) in
+      let c = then-is _ _ tt (b .0) in (
+        done-inj (b .1),
         record {
           there = leb-is _ _ (demand-is _ _ (a .0));
-          entries = λ k lt. entry-is bytes sh k (turning-is (entryOk bytes sh) d 0 (b .0) k zero-le (rw zero-add lt));
-          meets = ok-meets sh (c .0);
+          entries = λ k lt. entry-is bytes sh k (turning-is (entryOk bytes sh) d 0 (c .0) k zero-le (rw zero-add lt));
+          meets = ok-meets sh (c .1);
         },
       )
 
   table-yes : (s : Shape) → shapeIn bytes (s .d) ≡ s → Table bytes s → readTable bytes (s .d) ≡ done s
-  unfolding readTable
+  unfolding readTable tableOk
   table-yes s e h =
       ap (tableOf (s .d)) e
       ∙ then-skip _ _ _ (demand-yes _ _ (leb-yes _ _ (h .there)))
-      (then-skip _ _ _ (turning-yes (entryOk bytes s) (s .d) 0 (λ k _ lt. entry-yes bytes s k (h .entries k (omega arith))))
-      (then-skip _ _ _ (meets-ok s (h .meets)) refl))
+      (then-skip (tableOk bytes s) _ _
+      (then-skip _ _ _ (turning-yes (entryOk bytes s) (s .d) 0 (λ k _ lt. entry-yes bytes s k (h .entries k (omega arith)))) (meets-ok s (h .meets)))
+      refl)
 
 -- ---- header and table
 contents-yes : (bytes : List ℕ) (s : Shape) (chain : List Float) → Meets s → Holds bytes s chain → readContents bytes ≡ done (trimmed s)
@@ -192,7 +188,7 @@ module _ (bytes : List ℕ) (s : Shape) where
   found i = f64At bytes (entryStart (s .d) + 8 * i)
 
   numbers-yes : (chain : List Float) → Sound s chain → Holds bytes s chain → readNumbers bytes (trimmed s) ≡ done chain
-  unfolding readNumbers numbersFrom trimmed shapeWith
+  unfolding readNumbers numbersIn numbersFrom trimmed shapeWith
   numbers-yes chain ok h =
       let N = entriesOf s in
       let t = trimmed s in
@@ -203,7 +199,7 @@ module _ (bytes : List ℕ) (s : Shape) where
       ap (λ (l : List Float). numbersOk t l then done l) e ∙ then-skip _ _ _ (sym (alike-numbers s t a chain) ∙ ok .finites) refl
 
   numbers-is : (chain : List Float) → readNumbers bytes s ≡ done chain → (tab (entriesOf s) found ≡ chain) × (numbersOk s chain ≡ done tt)
-  unfolding readNumbers numbersFrom
+  unfolding readNumbers numbersIn numbersFrom
   numbers-is chain h =
       let a = then-is _ _ chain h in
       let e = done-inj (a .1) in
@@ -212,9 +208,9 @@ module _ (bytes : List ℕ) (s : Shape) where
 -- ---- all of it
 module _ (bytes : List ℕ) (out : List Float) where
   abbrev rest : Shape → Answer Chain
-  rest s = lengthsOk s bytes out then bind (readNumbers bytes s) (λ chain. done (record { shape = s; numbers = chain }))
+  rest s = lengthsOk s (length bytes) (length out) then bind (readNumbers bytes s) (λ chain. done (record { shape = s; numbers = chain }))
 
-  lengths-yes : (s : Shape) → length bytes ≡ fileLength s → entriesOf s ≤ length out → lengthsOk s bytes out ≡ done tt
+  lengths-yes : (s : Shape) → length bytes ≡ fileLength s → entriesOf s ≤ length out → lengthsOk s (length bytes) (length out) ≡ done tt
   unfolding lengthsOk
   lengths-yes s long fit = then-skip _ _ _ (demand-yes _ _ (eqb-yes _ _ long)) (demand-yes _ _ (leb-yes _ _ fit))
 
@@ -282,7 +278,7 @@ module _ (bytes : List ℕ) (out : List Float) where
   reading-is c h =
       let a = bind-done (readContents bytes) rest c h in
       let s = a .0 in
-      let b = then-is (lengthsOk s bytes out) _ c (a .2) in
+      let b = then-is (lengthsOk s (length bytes) (length out)) _ c (a .2) in
       let e = bind-done (readNumbers bytes s) (λ l. done (record { shape = s; numbers = l })) c (b .1) in
       let l = then-is _ _ tt (b .0) in
       let n = numbers-is bytes s (e .0) (e .1) in

@@ -11,17 +11,18 @@ use Rattle.answers.specs.declared.Refusal.the-variants.{Number}
 use Rattle.answers.specs.declared.Verdict.the-variants.{Fits}
 use Rattle.answers.specs.Outcome.{done, refused, Answer}
 use Rattle.answers.proofs.Outcomes.{done-inj}
-use Rattle.answers.proofs.Checks.{demand-yes, demand-is, then-is, then-skip, each-is}
+use Rattle.answers.proofs.Checks.{demand-yes, then-is, then-skip, each-is}
 use Rattle.numbers.specs.Finite.{finite}
 use Rattle.lists.specs.Slots.{slot}
 use Rattle.lists.specs.Floats.{at, allFinite}
-use Rattle.lists.proofs.Tests.{eqb-yes, eqb-is}
+use Rattle.lists.proofs.Tests.{eqb-yes}
+use Rattle.lists.proofs.Asked.{lengths-say}
 use Rattle.lists.proofs.Floats.{finite-getD}
 use Rattle.shape.specs.declared.Shape.{Shape}
 use Rattle.shape.specs.Shapes.{coreSize, entriesOf}
 use Rattle.chainfile.specs.File.{fileLength, fileOf}
 use Rattle.chainfile.specs.Calls.{numbersOk}
-use Rattle.chainfile.specs.Writing.{writing, writeExit, writeCall}
+use Rattle.chainfile.specs.Writing.{writeLent, writeOk, writing, writeExit, writeCall}
 use Rattle.chainfile.proofs.Slots.{finite-slots}
 use Rattle.chainfile.proofs.Shapes.{Meets, meets-ok, ok-meets}
 
@@ -42,20 +43,21 @@ sound-finite s chain ok i lt =
 -- ---- writing
 module _ (s : Shape) (chain : List Float) (out : List ℕ) where
   writing-is : (file : List ℕ) → writing s chain out ≡ done file → Sound s chain × (length out ≡ fileLength s) × (fileOf s chain ≡ file)
-  unfolding writing
+  unfolding writing writeOk writeLent
   writing-is file h =
-      let a = then-is _ _ file h in
-      let b = then-is _ _ file (a .1) in
-      let c = then-is _ _ file (b .1) in
-      let e = then-is _ _ file (c .1) in
-      (record { meets = ok-meets s (a .0); whole = eqb-is _ _ (demand-is _ _ (b .0)); finites = e .0 }, eqb-is _ _ (demand-is _ _ (c .0)), done-inj (e .1))
+      let w = then-is _ _ file h in
+      let a = then-is _ _ tt (w .0) in
+      let b = then-is _ _ tt (a .1) in
+      let l = lengths-say _ _ _ _ _ _ (b .0) in
+      (record { meets = ok-meets s (a .0); whole = l .0; finites = b .1 }, l .1, done-inj (w .1))
 
   pub writing-yes : Sound s chain → length out ≡ fileLength s → writing s chain out ≡ done (fileOf s chain)
-  unfolding writing
+  unfolding writing writeOk writeLent
   writing-yes ok long =
-      then-skip _ _ _ (meets-ok s (ok .meets))
-      (then-skip _ _ _ (demand-yes _ _ (eqb-yes _ _ (ok .whole)))
-      (then-skip _ _ _ (demand-yes _ _ (eqb-yes _ _ long)) (then-skip _ _ _ (ok .finites) refl)))
+      then-skip _ _ _
+      (then-skip _ _ _ (meets-ok s (ok .meets))
+      (then-skip _ _ _ (then-skip _ _ _ (demand-yes _ _ (eqb-yes _ _ (ok .whole))) (demand-yes _ _ (eqb-yes _ _ long))) (ok .finites)))
+      refl
 
 -- ---- a call that was accepted, and what it leaves
 pub write-fits : (s : Shape) (chain : List Float) (out : List ℕ) → writeCall s chain out .result ≡ Fits

@@ -50,50 +50,67 @@ entryOk bytes s k =
     then demand (eqb (u16At bytes (entryStart k + 6)) 0) (File (entryStart k + 6))
     then demand (eqb (u32At bytes (entryStart k + 8)) (bodyStart s k)) (File (entryStart k + 8))
 
--- the table is there, entry by entry, then bonds: 1 and 2 are ruled out by then, so 3 is what `chainOk` can still refuse (`bonds-only` of proofs/Shapes.antt)
+-- entry by entry, then bonds: 1 and 2 are ruled out by then, so 3 is what `chainOk` can still refuse (`bonds-only` of proofs/Shapes.antt)
+unfoldable pub tableOk : List ℕ → Shape → Check
+tableOk bytes s = turning (s .d) 0 (λ (k : ℕ) _. entryOk bytes s k) tt then chainOk s
+
+-- the table is there, and what it says
 unfoldable pub readTable : List ℕ → ℕ → Answer Shape
 readTable bytes d =
     let s = shapeIn bytes d in
     demand (leb (entryStart d) (length bytes)) (File (length bytes))
-    then turning d 0 (λ (k : ℕ) _. entryOk bytes s k) tt
-    then chainOk s
+    then tableOk bytes s
     then done s
 
 -- header and table: the contents, bodies aside
 unfoldable pub readContents : List ℕ → Answer Shape
 readContents bytes = bind (readHeader bytes) (readTable bytes)
 
--- ---- the lengths
-unfoldable pub lengthsOk : Shape → List ℕ → List Float → Check
-lengthsOk s bytes out =
-    demand (eqb (length bytes) (fileLength s)) (File (length bytes))
-    then demand (leb (entriesOf s) (length out)) (Length 1)
+-- a shape as code answers it
+abbrev pub noShape : Shape
+noShape = record { d = 0; left = replicate mostAxes 0; n = replicate mostAxes 0; right = replicate mostAxes 0 }
 
--- ---- the numbers
+abbrev pub readBy : Answer Shape → Read
+readBy (done s) = record { verdict = Fits; shape = s }
+readBy (refused r) = record { verdict = Refused r; shape = noShape }
+
+-- ---- the lengths
+unfoldable pub lengthsOk : Shape → ℕ → ℕ → Check
+lengthsOk s bytes room =
+    demand (eqb bytes (fileLength s)) (File bytes)
+    then demand (leb (entriesOf s) room) (Length 1)
+
+-- ---- the numbers: behind the table
+unfoldable pub numbersIn : List ℕ → Shape → List Float
+numbersIn bytes s = numbersFrom bytes (entryStart (s .d)) (entriesOf s)
+
 unfoldable pub readNumbers : List ℕ → Shape → Answer (List Float)
-readNumbers bytes s =
-    let chain = numbersFrom bytes (entryStart (s .d)) (entriesOf s) in
-    numbersOk s chain then done chain
+readNumbers bytes s = numbersOk s (numbersIn bytes s) then done (numbersIn bytes s)
 
 -- ---- all of it
 pub record Chain : Type 0 where
   pub shape : Shape
   pub numbers : List Float
 
+-- every check but that there is more to read: what the shape is, if the bytes are a chain's file and its numbers have room
+unfoldable pub readOk : List ℕ → ℕ → Answer Shape
+readOk bytes room =
+    bind (readContents bytes) (λ s.
+    lengthsOk s (length bytes) room
+    then numbersOk s (numbersIn bytes s)
+    then done s)
+
 unfoldable pub reading : List ℕ → List Float → Answer Chain
 reading bytes out =
     bind (readContents bytes) (λ s.
-    lengthsOk s bytes out
+    lengthsOk s (length bytes) (length out)
     then bind (readNumbers bytes s) (λ chain.
     done record { shape = s; numbers = chain }))
 
-abbrev pub noShape : Shape
-noShape = record { d = 0; left = replicate mostAxes 0; n = replicate mostAxes 0; right = replicate mostAxes 0 }
-
 -- accepted: the numbers at the front of the output, +0 in the rest; refused, the output is unwritten
 unfoldable pub readExit : List Float → Answer Chain → Exit Read Float
-readExit out (done c) = record { result = record { verdict = Fits; shape = c .shape }; out = fit zero64 (length out) (c .numbers) }
-readExit out (refused r) = record { result = record { verdict = Refused r; shape = noShape }; out = out }
+readExit out (done c) = record { result = readBy (done (c .shape)); out = fit zero64 (length out) (c .numbers) }
+readExit out (refused r) = record { result = readBy (refused r); out = out }
 
 -- THE CALL
 unfoldable pub readCall : List ℕ → List Float → Exit Read Float
