@@ -8,6 +8,8 @@ pub mod Fields
 pub mod Writers
 pub mod Readers
 pub mod Tables
+pub mod Bodies
+pub mod Accepts
 -- the theorems, and worked examples
 pub mod Theorems
 pub mod Examples

@@ -118,10 +118,10 @@ entry-yes bytes s k h =
     (then-skip _ _ _ (demand-yes _ _ (eqb-yes _ _ (h .void))) (demand-yes _ _ (eqb-yes _ _ (h .body))))
 
 -- ---- the table
-record Table (bytes : List ℕ) (s : Shape) : Type 0 where
-  there : entryStart (s .d) ≤ length bytes
-  entries : (k : ℕ) → k < s .d → Entry bytes s k
-  meets : Meets s
+pub record Table (bytes : List ℕ) (s : Shape) : Type 0 where
+  pub there : entryStart (s .d) ≤ length bytes
+  pub entries : (k : ℕ) → k < s .d → Entry bytes s k
+  pub meets : Meets s
 
 module _ (bytes : List ℕ) where
   -- what `readTable` makes of the shape that it finds
@@ -168,12 +168,12 @@ contents-yes bytes s chain m h =
     } in
     ap (λ (o : Answer ℕ). bind o (readTable bytes)) (header-yes bytes (s .d) header) ∙ table-yes bytes t (shape-in bytes s chain h) table
 
-record Contents (bytes : List ℕ) (s : Shape) : Type 0 where
-  header : Header bytes (s .d)
-  table : Table bytes s
-  found : shapeIn bytes (s .d) ≡ s
+pub record Contents (bytes : List ℕ) (s : Shape) : Type 0 where
+  pub header : Header bytes (s .d)
+  pub table : Table bytes s
+  pub found : shapeIn bytes (s .d) ≡ s
 
-contents-is : (bytes : List ℕ) (s : Shape) → readContents bytes ≡ done s → Contents bytes s
+pub contents-is : (bytes : List ℕ) (s : Shape) → readContents bytes ≡ done s → Contents bytes s
 unfolding readContents shapeIn shapeWith
 contents-is bytes s h =
     let a = bind-done (readHeader bytes) (readTable bytes) s h in

@@ -1,11 +1,14 @@
 // The chain file: a contents table, then bodies.
 ghost use mathlib.Core.Path.{_≡_};
-ghost use Rattle.answers.specs.Outcome.{done, refused};
-ghost use Rattle.chainfile.specs.Reading.{readBy};
+ghost use lib.ListN.{length};
+ghost use Rattle.answers.specs.Outcome.{done, refused, verdictOf};
+ghost use Rattle.shape.specs.Sizes.{SizesWithin};
+ghost use Rattle.chainfile.specs.Reading.{lengthsOk, readBy, readOk, readCall};
 use answers::Refusal;
 use answers::Verdict;
 use shape::Shape;
 
+pub mod body;
 pub mod contents;
 
 // What reading a chain file answers: whether it was accepted, and the shape that its table gives, all zeros where it was not.
@@ -36,4 +39,54 @@ pub(crate) fn read_as(s: Shape) -> Read
         verdict: Verdict::Fits,
         shape: s,
     }
+}
+
+// The file's length, then the room.
+fn lengths_ok(s: Shape, bytes: usize, room: usize) -> Verdict
+    requires { ⌜ SizesWithin s ⌝ }
+    ensures { λ r. ⌜ r ≡ verdictOf (lengthsOk s bytes room) ⌝ }
+{
+    let n = s.entries();
+    if bytes != 8 + 12 * s.d + 8 * n {
+        return Verdict::Refused(Refusal::File(bytes));
+    }
+    if room < n {
+        return Verdict::Refused(Refusal::Length(1));
+    }
+    Verdict::Fits
+}
+
+// Every check of reading, with room for so many numbers.
+pub fn read_ok(bytes: &[u8], room: usize) -> Read
+    ensures { λ r. ⌜ r ≡ readBy (readOk (now (bytes .entry)) room) ⌝ }
+{
+    let found = contents::read_contents(bytes);
+    let told = found.verdict;
+    if let Verdict::Refused(r) = told {
+        return refused_read(r);
+    }
+    let s = found.shape;
+    let lent = lengths_ok(s, bytes.len(), room);
+    if let Verdict::Refused(r) = lent {
+        return refused_read(r);
+    }
+    let ok = body::numbers_ok(bytes, s);
+    if let Verdict::Refused(r) = ok {
+        return refused_read(r);
+    }
+    read_as(s)
+}
+
+// Reading a chain file: the shape that its table gives, and its numbers at the front of out, +0 behind them.
+pub fn read_chain(bytes: &[u8], out: &mut [f64]) -> Read
+    ensures { λ r. ⌜ (r ≡ readCall (now (bytes .entry)) (now (out .entry)) .result) × (now (out .exit) ≡ readCall (now (bytes .entry)) (now (out .entry)) .out) ⌝ }
+{
+    let found = read_ok(bytes, out.len());
+    let told = found.verdict;
+    if let Verdict::Refused(r) = told {
+        return refused_read(r);
+    }
+    let s = found.shape;
+    body::take_numbers(bytes, s, out);
+    read_as(s)
 }

@@ -1,0 +1,42 @@
+-- `chainfile::body::first_bad_core` meets its contract. Assumes nothing.
+use Rattle.chainfile.proofs.body.first_bad_core.Reads as reads
+use Rattle.chainfile.proofs.body.first_bad_core.Lts as lts
+use Rattle.shape.proofs.Shape.core_size.Reads as core-size-reads
+use Rattle.words.proofs.all_finite.Reads as all-finite-reads
+use borrow.Author.Needs.{needs}
+use Prim.Native.Nat.{ℕ, _≤_, _-_}
+use mathlib.Core.Path.{_≡_}
+use Rattle.lists.specs.Slots.{slot}
+use Rattle.lists.specs.Floats.{allFinite}
+use Rattle.lists.proofs.Demands.{Passed, passing}
+use Rattle.shape.specs.Shapes.{coreSize}
+use Rattle.chainfile.specs.File.{bodyStart}
+use Rattle.chainfile.specs.Reading.{numbersIn}
+use Rattle.chainfile.proofs.Bodies.{bodywise}
+use Rattle.chainfile.proofs.body.first_bad_core.Statement.{statement}
+use Rattle.chainfile.proofs.body.first_bad_core.Tie as tie
+
+ruleset ways = (needs, bodywise, passing)
+
+abbrev Inv-loop : tie.InvT-loop
+Inv-loop bytes s at₀ k₀ at k = (k ≤ s .d) × (at ≡ bodyStart s k) × Passed (λ (j : ℕ). allFinite (slot (coreSize s) j (numbersIn bytes s))) (s .d) k
+
+abbrev μ-loop : tie.MeasureT-loop
+μ-loop bytes s at₀ k₀ at k = s .d - k
+
+pub first-bad-core-spec : {M : Type 1} → statement M
+first-bad-core-spec = tie.close (tie.spec
+    Inv-loop
+    μ-loop
+    (λ c. search ways)
+    (λ c. search ways)
+    (λ c. search ways)
+    (λ c κs. search ways)
+    (λ c κs. search ways)
+    (λ c. search ways)
+    (λ c. search ways)
+    (λ c. search ways)
+    (λ c. search ways)
+    (λ c. search ways)
+    (λ c. search ways)
+    (λ c. search ways))
