@@ -42,6 +42,10 @@ module _ (s : Shape) (n : ℕ) (e : n ≡ entriesOf s) where
   pub file-fits : SizesWithin s → Fits' w64 (8 + 12 * s .d + 8 * n)
   file-fits w = record { fits = omega (arith, entries-most s w, w .axes .most) }
 
+  pub file-counts : 8 + 12 * s .d + 8 * n ≡ fileLength s
+  unfolding fileLength
+  file-counts = ap (λ (m : ℕ). 8 + 12 * s .d + 8 * m) e
+
   module _ (bytes room : ℕ) where
     abbrev enough : Check
     enough = demand (leb (entriesOf s) room) (Length 1)
@@ -53,8 +57,7 @@ module _ (s : Shape) (n : ℕ) (e : n ≡ entriesOf s) where
 
     module _ (h : bytes ≡ 8 + 12 * s .d + 8 * n) where
       right : bytes ≡ fileLength s
-      unfolding fileLength
-      right = h ∙ ap (λ (m : ℕ). 8 + 12 * s .d + 8 * m) e
+      right = h ∙ file-counts
 
       past : lengthsOk s bytes room ≡ enough
       unfolding lengthsOk

@@ -54,7 +54,7 @@ module _ (s t : Shape) (a : Alike s t) where
       (λ k _ lt. rw (alike-core s t a k (omega arith), alike-offset s t a k (omega arith)))
       ∙ ap (λ (m : ℕ). demandEach Number (λ (k : ℕ). allFinite (slot (coreSize t) k chain)) m 0) (a .axes)
 
-entry-length : (s : Shape) (k : ℕ) → length (tableEntry s k) ≡ 12
+pub entry-length : (s : Shape) (k : ℕ) → length (tableEntry s k) ≡ 12
 unfolding tableEntry bytesOf
 entry-length s k = refl
 

@@ -10,6 +10,7 @@ pub mod Readers
 pub mod Tables
 pub mod Bodies
 pub mod Accepts
+pub mod Makes
 -- the theorems, and worked examples
 pub mod Theorems
 pub mod Examples
