@@ -81,7 +81,7 @@ module _ (s : Shape) (chain : List Float) (out : List ℕ) (long : length out �
 
       both : v ≡ placed 0 (header (s .d) ++ joined (s .d) (tableEntry s)) out
       unfolding header bytesOf
-      both = let t = table-long in let r = room in ev ∙ ap (placed 8 _) head ∙ placed-more 0 (header (s .d)) out 8 _ refl (omega arith)
+      both = let t = table-long in let r = room in ev ∙ ap (placed 8 _) head ∙ placed-more 0 (header (s .d)) out 8 _ (omega arith) refl
 
       both-long : length v ≡ length out
       both-long = let t = table-long in let r = room in let h = head-long in ap length ev ∙ placed-length 8 _ u (omega arith) ∙ head-long

@@ -22,9 +22,9 @@ module _ {A : Type 0} (p : ℕ) (x l : List A) where
       omega arith
 
   -- what is placed next to it
-  pub placed-more : (q : ℕ) (y : List A) → q ≡ p + length x → q + length y ≤ length l → placed q y (placed p x l) ≡ placed p (x ++ y) l
+  pub placed-more : (q : ℕ) (y : List A) → p ≤ length l → q ≡ p + length x → placed q y (placed p x l) ≡ placed p (x ++ y) l
   unfolding placed
-  placed-more q y e h =
+  placed-more q y h e =
       let front = take p l ++ x in
       let rest = drop (p + length x) l in
       let a : take p l ++ (x ++ rest) ≡ front ++ rest = sym (append-assoc (take p l) x rest) in

@@ -1,0 +1,40 @@
+-- `listing::put_axis` meets its contract. Assumes nothing.
+use borrow.Author.Needs.{needs}
+use Rattle.listing.proofs.put_axis.Reads as reads
+use Rattle.listing.proofs.put_axis.Lts as lts
+use Rattle.listing.proofs.put_field.Reads as put-field-reads
+use native.Mathlib.Omega.{arith}
+use Rattle.listing.proofs.Grows.{axis-put}
+use Rattle.listing.proofs.put_axis.Statement.{statement}
+use Rattle.listing.proofs.put_axis.Tie as tie
+
+put-field-requires-2 : tie.Need-put-field-requires-2
+put-field-requires-2 c κs = omega (arith, (c .before .before .before .before .before .before .before .pre) .2, (c .before .before .before .before .put-field .ensures) .few, (c .before .before .before .before .put-field .kept) .1 .1 .0)
+
+put-field-requires-3 : tie.Need-put-field-requires-3
+put-field-requires-3 c κs = omega (arith, (c .before .before .before .before .before .before .before .before .before .before .before .before .pre) .2, (c .before .before .before .before .before .before .before .before .before .put-field .ensures) .few, (c .before .before .before .before .before .before .before .before .before .put-field .kept) .1 .1 .0, (c .before .before .before .before .put-field2 .ensures) .few, (c .before .before .before .before .put-field2 .kept) .1 .1 .0)
+
+put-field-requires-4 : tie.Need-put-field-requires-4
+put-field-requires-4 c κs = omega (arith, (c .before .before .before .before .before .before .before .before .before .before .before .before .before .before .before .before .before .pre) .2, (c .before .before .before .before .before .before .before .before .before .before .before .before .before .before .put-field .ensures) .few, (c .before .before .before .before .before .before .before .before .before .before .before .before .before .before .put-field .kept) .1 .1 .0, (c .before .before .before .before .before .before .before .before .before .put-field2 .ensures) .few, (c .before .before .before .before .before .before .before .before .before .put-field2 .kept) .1 .1 .0, (c .before .before .before .before .put-field3 .ensures) .few, (c .before .before .before .before .put-field3 .kept) .1 .1 .0)
+
+put-field-requires-5 : tie.Need-put-field-requires-5
+put-field-requires-5 c κs = omega (arith, (c .before .before .before .before .before .before .before .before .before .before .before .before .before .before .before .before .before .before .before .before .before .pre) .2, (c .before .before .before .before .before .before .before .before .before .before .before .before .before .before .before .before .before .before .put-field .ensures) .few, (c .before .before .before .before .before .before .before .before .before .before .before .before .before .before .before .before .before .before .put-field .kept) .1 .1 .0, (c .before .before .before .before .before .before .before .before .before .before .before .before .before .put-field2 .ensures) .few, (c .before .before .before .before .before .before .before .before .before .before .before .before .before .put-field2 .kept) .1 .1 .0, (c .before .before .before .before .before .before .before .before .put-field3 .ensures) .few, (c .before .before .before .before .before .before .before .before .put-field3 .kept) .1 .1 .0, (c .before .before .before .put-field4 .ensures) .few, (c .before .before .before .put-field4 .kept) .1 .1 .0)
+
+returns : tie.Need-returns
+returns c = axis-put _ _ _ (omega (arith, (c .before .before .before .before .before .before .before .before .before .before .before .before .before .before .before .before .before .before .before .before .before .before .before .before .pre) .2)) _ _ ((c .before .before .before .before .before .before .before .before .before .before .before .before .before .before .before .before .before .before .before .before .before .before .before .before .pre) .1) (c .before .before .before .before .before .before .before .before .before .before .before .before .before .before .before .before .before .before .before .before .before .put-field .ensures) (c .before .before .before .before .before .before .before .before .before .before .before .before .before .before .before .before .put-field2 .ensures) (c .before .before .before .before .before .before .before .before .before .before .before .put-field3 .ensures) (c .before .before .before .before .before .before .put-field4 .ensures) (c .before .before .put-field5 .ensures)
+
+pub put-axis-spec : {M : Type 1} → statement M
+put-axis-spec = tie.close (tie.spec
+    (λ c κs. search needs)
+    (λ c. search needs)
+    (λ c. search needs)
+    put-field-requires-2
+    (λ c. search needs)
+    (λ c. search needs)
+    put-field-requires-3
+    (λ c. search needs)
+    (λ c. search needs)
+    put-field-requires-4
+    put-field-requires-5
+    (λ c. search needs)
+    returns)
