@@ -5,7 +5,8 @@ use native.Mathlib.Numerals.{add-one}
 use native.Mathlib.Omega.{arith}
 use mathlib.Core.Bool.{true}
 use mathlib.Core.List.{List, [], _∷_, _++_}
-use lib.ListN.{length, length-append}
+use lib.ListN.{length, take, drop, length-append}
+use lib.Seq.{take-at}
 use lib.Ieee.{Float}
 use borrow.Author.Tests.{lt-ltb, le-ltb}
 use Rattle.answers.specs.declared.Refusal.{Refusal}
@@ -154,3 +155,11 @@ module _ (bytes : List ℕ) (l m : List ℕ) (e : ℕ) where
   read-listed h x g p =
       let t : listingOf bytes ≡ readText x = rw (le-ltb mostBytes (length bytes) h) (ap readText (sym g)) in
       (omega (arith, p .ends, ap length t), p .there ∙ ap (λ (y : List ℕ). placed 0 y l) (sym t))
+
+-- a text at the front can be lent by its length
+pub text-counts : (x l m : List ℕ) (r : ℕ) → (r ≡ length x) × (m ≡ placed 0 x l) → (r ≤ length m) × (r ≡ length (take r m))
+unfolding placed
+text-counts x l m r h =
+    let rest = drop (0 + length x) l in
+    let n = ap length (h .1) ∙ length-append x rest in
+    (omega (arith, h .0), h .0 ∙ ap length (sym (take-at x rest r (sym (h .0)))) ∙ ap (λ (y : List ℕ). length (take r y)) (sym (h .1)))
