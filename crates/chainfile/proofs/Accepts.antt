@@ -2,7 +2,6 @@
 use mathlib.Core.Path.{_≡_, refl, sym, ap, _∙_, subst}
 use Prim.Native.Nat.{ℕ, _+_, _*_, _≤_, _<_}
 use native.Mathlib.Omega.{arith}
-use mathlib.Core.Bool.{true}
 use mathlib.Core.List.{List}
 use lib.Dec.{leb}
 use lib.ListN.{length}
@@ -21,17 +20,15 @@ use Rattle.numbers.specs.Arithmetic.{zero64}
 use Rattle.lists.specs.Slots.{fit}
 use Rattle.lists.proofs.Tests.{eqb-yes, eqb-no, eqb-is, leb-is}
 use Rattle.shape.specs.declared.Shape.{Shape}
-use Rattle.shape.specs.Limits.{mostAxes}
 use Rattle.shape.specs.Shapes.{entriesOf}
 use Rattle.shape.specs.Sizes.{SizesWithin}
 use Rattle.shape.proofs.Offsets.{entries-most}
-use Rattle.shape.proofs.Shaped.{shaped}
-use Rattle.chainfile.specs.declared.Read.{Read}
-use Rattle.chainfile.specs.File.{fileLength}
-use Rattle.chainfile.specs.Calls.{numbersOk}
-use Rattle.chainfile.specs.Reading.{readContents, lengthsOk, numbersIn, readNumbers, readBy, readOk, Chain, reading, readExit, readCall}
-use Rattle.chainfile.proofs.Shapes.{meets-ok}
-use Rattle.chainfile.proofs.Readers.{contents-is}
+use Rattle.fileform.specs.declared.Read.{Read}
+use Rattle.fileform.specs.File.{fileLength}
+use Rattle.fileform.specs.Calls.{numbersOk}
+use Rattle.fileform.specs.Reading.{readContents, lengthsOk, numbersIn, readNumbers, readBy, readOk, Chain, reading, readExit, readCall}
+use Rattle.fileform.proofs.Shapes.{met}
+use Rattle.fileform.proofs.Readers.{contents-is}
 use Rattle.chainfile.proofs.Tables.{read-stops, read-passes}
 
 -- ---- the lengths: n is what code took for N
@@ -92,7 +89,7 @@ module _ (o : Answer Shape) (x : Read) (e : x ≡ readBy o) where
       go (refused q) k = let v = ap (λ (y : Read). y .verdict) k in let z : q ≡ r = cc in ap refused z
 
 contents-sized : (bytes : List ℕ) (s : Shape) → readContents bytes ≡ done s → SizesWithin s
-contents-sized bytes s h = shaped s (λ (k : ℕ). true) (meets-ok s (contents-is bytes s h .table .meets)) .sizes
+contents-sized bytes s h = met s (contents-is bytes s h .table .meets) .sizes
 
 -- ---- every check: f is what reading the contents answered
 module _ (bytes : List ℕ) (room : ℕ) (f : Read) (e : f ≡ readBy (readContents bytes)) (x : Read) where

@@ -7,15 +7,13 @@ use native.Mathlib.Omega.{arith}
 use mathlib.Core.Bool.{Bool, true}
 use mathlib.Core.List.{List, _++_}
 use lib.ListN.{length, take, drop, length-replicate, replicate-append-replicate}
-use lib.Seq.{take-all, drop-at}
+use lib.Seq.{drop-at}
 use lib.Ieee.{Float, nan}
 use mir.Syntax.{w64}
 use mir.Val.{Fits as Fits'}
-use Rattle.answers.specs.declared.Refusal.the-variants.{Number, File, Length}
-use Rattle.answers.specs.declared.Verdict.{Verdict}
+use Rattle.answers.specs.declared.Refusal.the-variants.{Number}
 use Rattle.answers.specs.declared.Verdict.the-variants.{Fits, Refused}
 use Rattle.answers.specs.Outcome.{done, verdictOf}
-use Rattle.answers.proofs.Checks.{each-is}
 use Rattle.numbers.specs.Arithmetic.{zero64}
 use Rattle.lists.specs.Lists.{firstNot}
 use Rattle.lists.specs.Slots.{offset, slot, fit}
@@ -26,16 +24,15 @@ use Rattle.lists.proofs.Written.{getD-slot}
 use Rattle.lists.proofs.Parts.{span-length}
 use Rattle.lists.proofs.Asked.{place-wrong, places-right}
 use Rattle.shape.specs.declared.Shape.{Shape}
-use Rattle.shape.specs.Limits.{mostAxes}
 use Rattle.shape.specs.Shapes.{coreSize, entriesOf}
 use Rattle.shape.specs.Sizes.{SizesWithin}
-use Rattle.shape.proofs.Offsets.{core-offset-most, core-most, entries-most}
+use Rattle.shape.proofs.Offsets.{core-offset-most, core-most}
 use Rattle.words.specs.Bytes.{f64At, numbersFrom}
 use Rattle.words.proofs.Runs.{numbers-length, number-at}
-use Rattle.chainfile.specs.File.{entryStart, bodyStart, fileLength}
-use Rattle.chainfile.specs.Calls.{numbersOk}
-use Rattle.chainfile.specs.Reading.{numbersIn, lengthsOk}
-use Rattle.chainfile.proofs.Slots.{finite-slots}
+use Rattle.fileform.specs.File.{entryStart, bodyStart, fileLength}
+use Rattle.fileform.specs.Calls.{numbersOk}
+use Rattle.fileform.specs.Reading.{numbersIn}
+use Rattle.fileform.proofs.Writers.{numbers-finite}
 
 -- the numbers of core k are those behind its offset
 slot-numbers : (size : ℕ → ℕ) (d : ℕ) (bytes : List ℕ) (p k : ℕ) → k < d → slot size k (numbersFrom bytes p (offset size d)) ≡ numbersFrom bytes (p + 8 * offset size k) (size k)
@@ -98,13 +95,6 @@ module _ (s : Shape) (chain : List Float) (i : ℕ) (e : i ≡ firstNot (λ (k :
   cores-right h = places-right (λ (k : ℕ). allFinite (slot (coreSize s) k chain)) (s .d) i e Number h
 
 pub ruleset cores-found = (core-wrong, cores-right)
-
--- numbers that passed are all finite
-pub numbers-finite : (s : Shape) (chain : List Float) → length chain ≡ entriesOf s → numbersOk s chain ≡ done tt → allFinite chain ≡ true
-unfolding numbersOk
-numbers-finite s chain e ok =
-    let slots = each-is Number (λ (k : ℕ). allFinite (slot (coreSize s) k chain)) (s .d) 0 ok in
-    ap allFinite (sym (take-all (entriesOf s) chain (omega arith))) ∙ finite-slots (coreSize s) chain (s .d) (λ k l. slots k (omega arith) (omega arith))
 
 -- ---- the numbers made at the front of f, which is +0 throughout and as long as the output
 module _ (bytes : List ℕ) (s : Shape) (long : ℕ) (room : entriesOf s ≤ long) (n : ℕ) (e : n ≡ entriesOf s) (f : List Float) (g : f ≡ zeros long) where

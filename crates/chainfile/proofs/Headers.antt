@@ -21,8 +21,8 @@ use Rattle.shape.specs.Limits.{mostAxes, mostPoints, mostRank, within}
 use Rattle.shape.specs.Shapes.{leftOf, pointsOf, rightOf, sizeOk, coreSize}
 use Rattle.shape.proofs.Shaped.{within-is}
 use Rattle.words.specs.Bytes.{numberAt, u16At, u32At}
-use Rattle.chainfile.specs.File.{entryStart, bodyStart, mark}
-use Rattle.chainfile.specs.Reading.{readHeader, entryOk}
+use Rattle.fileform.specs.File.{entryStart, bodyStart, mark}
+use Rattle.fileform.specs.Reading.{readHeader, entryOk}
 
 -- a demand that stops, and one that lets pass
 stop : {A : Type 0} (b : Bool) (r : Refusal) (o : Answer A) → b ≡ false → Refused r ≡ verdictOf (demand b r then o)

@@ -24,11 +24,11 @@ use Rattle.words.specs.Bytes.{bytesOf, f64, bytesOfAll}
 use Rattle.words.specs.Placed.{placed}
 use Rattle.words.proofs.Placing.{placed-length, placed-more, placed-all, joins-none, joins-more}
 use Rattle.words.proofs.Runs.{f64-length}
-use Rattle.chainfile.specs.File.{entryStart, bodyStart, fileLength, header, tableEntry, fileOf}
-use Rattle.chainfile.specs.Calls.{numbersOk}
-use Rattle.chainfile.specs.Writing.{writeLent, writeOk, writing, writeExit, writeCall}
-use Rattle.chainfile.proofs.Fields.{entry-length}
-use Rattle.chainfile.proofs.Bodies.{numbers-finite}
+use Rattle.fileform.specs.File.{entryStart, bodyStart, fileLength, header, tableEntry, fileOf}
+use Rattle.fileform.specs.Calls.{numbersOk}
+use Rattle.fileform.specs.Writing.{writeLent, writeOk, writing, writeExit, writeCall}
+use Rattle.fileform.proofs.Fields.{entry-length}
+use Rattle.fileform.proofs.Writers.{numbers-finite}
 
 pub header-made : (d : ℕ) (b : List ℕ) → b ≡ bytesOf 2 d → 84 ∷ 84 ∷ 67 ∷ 49 ∷ getD b 0 0 ∷ getD b 1 0 ∷ 0 ∷ 0 ∷ [] ≡ header d
 unfolding header bytesOf

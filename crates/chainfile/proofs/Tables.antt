@@ -1,12 +1,12 @@
 -- Header and table by what code finds of their parts. Assumes nothing.
-use mathlib.Core.Path.{_≡_, refl, sym, ap, _∙_}
-use Prim.Native.Nat.{ℕ, zero, suc, _+_, _-_, _*_, _≤_, _<_}
+use mathlib.Core.Path.{_≡_, sym, ap, _∙_}
+use Prim.Native.Nat.{ℕ, suc, _+_, _-_, _*_, _≤_, _<_}
 use native.Mathlib.Nat.{sub-zero, add-zero}
 use native.Mathlib.Numerals.{add-one}
 use native.Mathlib.Omega.{arith}
 use mathlib.Core.Bool.{true}
 use mathlib.Core.List.{List, [], _∷_, _++_, append-assoc}
-use lib.ListN.{length, set, replicate, length-replicate}
+use lib.ListN.{length, set, replicate}
 use lib.Seq.{set-at}
 use borrow.Author.Tests.{lt-leb, le-leb}
 use mir.Syntax.{w64}
@@ -17,8 +17,8 @@ use Rattle.answers.specs.declared.Verdict.{Verdict}
 use Rattle.answers.specs.declared.Verdict.the-variants.{Fits, Refused}
 use Rattle.answers.specs.Outcome.{done, refused, bind, Answer, Check, _then_, verdictOf}
 use Rattle.answers.proofs.Outcomes.{fits-done}
-use Rattle.answers.proofs.Checks.{demand-yes, demand-no, then-is, verdict-passed, verdict-refused}
-use Rattle.lists.specs.Lists.{listed, tab}
+use Rattle.answers.proofs.Checks.{demand-yes, demand-no, verdict-passed, verdict-refused}
+use Rattle.lists.specs.Lists.{tab}
 use Rattle.lists.specs.Slots.{offset, fit}
 use Rattle.lists.specs.Walks.{turning}
 use Rattle.lists.proofs.Tables.{length-tab, tab-none, tab-more}
@@ -28,10 +28,10 @@ use Rattle.shape.specs.Limits.{mostAxes}
 use Rattle.shape.specs.Shapes.{sizeOk, coreSize}
 use Rattle.shape.proofs.Shaped.{within-is}
 use Rattle.words.specs.Bytes.{u16At}
-use Rattle.chainfile.specs.declared.Read.{Read}
-use Rattle.chainfile.specs.File.{entryStart, bodyStart}
-use Rattle.chainfile.specs.Reading.{readHeader, shapeWith, shapeIn, entryOk, tableOk, readTable, readContents, readBy}
-use Rattle.chainfile.proofs.Readers.{header-is, entry-is}
+use Rattle.fileform.specs.declared.Read.{Read}
+use Rattle.fileform.specs.File.{entryStart, bodyStart}
+use Rattle.fileform.specs.Reading.{readHeader, shapeWith, shapeIn, entryOk, tableOk, readTable, readContents, readBy}
+use Rattle.fileform.proofs.Readers.{header-is, entry-is}
 
 -- ---- an array filled from the front
 module _ (n : ℕ) (f : ℕ → ℕ) where

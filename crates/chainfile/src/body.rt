@@ -9,9 +9,9 @@ ghost use Rattle.lists.specs.Slots.{slot, fit};
 ghost use Rattle.lists.specs.Floats.{allFinite};
 ghost use Rattle.shape.specs.Shapes.{coreSize, entriesOf};
 ghost use Rattle.shape.specs.Sizes.{SizesWithin};
-ghost use Rattle.chainfile.specs.File.{fileLength};
-ghost use Rattle.chainfile.specs.Calls.{numbersOk};
-ghost use Rattle.chainfile.specs.Reading.{numbersIn};
+ghost use Rattle.fileform.specs.File.{fileLength};
+ghost use Rattle.fileform.specs.Calls.{numbersOk};
+ghost use Rattle.fileform.specs.Reading.{numbersIn};
 use answers::Refusal;
 use answers::Verdict;
 

@@ -10,11 +10,11 @@ ghost use Rattle.lists.specs.Walks.{turning};
 ghost use Rattle.shape.specs.Limits.{mostAxes};
 ghost use Rattle.shape.specs.Shapes.{sizeOk, coreSize};
 ghost use Rattle.words.specs.Bytes.{u16At};
-ghost use Rattle.chainfile.specs.File.{entryStart, bodyStart};
-ghost use Rattle.chainfile.specs.Reading.{readHeader, shapeIn, entryOk, tableOk, readTable, readContents, readBy};
-use crate::Read;
+ghost use Rattle.fileform.specs.File.{entryStart, bodyStart};
+ghost use Rattle.fileform.specs.Reading.{readHeader, shapeIn, entryOk, tableOk, readTable, readContents, readBy};
 use answers::Refusal;
 use answers::Verdict;
+use fileform::Read;
 
 // "TTC1", as the number in four bytes.
 const MARK: usize = 0x3143_5454;

@@ -1,26 +1,21 @@
-// The chain file: a contents table, then bodies.
+// The chain file, read and written.
 ghost use mathlib.Core.Path.{_≡_};
 ghost use lib.ListN.{length};
 ghost use Rattle.answers.specs.Outcome.{done, refused, verdictOf};
 ghost use Prim.Native.Nat.{_≤_};
 ghost use Rattle.shape.specs.Shapes.{entriesOf};
 ghost use Rattle.shape.specs.Sizes.{SizesWithin};
-ghost use Rattle.chainfile.specs.Calls.{numbersOk};
-ghost use Rattle.chainfile.specs.Writing.{writeLent, writeOk, writeCall};
-ghost use Rattle.chainfile.specs.Reading.{lengthsOk, readBy, readOk, readCall};
+ghost use Rattle.fileform.specs.Calls.{numbersOk};
+ghost use Rattle.fileform.specs.Writing.{writeLent, writeOk, writeCall};
+ghost use Rattle.fileform.specs.Reading.{lengthsOk, readBy, readOk, readCall};
 use answers::Refusal;
 use answers::Verdict;
+use fileform::Read;
 use shape::Shape;
 
 pub mod body;
 pub mod contents;
 pub mod making;
-
-// What reading a chain file answers: whether it was accepted, and the shape that its table gives, all zeros where it was not.
-pub struct Read {
-    pub verdict: Verdict,
-    pub shape: Shape,
-}
 
 pub(crate) fn refused_read(r: Refusal) -> Read
     ensures { λ x. ⌜ x ≡ readBy (refused r) ⌝ }

@@ -8,8 +8,8 @@ ghost use Rattle.shape.specs.Limits.{mostAxes};
 ghost use Rattle.shape.specs.Shapes.{entriesOf};
 ghost use Rattle.shape.specs.Sizes.{SizesWithin};
 ghost use Rattle.words.specs.Placed.{placed};
-ghost use Rattle.chainfile.specs.File.{entryStart, bodyStart, fileLength, header, tableEntry, fileOf};
-ghost use Rattle.chainfile.specs.Calls.{numbersOk};
+ghost use Rattle.fileform.specs.File.{entryStart, bodyStart, fileLength, header, tableEntry, fileOf};
+ghost use Rattle.fileform.specs.Calls.{numbersOk};
 
 fn header_bytes(d: usize) -> [u8; 8]
     ensures { λ r. ⌜ r ≡ header d ⌝ }

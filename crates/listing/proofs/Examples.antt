@@ -11,9 +11,9 @@ use Rattle.lists.specs.Walks.{turning}
 use Rattle.lists.specs.Floats.{allFinite}
 use Rattle.shape.specs.Shapes.{shapeOk, sizeOk, bondOk, coreSize}
 use Rattle.words.specs.Bytes.{numberAt, numbersFrom}
-use Rattle.chainfile.specs.File.{bodyStart, fileLength}
-use Rattle.chainfile.specs.Calls.{numbersOk}
-use Rattle.chainfile.specs.Reading.{readCall, readExit, reading, readContents, readHeader, readTable, tableOk, shapeWith, shapeIn, entryOk, lengthsOk, numbersIn, readNumbers}
+use Rattle.fileform.specs.File.{bodyStart, fileLength}
+use Rattle.fileform.specs.Calls.{numbersOk}
+use Rattle.fileform.specs.Reading.{readCall, readExit, reading, readContents, readHeader, readTable, tableOk, shapeWith, shapeIn, entryOk, lengthsOk, numbersIn, readNumbers}
 use Rattle.listing.specs.Text.{digitsIn, digitsOf, field, headline, axisLine, chainText, refusedText, readText, listingOf}
 
 listed-as : List ℕ → List ℕ

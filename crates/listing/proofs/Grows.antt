@@ -3,7 +3,6 @@ use mathlib.Core.Path.{_≡_, refl, sym, ap, _∙_, subst}
 use Prim.Native.Nat.{ℕ, _+_, _*_, _≤_, _<_}
 use native.Mathlib.Numerals.{add-one}
 use native.Mathlib.Omega.{arith}
-use mathlib.Core.Bool.{true}
 use mathlib.Core.List.{List, [], _∷_, _++_}
 use lib.ListN.{length, take, drop, length-append}
 use lib.Seq.{take-at}
@@ -20,15 +19,14 @@ use Rattle.shape.specs.declared.Shape.{Shape}
 use Rattle.shape.specs.Limits.{mostAxes}
 use Rattle.shape.specs.Shapes.{leftOf, pointsOf, rightOf, coreSize, entriesOf}
 use Rattle.shape.specs.Sizes.{SizesWithin}
-use Rattle.shape.proofs.Shaped.{shaped}
 use Rattle.words.specs.Placed.{placed}
-use Rattle.words.proofs.Placing.{placed-length, placed-more, placed-none}
-use Rattle.chainfile.specs.declared.Read.{Read}
-use Rattle.chainfile.specs.File.{bodyStart}
-use Rattle.chainfile.specs.Calls.{Exit}
-use Rattle.chainfile.specs.Reading.{readCall}
-use Rattle.chainfile.proofs.Shapes.{meets-ok}
-use Rattle.chainfile.proofs.Readers.{read-fits}
+use Rattle.words.proofs.Placing.{placed-more, placed-none}
+use Rattle.fileform.specs.declared.Read.{Read}
+use Rattle.fileform.specs.File.{bodyStart}
+use Rattle.fileform.specs.Calls.{Exit}
+use Rattle.fileform.specs.Reading.{readCall}
+use Rattle.fileform.proofs.Shapes.{met}
+use Rattle.fileform.proofs.Readers.{read-fits}
 use Rattle.chainfile.proofs.Bodies.{bodies-none, bodies-more}
 use Rattle.listing.specs.Text.{digitsOf, field, space, newline, headline, axisLine, chainText, refusedText, verdictText, mostBytes, roomFor, tooLarge, readText, listingOf}
 use Rattle.listing.specs.Ends.{Put}
@@ -49,10 +47,6 @@ put-wide h p = record { ends = p .ends; few = omega (arith, p .few); room = p .r
 
 pub put-same : {a at e : ℕ} {x y l m : List ℕ} → x ≡ y → Put a at x l m e → Put a at y l m e
 put-same {a} {at} {e} {x} {y} {l} {m} g p = rw g at p
-
--- a part placed by a call
-pub put-placed : (at : ℕ) (x l m : List ℕ) → at + length x ≤ length l → m ≡ placed at x l → Put (length x) at x l m (at + length x)
-put-placed at x l m h e = let n = ap length e ∙ placed-length at x l h in record { ends = refl; few = omega arith; room = omega arith; there = e }
 
 -- ---- the parts of the text
 pub field-put : (n after : ℕ) {at e f : ℕ} {l m k : List ℕ} → at ≤ length l → Put 20 at (digitsOf n) l m e → Put 1 e (after ∷ []) m k f → Put 21 at (field n after) l k f
@@ -133,7 +127,7 @@ read-sized bytes out x e h =
     let f = read-fits bytes out (ap (λ (y : Read). y .verdict) (sym e) ∙ h) in
     let c = f .0 in
     let same : c .shape ≡ x .shape = sym (ap (λ (y : Exit Read Float). y .result .shape) (f .2)) ∙ ap (λ (y : Read). y .shape) (sym e) in
-    subst SizesWithin same (shaped (c .shape) (λ (k : ℕ). true) (meets-ok (c .shape) (f .1 .sound .meets)) .sizes)
+    subst SizesWithin same (met (c .shape) (f .1 .sound .meets) .sizes)
 
 module _ (x : Read) (l m : List ℕ) (e : ℕ) where
   pub refused-put : (r : Refusal) → x .verdict ≡ Refused r → Put 53 0 (refusedText r) l m e → Put 1735 0 (readText x) l m e

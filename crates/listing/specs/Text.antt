@@ -11,9 +11,9 @@ use Rattle.lists.specs.Lists.{pick, joined}
 use Rattle.lists.specs.Floats.{zeros}
 use Rattle.shape.specs.declared.Shape.{Shape}
 use Rattle.shape.specs.Shapes.{leftOf, pointsOf, rightOf, entriesOf}
-use Rattle.chainfile.specs.declared.Read.{Read}
-use Rattle.chainfile.specs.File.{bodyStart}
-use Rattle.chainfile.specs.Reading.{readCall}
+use Rattle.fileform.specs.declared.Read.{Read}
+use Rattle.fileform.specs.File.{bodyStart}
+use Rattle.fileform.specs.Reading.{readCall}
 
 -- ---- decimal digits, the highest first: as many as n needs, w at most
 unfoldable pub digitsIn : ℕ → ℕ → List ℕ

@@ -7,7 +7,7 @@ ghost use Rattle.lists.specs.Lists.{joined};
 ghost use Rattle.shape.specs.Limits.{mostAxes};
 ghost use Rattle.shape.specs.Sizes.{SizesWithin};
 ghost use Rattle.words.specs.Placed.{placed};
-ghost use Rattle.chainfile.specs.File.{bodyStart};
+ghost use Rattle.fileform.specs.File.{bodyStart};
 ghost use Rattle.listing.specs.Text.{digitsOf, field, headline, axisLine, chainText, refusedText, readText, listingOf};
 ghost use Rattle.listing.specs.Ends.{Put};
 
@@ -107,7 +107,7 @@ fn put_refusal(r: answers::Refusal, text: &mut [u8]) -> usize
     put_field(place, b'\n', text, c)
 }
 
-fn put_read(x: chainfile::Read, text: &mut [u8]) -> usize
+fn put_read(x: fileform::Read, text: &mut [u8]) -> usize
     requires { ⌜ (x .verdict ≡ Fits → SizesWithin (x .shape)) ⌝ }
     requires { ⌜ 1735 ≤ length (now text) ⌝ }
     ensures { λ e. ⌜ Put 1735 0 (readText x) (now (text .entry)) (now (text .exit)) e ⌝ }

@@ -4,7 +4,7 @@ use Prim.Native.Nat.{ℕ, zero, suc, _+_, _*_, _≤_, _<_}
 use native.Mathlib.Nat.{add-zero, add-suc, suc-add, mul-zero, mul-suc, not-suc-le-zero, le-of-suc-le-suc}
 use native.Mathlib.Omega.{arith}
 use mathlib.Core.List.{List, _++_}
-use lib.ListN.{length, take, drop, length-append, length-drop}
+use lib.ListN.{length, take, drop, length-drop}
 use lib.Seq.{take-take, take-add, take-all, take-at, take-append-le, drop-append-le, drop-append-add, drop-drop}
 use Rattle.lists.specs.Lists.{listed, flat}
 use Rattle.lists.proofs.Slots.{take-drop}
@@ -40,14 +40,6 @@ module _ {A : Type 0} where
 
 -- ---- m lists of w, from number j on
 module _ {A : Type 0} (w : ℕ) (f : ℕ → List A) (each : (k : ℕ) → length (f k) ≡ w) where
-  pub parts-length : (m j : ℕ) → length (flat (listed m j f)) ≡ w * m
-  unfolding listed flat
-  parts-length zero j = sym (mul-zero w)
-  parts-length (suc m) j =
-      let ih = parts-length m (suc j) in
-      let e = each j in
-      length-append (f j) (flat (listed m (suc j) f)) ∙ rw mul-suc (omega arith)
-
   pub part-at : (m j k : ℕ) → k < m → cut (w * k) w (flat (listed m j f)) ≡ f (j + k)
   unfolding listed flat
   part-at zero j k lt = absurd (not-suc-le-zero lt)

@@ -1,12 +1,12 @@
 -- Laws of a list placed within another: its length, one place after another, and all of it. Assumes nothing.
-use mathlib.Core.Path.{_≡_, refl, sym, ap, _∙_}
+use mathlib.Core.Path.{_≡_, sym, ap, _∙_}
 use Prim.Native.Nat.{ℕ, _+_, _*_, _≤_, _<_}
-use native.Mathlib.Nat.{add-zero, zero-add, add-assoc, le-antisymm}
+use native.Mathlib.Nat.{add-zero}
 use native.Mathlib.Numerals.{add-one}
 use native.Mathlib.Omega.{arith}
 use mathlib.Core.List.{List, [], _∷_, _++_, append-assoc, append-nil}
 use lib.ListN.{length, take, drop, getD, set, length-append, length-drop, take-append-drop, drop-of-length-le}
-use lib.Seq.{length-take-le, take-at, drop-at, drop-drop, take-all, take-suc, set-at, drop-cons, take-append-add, drop-append-add}
+use lib.Seq.{length-take-le, take-at, drop-drop, take-all, take-suc, set-at, drop-cons, drop-append-add}
 use Rattle.lists.specs.Lists.{joined}
 use Rattle.lists.proofs.Tables.{joined-none, joined-more, length-joined}
 use Rattle.words.specs.Placed.{placed}
@@ -80,6 +80,3 @@ module _ {A : Type 0} (m : ℕ) (f : ℕ → List A) (even : (i : ℕ) → lengt
       let j = length-joined m f even k in
       let w = even k in
       ap (placed q (f k)) e ∙ placed-more p (joined k f) l q (f k) (omega arith) (omega arith) ∙ ap (λ (y : List A). placed p y l) (sym (joined-more k f) ∙ ap (λ (i : ℕ). joined i f) (sym (add-one k)))
-
-  pub joins-length : (k : ℕ) (u : List A) → u ≡ placed p (joined k f) l → p + k * m ≤ length l → length u ≡ length l
-  joins-length k u e h = let j = length-joined m f even k in ap length e ∙ placed-length p (joined k f) l (omega arith)

@@ -1,23 +1,22 @@
 -- Loops over numbers in bytes: whether all are finite, each read, each written. Assumes nothing.
-use mathlib.Core.Path.{_≡_, refl, sym, ap, _∙_}
+use mathlib.Core.Path.{_≡_, sym, ap, _∙_}
 use Prim.Native.Nat.{ℕ, _+_, _*_, _≤_, _<_}
-use native.Mathlib.Nat.{mul-comm}
 use native.Mathlib.Omega.{arith}
 use mathlib.Core.Bool.{Bool, true, _&&_}
 use mathlib.Core.List.{List}
 use lib.ListN.{length}
 use lib.Ieee.{Float, nan, binary64, toBits}
 use Rattle.numbers.specs.Finite.{finite}
-use Rattle.lists.specs.Lists.{tab, joined}
+use Rattle.lists.specs.Lists.{joined}
 use Rattle.lists.specs.Floats.{at, allFinite}
 use Rattle.lists.proofs.Tables.{length-tab, getD-tab}
 use Rattle.lists.proofs.Floats.{finite-getD}
 use Rattle.lists.proofs.Seen.{Flag, flag-more, flag-done}
 use Rattle.lists.proofs.Over.{tabOver, tabs-done}
-use Rattle.words.specs.Bytes.{bytesOf, f64, f64At, numbersFrom, bytesOfAll}
+use Rattle.words.specs.Bytes.{f64, f64At, numbersFrom, bytesOfAll}
 use Rattle.words.specs.Placed.{placed}
 use Rattle.words.proofs.Bytes.{bytes-length}
-use Rattle.words.proofs.Placing.{joins-none, joins-more, joins-length}
+use Rattle.words.proofs.Placing.{joins-none, joins-more}
 
 -- ---- from bytes
 module _ (bytes : List ℕ) (p m : ℕ) where
@@ -63,9 +62,6 @@ module _ (list : List Float) (p : ℕ) (l : List ℕ) where
   write-more k u x v e g h d =
       d ∙ ap (λ (y : List ℕ). placed (p + 8 * k) y u) g
       ∙ joins-more 8 (λ (i : ℕ). f64 (at list i)) (λ i. f64-length (at list i)) p l k (p + 8 * k) u e (omega arith) (omega arith)
-
-  pub write-long : (k : ℕ) (u : List ℕ) → u ≡ written k → p + 8 * k ≤ length l → length u ≡ length l
-  write-long k u e h = joins-length 8 (λ (i : ℕ). f64 (at list i)) (λ i. f64-length (at list i)) p l k u e (omega arith)
 
   pub write-done : (k : ℕ) (u : List ℕ) → u ≡ written k → k ≤ length list → length list ≤ k → u ≡ placed p (bytesOfAll list) l
   unfolding bytesOfAll

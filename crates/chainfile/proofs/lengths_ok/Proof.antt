@@ -1,8 +1,5 @@
 -- `chainfile::lengths_ok` meets its contract. Assumes nothing.
 use borrow.Author.Needs.{needs}
-use Rattle.chainfile.proofs.lengths_ok.Reads as reads
-use Rattle.chainfile.proofs.lengths_ok.Lts as lts
-use Rattle.shape.proofs.Shape.entries.Reads as entries-reads
 use Rattle.chainfile.proofs.Accepts.{lengths-found}
 use Rattle.chainfile.proofs.lengths_ok.Statement.{statement}
 use Rattle.chainfile.proofs.lengths_ok.Tie as tie

@@ -1,11 +1,5 @@
 -- `chainfile::read_chain` meets its contract. Assumes nothing.
 use borrow.Author.Needs.{needs}
-use Rattle.chainfile.proofs.read_chain.Reads as reads
-use Rattle.chainfile.proofs.read_chain.Lts as lts
-use Rattle.chainfile.proofs.body.take_numbers.Reads as take-numbers-reads
-use Rattle.chainfile.proofs.read_as.Reads as read-as-reads
-use Rattle.chainfile.proofs.read_ok.Reads as read-ok-reads
-use Rattle.chainfile.proofs.refused_read.Reads as refused-read-reads
 use Rattle.chainfile.proofs.Accepts.{call-refused, call-asks, call-reads}
 use Rattle.chainfile.proofs.read_chain.Statement.{statement}
 use Rattle.chainfile.proofs.read_chain.Tie as tie

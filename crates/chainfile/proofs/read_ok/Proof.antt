@@ -1,12 +1,5 @@
 -- `chainfile::read_ok` meets its contract. Assumes nothing.
 use borrow.Author.Needs.{needs}
-use Rattle.chainfile.proofs.read_ok.Reads as reads
-use Rattle.chainfile.proofs.read_ok.Lts as lts
-use Rattle.chainfile.proofs.body.numbers_ok.Reads as numbers-ok-reads
-use Rattle.chainfile.proofs.contents.read_contents.Reads as read-contents-reads
-use Rattle.chainfile.proofs.lengths_ok.Reads as lengths-ok-reads
-use Rattle.chainfile.proofs.read_as.Reads as read-as-reads
-use Rattle.chainfile.proofs.refused_read.Reads as refused-read-reads
 use Rattle.chainfile.proofs.Accepts.{contents-refused, found-sized, lengths-refused, found-long, numbers-refused, all-passed}
 use Rattle.chainfile.proofs.read_ok.Statement.{statement}
 use Rattle.chainfile.proofs.read_ok.Tie as tie

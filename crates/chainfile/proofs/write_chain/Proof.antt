@@ -1,9 +1,5 @@
 -- `chainfile::write_chain` meets its contract. Assumes nothing.
 use borrow.Author.Needs.{needs}
-use Rattle.chainfile.proofs.write_chain.Reads as reads
-use Rattle.chainfile.proofs.write_chain.Lts as lts
-use Rattle.chainfile.proofs.making.put_file.Reads as put-file-reads
-use Rattle.chainfile.proofs.write_ok.Reads as write-ok-reads
 use Rattle.chainfile.proofs.Makes.{write-stops, write-asks, write-made}
 use Rattle.chainfile.proofs.write_chain.Statement.{statement}
 use Rattle.chainfile.proofs.write_chain.Tie as tie

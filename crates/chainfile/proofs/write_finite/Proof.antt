@@ -1,8 +1,5 @@
 -- `chainfile::write_finite` meets its contract. Assumes nothing.
 use borrow.Author.Needs.{needs}
-use Rattle.chainfile.proofs.write_finite.Reads as reads
-use Rattle.chainfile.proofs.write_finite.Lts as lts
-use Rattle.shape.proofs.Shape.first_not_finite_core.Reads as first-not-finite-core-reads
 use Rattle.shape.specs.Cores.{coreAt}
 use Rattle.chainfile.proofs.Bodies.{cores-found}
 use Rattle.chainfile.proofs.write_finite.Statement.{statement}

@@ -1,10 +1,7 @@
 -- `chainfile::write_lent` meets its contract. Assumes nothing.
 use borrow.Author.Needs.{needs}
-use Rattle.chainfile.proofs.write_lent.Reads as reads
-use Rattle.chainfile.proofs.write_lent.Lts as lts
-use Rattle.shape.proofs.Shape.entries.Reads as entries-reads
 use Rattle.lists.proofs.Asked.{lengths-asked}
-use Rattle.chainfile.specs.Writing.{writeLent}
+use Rattle.fileform.specs.Writing.{writeLent}
 use Rattle.chainfile.proofs.Accepts.{lengths-found, file-counts}
 use Rattle.chainfile.proofs.write_lent.Statement.{statement}
 use Rattle.chainfile.proofs.write_lent.Tie as tie

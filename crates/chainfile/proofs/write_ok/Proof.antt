@@ -1,13 +1,8 @@
 -- `chainfile::write_ok` meets its contract. Assumes nothing.
 use borrow.Author.Needs.{needs}
-use Rattle.chainfile.proofs.write_ok.Reads as reads
-use Rattle.chainfile.proofs.write_ok.Lts as lts
-use Rattle.chainfile.proofs.write_finite.Reads as write-finite-reads
-use Rattle.chainfile.proofs.write_lent.Reads as write-lent-reads
-use Rattle.shape.proofs.Shape.check.Reads as check-reads
 use Rattle.answers.proofs.Checks.{then-stops, then-passes}
 use Rattle.shape.proofs.Shaped.{fits-sizes}
-use Rattle.chainfile.specs.Writing.{writeOk}
+use Rattle.fileform.specs.Writing.{writeOk}
 use Rattle.chainfile.proofs.Makes.{lengths-passed}
 use Rattle.chainfile.proofs.write_ok.Statement.{statement}
 use Rattle.chainfile.proofs.write_ok.Tie as tie

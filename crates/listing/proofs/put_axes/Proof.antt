@@ -1,8 +1,4 @@
 -- `listing::put_axes` meets its contract. Assumes nothing.
-use Rattle.listing.proofs.put_axes.Reads as reads
-use Rattle.listing.proofs.put_axes.Lts as lts
-use Rattle.listing.proofs.put_axis.Reads as put-axis-reads
-use Rattle.shape.proofs.Shape.core_size.Reads as core-size-reads
 use borrow.Author.Needs.{needs}
 use native.Mathlib.Omega.{arith}
 use Prim.Native.Nat.{_-_}

@@ -1,8 +1,5 @@
 -- `listing::put_axis` meets its contract. Assumes nothing.
 use borrow.Author.Needs.{needs}
-use Rattle.listing.proofs.put_axis.Reads as reads
-use Rattle.listing.proofs.put_axis.Lts as lts
-use Rattle.listing.proofs.put_field.Reads as put-field-reads
 use native.Mathlib.Omega.{arith}
 use Rattle.listing.proofs.Grows.{axis-put}
 use Rattle.listing.proofs.put_axis.Statement.{statement}

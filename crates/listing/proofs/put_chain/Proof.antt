@@ -1,9 +1,5 @@
 -- `listing::put_chain` meets its contract. Assumes nothing.
 use borrow.Author.Needs.{needs}
-use Rattle.listing.proofs.put_chain.Reads as reads
-use Rattle.listing.proofs.put_chain.Lts as lts
-use Rattle.listing.proofs.put_axes.Reads as put-axes-reads
-use Rattle.listing.proofs.put_headline.Reads as put-headline-reads
 use native.Mathlib.Omega.{arith}
 use Rattle.listing.proofs.Grows.{chain-put}
 use Rattle.listing.proofs.put_chain.Statement.{statement}

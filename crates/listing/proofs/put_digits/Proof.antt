@@ -1,9 +1,5 @@
 -- `listing::put_digits` meets its contract. Assumes nothing.
 use borrow.Author.Needs.{needs}
-use Rattle.listing.proofs.put_digits.Reads as reads
-use Rattle.listing.proofs.put_digits.Lts as lts
-use Rattle.io.proofs.decimal.Reads as decimal-reads
-use Rattle.listing.proofs.put_word.Reads as put-word-reads
 use native.Mathlib.Omega.{arith}
 use mathlib.Core.Path.{_∙_}
 use Rattle.listing.proofs.Digits.{digits-of, few-digits}

@@ -1,9 +1,5 @@
 -- `listing::put_field` meets its contract. Assumes nothing.
 use borrow.Author.Needs.{needs}
-use Rattle.listing.proofs.put_field.Reads as reads
-use Rattle.listing.proofs.put_field.Lts as lts
-use Rattle.listing.proofs.put_digits.Reads as put-digits-reads
-use Rattle.listing.proofs.put_word.Reads as put-word-reads
 use native.Mathlib.Omega.{arith}
 use Rattle.listing.proofs.Grows.{field-put}
 use Rattle.listing.proofs.put_field.Statement.{statement}

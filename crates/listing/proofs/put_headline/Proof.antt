@@ -1,11 +1,5 @@
 -- `listing::put_headline` meets its contract. Assumes nothing.
 use borrow.Author.Needs.{needs}
-use Rattle.listing.proofs.put_headline.Reads as reads
-use Rattle.listing.proofs.put_headline.Lts as lts
-use Rattle.listing.proofs.put_digits.Reads as put-digits-reads
-use Rattle.listing.proofs.put_field.Reads as put-field-reads
-use Rattle.listing.proofs.put_word.Reads as put-word-reads
-use Rattle.shape.proofs.Shape.entries.Reads as entries-reads
 use native.Mathlib.Omega.{arith}
 use Rattle.listing.proofs.Grows.{headline-put}
 use Rattle.listing.proofs.put_headline.Statement.{statement}

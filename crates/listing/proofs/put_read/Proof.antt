@@ -1,9 +1,5 @@
 -- `listing::put_read` meets its contract. Assumes nothing.
 use borrow.Author.Needs.{needs}
-use Rattle.listing.proofs.put_read.Reads as reads
-use Rattle.listing.proofs.put_read.Lts as lts
-use Rattle.listing.proofs.put_chain.Reads as put-chain-reads
-use Rattle.listing.proofs.put_refusal.Reads as put-refusal-reads
 use Rattle.listing.proofs.Grows.{refused-put, accepted-put}
 use Rattle.listing.proofs.put_read.Statement.{statement}
 use Rattle.listing.proofs.put_read.Tie as tie

@@ -1,12 +1,5 @@
 -- `listing::put_refusal` meets its contract. Assumes nothing.
 use borrow.Author.Needs.{needs}
-use Rattle.listing.proofs.put_refusal.Reads as reads
-use Rattle.listing.proofs.put_refusal.Lts as lts
-use Rattle.answers.proofs.number.Reads as number-reads
-use Rattle.answers.proofs.place.Reads as place-reads
-use Rattle.listing.proofs.put_digits.Reads as put-digits-reads
-use Rattle.listing.proofs.put_field.Reads as put-field-reads
-use Rattle.listing.proofs.put_word.Reads as put-word-reads
 use native.Mathlib.Omega.{arith}
 use Rattle.listing.proofs.Grows.{refusal-put}
 use Rattle.listing.proofs.put_refusal.Statement.{statement}

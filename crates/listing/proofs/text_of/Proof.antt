@@ -1,10 +1,5 @@
 -- `listing::text_of` meets its contract. Assumes nothing.
 use borrow.Author.Needs.{needs}
-use Rattle.listing.proofs.text_of.Reads as reads
-use Rattle.listing.proofs.text_of.Lts as lts
-use Rattle.chainfile.proofs.read_chain.Reads as read-chain-reads
-use Rattle.listing.proofs.put_read.Reads as put-read-reads
-use Rattle.listing.proofs.put_word.Reads as put-word-reads
 use Rattle.listing.proofs.Grows.{read-sized, large-listed, read-listed}
 use Rattle.listing.proofs.text_of.Statement.{statement}
 use Rattle.listing.proofs.text_of.Tie as tie

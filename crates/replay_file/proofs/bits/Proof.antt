@@ -1,7 +1,5 @@
 -- `replay_file::bits` meets its contract. Assumes nothing.
 use borrow.Author.Needs.{needs}
-use Rattle.replay_file.proofs.bits.Reads as reads
-use Rattle.replay_file.proofs.bits.Lts as lts
 use Rattle.numbers.proofs.Patterns.{no-nan}
 use Rattle.replay_file.proofs.bits.Statement.{statement}
 use Rattle.replay_file.proofs.bits.Tie as tie

@@ -1,6 +1,4 @@
 -- `replay_file::clear` meets its contract. Assumes nothing.
-use Rattle.replay_file.proofs.clear.Reads as reads
-use Rattle.replay_file.proofs.clear.Lts as lts
 use borrow.Author.Needs.{needs}
 use Prim.Native.Nat.{_-_}
 use mathlib.Core.Path.{_≡_}

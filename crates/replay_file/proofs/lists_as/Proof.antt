@@ -1,10 +1,5 @@
 -- `replay_file::lists_as` meets its contract. Assumes nothing.
 use borrow.Author.Needs.{needs}
-use Rattle.replay_file.proofs.lists_as.Reads as reads
-use Rattle.replay_file.proofs.lists_as.Lts as lts
-use Rattle.listing.proofs.text_of.Reads as text-of-reads
-use Rattle.replay_file.proofs.bytes.Reads as bytes-reads
-use Rattle.replay_file.proofs.same_bytes.Reads as same-bytes-reads
 use Rattle.listing.proofs.Grows.{text-counts}
 use Rattle.replay_file.proofs.lists_as.Statement.{statement}
 use Rattle.replay_file.proofs.lists_as.Tie as tie

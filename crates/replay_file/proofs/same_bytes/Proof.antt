@@ -1,7 +1,4 @@
 -- `replay_file::same_bytes` meets its contract. Assumes nothing.
-use Rattle.replay_file.proofs.same_bytes.Reads as reads
-use Rattle.replay_file.proofs.same_bytes.Lts as lts
-use Rattle.replay_file.proofs.bytes.Reads as bytes-reads
 use borrow.Author.Needs.{needs}
 use Prim.Native.Nat.{_≤_, _-_}
 use Rattle.replay_file.proofs.same_bytes.Statement.{statement}

@@ -1,8 +1,4 @@
 -- `replay_file::same_numbers` meets its contract. Assumes nothing.
-use Rattle.replay_file.proofs.same_numbers.Reads as reads
-use Rattle.replay_file.proofs.same_numbers.Lts as lts
-use Rattle.replay.proofs.word.Reads as word-reads
-use Rattle.replay_file.proofs.bits.Reads as bits-reads
 use borrow.Author.Needs.{needs}
 use Prim.Native.Nat.{_≤_, _-_}
 use lib.ListN.{length}

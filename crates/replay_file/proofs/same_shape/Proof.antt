@@ -1,6 +1,4 @@
 -- `replay_file::same_shape` meets its contract. Assumes nothing.
-use Rattle.replay_file.proofs.same_shape.Reads as reads
-use Rattle.replay_file.proofs.same_shape.Lts as lts
 use borrow.Author.Needs.{needs}
 use Prim.Native.Nat.{_≤_, _-_}
 use Rattle.replay_file.proofs.same_shape.Statement.{statement}

@@ -1,8 +1,4 @@
 -- `ttlist::given` meets its contract. Assumes nothing.
-use Rattle.ttlist.proofs.given.Reads as reads
-use Rattle.ttlist.proofs.given.Lts as lts
-use Rattle.io.proofs.count.Reads as count-reads
-use Rattle.libc.proofs.read.Reads as read-reads
 use borrow.Author.Needs.{needs}
 use Prim.Native.Nat.{_≤_, _-_}
 use mathlib.Core.Path.{_≡_}

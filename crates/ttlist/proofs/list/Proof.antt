@@ -1,10 +1,5 @@
 -- `ttlist::list` meets its contract. Assumes nothing.
 use borrow.Author.Needs.{needs}
-use Rattle.ttlist.proofs.list.Reads as reads
-use Rattle.ttlist.proofs.list.Lts as lts
-use Rattle.io.proofs.write_all.Reads as write-all-reads
-use Rattle.listing.proofs.text_of.Reads as text-of-reads
-use Rattle.os.proofs.fail.Reads as fail-reads
 use Rattle.listing.proofs.Grows.{text-counts}
 use Rattle.ttlist.proofs.list.Statement.{statement}
 use Rattle.ttlist.proofs.list.Tie as tie

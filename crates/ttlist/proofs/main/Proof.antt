@@ -1,10 +1,5 @@
 -- `ttlist::main` meets its contract. Assumes nothing.
 use borrow.Author.Needs.{needs}
-use Rattle.ttlist.proofs.main.Reads as reads
-use Rattle.ttlist.proofs.main.Lts as lts
-use Rattle.os.proofs.fail.Reads as fail-reads
-use Rattle.ttlist.proofs.given.Reads as given-reads
-use Rattle.ttlist.proofs.list.Reads as list-reads
 use Rattle.lists.proofs.Parts.{part-count}
 use Rattle.ttlist.proofs.main.Statement.{statement}
 use Rattle.ttlist.proofs.main.Tie as tie

@@ -1,7 +1,4 @@
 -- `words::all_finite` meets its contract. Assumes nothing.
-use Rattle.words.proofs.all_finite.Reads as reads
-use Rattle.words.proofs.all_finite.Lts as lts
-use Rattle.words.proofs.finite_at.Reads as finite-at-reads
 use borrow.Author.Needs.{needs}
 use Prim.Native.Nat.{_≤_, _-_}
 use Rattle.lists.proofs.Seen.{Flag, flag-none}

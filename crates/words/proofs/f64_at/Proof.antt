@@ -1,8 +1,5 @@
 -- `words::f64_at` meets its contract. Assumes nothing.
 use borrow.Author.Needs.{needs}
-use Rattle.words.proofs.f64_at.Reads as reads
-use Rattle.words.proofs.f64_at.Lts as lts
-use Rattle.words.proofs.u64_at.Reads as u64-at-reads
 use mathlib.Core.Path.{ap, _∙_}
 use Prim.Native.Nat.{ℕ}
 use lib.Ieee.{binary64, ofBits}

@@ -1,8 +1,5 @@
 -- `words::f64_bytes` meets its contract. Assumes nothing.
 use borrow.Author.Needs.{needs}
-use Rattle.words.proofs.f64_bytes.Reads as reads
-use Rattle.words.proofs.f64_bytes.Lts as lts
-use Rattle.words.proofs.u64_bytes.Reads as u64-bytes-reads
 use Rattle.words.proofs.Finite.{finite-known}
 use Rattle.words.proofs.f64_bytes.Statement.{statement}
 use Rattle.words.proofs.f64_bytes.Tie as tie

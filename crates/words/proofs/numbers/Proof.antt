@@ -1,7 +1,4 @@
 -- `words::numbers` meets its contract. Assumes nothing.
-use Rattle.words.proofs.numbers.Reads as reads
-use Rattle.words.proofs.numbers.Lts as lts
-use Rattle.words.proofs.f64_at.Reads as f64-at-reads
 use borrow.Author.Needs.{needs}
 use Prim.Native.Nat.{ℕ, _≤_, _-_, _+_, _*_}
 use mathlib.Core.Path.{_≡_}

@@ -1,6 +1,4 @@
 -- `words::put` meets its contract. Assumes nothing.
-use Rattle.words.proofs.put.Reads as reads
-use Rattle.words.proofs.put.Lts as lts
 use borrow.Author.Needs.{needs}
 use Prim.Native.Nat.{_≤_, _-_}
 use mathlib.Core.Path.{_≡_}

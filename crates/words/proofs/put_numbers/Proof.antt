@@ -1,8 +1,4 @@
 -- `words::put_numbers` meets its contract. Assumes nothing.
-use Rattle.words.proofs.put_numbers.Reads as reads
-use Rattle.words.proofs.put_numbers.Lts as lts
-use Rattle.words.proofs.f64_bytes.Reads as f64-bytes-reads
-use Rattle.words.proofs.put.Reads as put-reads
 use borrow.Author.Needs.{needs}
 use Prim.Native.Nat.{_≤_, _-_}
 use mathlib.Core.Path.{_≡_}

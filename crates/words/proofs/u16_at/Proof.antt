@@ -1,8 +1,5 @@
 -- `words::u16_at` meets its contract. Assumes nothing.
 use borrow.Author.Needs.{needs}
-use Rattle.words.proofs.u16_at.Reads as reads
-use Rattle.words.proofs.u16_at.Lts as lts
-use Rattle.words.proofs.wide.Reads as wide-reads
 use Rattle.words.proofs.Bytes.{two-at}
 use Rattle.words.proofs.u16_at.Statement.{statement}
 use Rattle.words.proofs.u16_at.Tie as tie

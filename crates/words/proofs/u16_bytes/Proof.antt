@@ -1,8 +1,5 @@
 -- `words::u16_bytes` meets its contract. Assumes nothing.
 use borrow.Author.Needs.{needs}
-use Rattle.words.proofs.u16_bytes.Reads as reads
-use Rattle.words.proofs.u16_bytes.Lts as lts
-use Rattle.words.proofs.low.Reads as low-reads
 use Rattle.words.proofs.Bytes.{two-bytes}
 use Rattle.words.proofs.u16_bytes.Statement.{statement}
 use Rattle.words.proofs.u16_bytes.Tie as tie

@@ -1,8 +1,5 @@
 -- `words::u32_at` meets its contract. Assumes nothing.
 use borrow.Author.Needs.{needs}
-use Rattle.words.proofs.u32_at.Reads as reads
-use Rattle.words.proofs.u32_at.Lts as lts
-use Rattle.words.proofs.u16_at.Reads as u16-at-reads
 use Rattle.words.proofs.Bytes.{four-at}
 use Rattle.words.proofs.u32_at.Statement.{statement}
 use Rattle.words.proofs.u32_at.Tie as tie

@@ -1,8 +1,5 @@
 -- `words::u32_bytes` meets its contract. Assumes nothing.
 use borrow.Author.Needs.{needs}
-use Rattle.words.proofs.u32_bytes.Reads as reads
-use Rattle.words.proofs.u32_bytes.Lts as lts
-use Rattle.words.proofs.low.Reads as low-reads
 use Rattle.words.proofs.Bytes.{four-bytes}
 use Rattle.words.proofs.u32_bytes.Statement.{statement}
 use Rattle.words.proofs.u32_bytes.Tie as tie

@@ -1,8 +1,5 @@
 -- `words::u64_at` meets its contract. Assumes nothing.
 use borrow.Author.Needs.{needs}
-use Rattle.words.proofs.u64_at.Reads as reads
-use Rattle.words.proofs.u64_at.Lts as lts
-use Rattle.words.proofs.u32_at.Reads as u32-at-reads
 use Rattle.words.proofs.Bytes.{eight-at}
 use Rattle.words.proofs.u64_at.Statement.{statement}
 use Rattle.words.proofs.u64_at.Tie as tie

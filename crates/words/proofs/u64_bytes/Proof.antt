@@ -1,8 +1,5 @@
 -- `words::u64_bytes` meets its contract. Assumes nothing.
 use borrow.Author.Needs.{needs}
-use Rattle.words.proofs.u64_bytes.Reads as reads
-use Rattle.words.proofs.u64_bytes.Lts as lts
-use Rattle.words.proofs.u32_bytes.Reads as u32-bytes-reads
 use Rattle.words.proofs.Bytes.{eight-bytes}
 use Rattle.words.proofs.u64_bytes.Statement.{statement}
 use Rattle.words.proofs.u64_bytes.Tie as tie

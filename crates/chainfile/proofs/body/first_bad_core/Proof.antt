@@ -1,8 +1,4 @@
 -- `chainfile::body::first_bad_core` meets its contract. Assumes nothing.
-use Rattle.chainfile.proofs.body.first_bad_core.Reads as reads
-use Rattle.chainfile.proofs.body.first_bad_core.Lts as lts
-use Rattle.shape.proofs.Shape.core_size.Reads as core-size-reads
-use Rattle.words.proofs.all_finite.Reads as all-finite-reads
 use borrow.Author.Needs.{needs}
 use Prim.Native.Nat.{ℕ, _≤_, _-_}
 use mathlib.Core.Path.{_≡_}
@@ -10,8 +6,8 @@ use Rattle.lists.specs.Slots.{slot}
 use Rattle.lists.specs.Floats.{allFinite}
 use Rattle.lists.proofs.Demands.{Passed, passing}
 use Rattle.shape.specs.Shapes.{coreSize}
-use Rattle.chainfile.specs.File.{bodyStart}
-use Rattle.chainfile.specs.Reading.{numbersIn}
+use Rattle.fileform.specs.File.{bodyStart}
+use Rattle.fileform.specs.Reading.{numbersIn}
 use Rattle.chainfile.proofs.Bodies.{bodywise}
 use Rattle.chainfile.proofs.body.first_bad_core.Statement.{statement}
 use Rattle.chainfile.proofs.body.first_bad_core.Tie as tie

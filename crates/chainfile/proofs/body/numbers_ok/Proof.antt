@@ -1,8 +1,5 @@
 -- `chainfile::body::numbers_ok` meets its contract. Assumes nothing.
 use borrow.Author.Needs.{needs}
-use Rattle.chainfile.proofs.body.numbers_ok.Reads as reads
-use Rattle.chainfile.proofs.body.numbers_ok.Lts as lts
-use Rattle.chainfile.proofs.body.first_bad_core.Reads as first-bad-core-reads
 use Rattle.chainfile.proofs.Bodies.{cores-found}
 use Rattle.chainfile.proofs.body.numbers_ok.Statement.{statement}
 use Rattle.chainfile.proofs.body.numbers_ok.Tie as tie

@@ -1,10 +1,5 @@
 -- `chainfile::body::take_numbers` meets its contract. Assumes nothing.
 use borrow.Author.Needs.{needs}
-use Rattle.chainfile.proofs.body.take_numbers.Reads as reads
-use Rattle.chainfile.proofs.body.take_numbers.Lts as lts
-use Rattle.lists.proofs.fill.Reads as fill-reads
-use Rattle.shape.proofs.Shape.entries.Reads as entries-reads
-use Rattle.words.proofs.numbers.Reads as numbers-reads
 use Rattle.chainfile.proofs.Bodies.{numbers-ask, numbers-taken}
 use Rattle.chainfile.proofs.body.take_numbers.Statement.{statement}
 use Rattle.chainfile.proofs.body.take_numbers.Tie as tie

@@ -1,7 +1,5 @@
 -- `chainfile::contents::body_size` meets its contract. Assumes nothing.
 use borrow.Author.Needs.{needs}
-use Rattle.chainfile.proofs.contents.body_size.Reads as reads
-use Rattle.chainfile.proofs.contents.body_size.Lts as lts
 use Rattle.chainfile.proofs.Headers.{bodies}
 use Rattle.chainfile.proofs.contents.body_size.Statement.{statement}
 use Rattle.chainfile.proofs.contents.body_size.Tie as tie

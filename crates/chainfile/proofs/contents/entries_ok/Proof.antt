@@ -1,8 +1,4 @@
 -- `chainfile::contents::entries_ok` meets its contract. Assumes nothing.
-use Rattle.chainfile.proofs.contents.entries_ok.Reads as reads
-use Rattle.chainfile.proofs.contents.entries_ok.Lts as lts
-use Rattle.chainfile.proofs.contents.body_size.Reads as body-size-reads
-use Rattle.chainfile.proofs.contents.entry_ok.Reads as entry-ok-reads
 use borrow.Author.Needs.{needs}
 use Prim.Native.Nat.{_-_}
 use Rattle.chainfile.proofs.Tables.{AtEntry, entries-none, entries-stop, entry-sized, entries-more, entries-done, start-fits}

@@ -1,11 +1,5 @@
 -- `chainfile::contents::read_contents` meets its contract. Assumes nothing.
 use borrow.Author.Needs.{needs}
-use Rattle.chainfile.proofs.contents.read_contents.Reads as reads
-use Rattle.chainfile.proofs.contents.read_contents.Lts as lts
-use Rattle.chainfile.proofs.contents.header_ok.Reads as header-ok-reads
-use Rattle.chainfile.proofs.contents.read_table.Reads as read-table-reads
-use Rattle.chainfile.proofs.refused_read.Reads as refused-read-reads
-use Rattle.words.proofs.u16_at.Reads as u16-at-reads
 use native.Mathlib.Omega.{arith}
 use Rattle.chainfile.proofs.Tables.{contents-stop, header-long, header-few, contents-read}
 use Rattle.chainfile.proofs.contents.read_contents.Statement.{statement}

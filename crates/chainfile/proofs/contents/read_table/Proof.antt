@@ -1,11 +1,5 @@
 -- `chainfile::contents::read_table` meets its contract. Assumes nothing.
 use borrow.Author.Needs.{needs}
-use Rattle.chainfile.proofs.contents.read_table.Reads as reads
-use Rattle.chainfile.proofs.contents.read_table.Lts as lts
-use Rattle.chainfile.proofs.contents.shape_in.Reads as shape-in-reads
-use Rattle.chainfile.proofs.contents.table_ok.Reads as table-ok-reads
-use Rattle.chainfile.proofs.read_as.Reads as read-as-reads
-use Rattle.chainfile.proofs.refused_read.Reads as refused-read-reads
 use Rattle.chainfile.proofs.Tables.{table-asks, tabled}
 use Rattle.chainfile.proofs.contents.read_table.Statement.{statement}
 use Rattle.chainfile.proofs.contents.read_table.Tie as tie

@@ -1,8 +1,5 @@
 -- `chainfile::contents::shape_in` meets its contract. Assumes nothing.
 use borrow.Author.Needs.{needs}
-use Rattle.chainfile.proofs.contents.shape_in.Reads as reads
-use Rattle.chainfile.proofs.contents.shape_in.Lts as lts
-use Rattle.chainfile.proofs.contents.sizes_at.Reads as sizes-at-reads
 use Rattle.chainfile.proofs.Tables.{shape-made}
 use Rattle.chainfile.proofs.contents.shape_in.Statement.{statement}
 use Rattle.chainfile.proofs.contents.shape_in.Tie as tie

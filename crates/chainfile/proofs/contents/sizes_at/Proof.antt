@@ -1,7 +1,4 @@
 -- `chainfile::contents::sizes_at` meets its contract. Assumes nothing.
-use Rattle.chainfile.proofs.contents.sizes_at.Reads as reads
-use Rattle.chainfile.proofs.contents.sizes_at.Lts as lts
-use Rattle.words.proofs.u16_at.Reads as u16-at-reads
 use borrow.Author.Needs.{needs}
 use Prim.Native.Nat.{ℕ, _≤_, _-_, _+_}
 use mathlib.Core.Path.{_≡_}
@@ -10,7 +7,7 @@ use Rattle.lists.specs.Lists.{tab}
 use Rattle.lists.specs.Slots.{fit}
 use Rattle.shape.specs.Limits.{mostAxes}
 use Rattle.words.specs.Bytes.{u16At}
-use Rattle.chainfile.specs.File.{entryStart}
+use Rattle.fileform.specs.File.{entryStart}
 use Rattle.chainfile.proofs.Tables.{fit-none, fit-more, fit-done}
 use Rattle.chainfile.proofs.contents.sizes_at.Statement.{statement}
 use Rattle.chainfile.proofs.contents.sizes_at.Tie as tie

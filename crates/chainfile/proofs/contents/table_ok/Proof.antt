@@ -1,11 +1,7 @@
 -- `chainfile::contents::table_ok` meets its contract. Assumes nothing.
 use borrow.Author.Needs.{needs}
-use Rattle.chainfile.proofs.contents.table_ok.Reads as reads
-use Rattle.chainfile.proofs.contents.table_ok.Lts as lts
-use Rattle.chainfile.proofs.contents.entries_ok.Reads as entries-ok-reads
-use Rattle.shape.proofs.Shape.check.Reads as check-reads
 use Rattle.answers.proofs.Checks.{then-stops, then-passes}
-use Rattle.chainfile.specs.Reading.{tableOk}
+use Rattle.fileform.specs.Reading.{tableOk}
 use Rattle.chainfile.proofs.contents.table_ok.Statement.{statement}
 use Rattle.chainfile.proofs.contents.table_ok.Tie as tie
 

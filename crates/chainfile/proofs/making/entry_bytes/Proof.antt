@@ -1,9 +1,5 @@
 -- `chainfile::making::entry_bytes` meets its contract. Assumes nothing.
 use borrow.Author.Needs.{needs}
-use Rattle.chainfile.proofs.making.entry_bytes.Reads as reads
-use Rattle.chainfile.proofs.making.entry_bytes.Lts as lts
-use Rattle.words.proofs.u16_bytes.Reads as u16-bytes-reads
-use Rattle.words.proofs.u32_bytes.Reads as u32-bytes-reads
 use Rattle.chainfile.proofs.Makes.{entry-made}
 use Rattle.chainfile.proofs.making.entry_bytes.Statement.{statement}
 use Rattle.chainfile.proofs.making.entry_bytes.Tie as tie

@@ -1,8 +1,5 @@
 -- `chainfile::making::header_bytes` meets its contract. Assumes nothing.
 use borrow.Author.Needs.{needs}
-use Rattle.chainfile.proofs.making.header_bytes.Reads as reads
-use Rattle.chainfile.proofs.making.header_bytes.Lts as lts
-use Rattle.words.proofs.u16_bytes.Reads as u16-bytes-reads
 use Rattle.chainfile.proofs.Makes.{header-made}
 use Rattle.chainfile.proofs.making.header_bytes.Statement.{statement}
 use Rattle.chainfile.proofs.making.header_bytes.Tie as tie

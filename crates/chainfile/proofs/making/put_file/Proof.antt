@@ -1,11 +1,5 @@
 -- `chainfile::making::put_file` meets its contract. Assumes nothing.
 use borrow.Author.Needs.{needs}
-use Rattle.chainfile.proofs.making.put_file.Reads as reads
-use Rattle.chainfile.proofs.making.put_file.Lts as lts
-use Rattle.chainfile.proofs.making.header_bytes.Reads as header-bytes-reads
-use Rattle.chainfile.proofs.making.put_table.Reads as put-table-reads
-use Rattle.words.proofs.put.Reads as put-reads
-use Rattle.words.proofs.put_numbers.Reads as put-numbers-reads
 use Rattle.chainfile.proofs.Makes.{header-room, table-room, bodies-room, file-made}
 use Rattle.chainfile.proofs.making.put_file.Statement.{statement}
 use Rattle.chainfile.proofs.making.put_file.Tie as tie

@@ -1,17 +1,12 @@
 -- `chainfile::making::put_table` meets its contract. Assumes nothing.
-use Rattle.chainfile.proofs.making.put_table.Reads as reads
-use Rattle.chainfile.proofs.making.put_table.Lts as lts
-use Rattle.chainfile.proofs.making.entry_bytes.Reads as entry-bytes-reads
-use Rattle.shape.proofs.Shape.core_size.Reads as core-size-reads
-use Rattle.words.proofs.put.Reads as put-reads
 use borrow.Author.Needs.{needs}
 use native.Mathlib.Omega.{arith}
 use Prim.Native.Nat.{_≤_, _-_}
 use mathlib.Core.Path.{_≡_, ap, _∙_}
 use mathlib.Core.List.{[]}
 use lib.ListN.{length}
-use Rattle.chainfile.specs.File.{bodyStart}
-use Rattle.chainfile.proofs.Fields.{entry-length}
+use Rattle.fileform.specs.File.{bodyStart}
+use Rattle.fileform.proofs.Fields.{entry-length}
 use Rattle.chainfile.proofs.Bodies.{bodies-more, bodywise}
 use Rattle.chainfile.proofs.Makes.{entered, table-none, table-more, table-done}
 use Rattle.chainfile.proofs.making.put_table.Statement.{statement}

@@ -15,12 +15,12 @@ use Rattle.lists.specs.Walks.{turning}
 use Rattle.lists.specs.Floats.{allFinite}
 use Rattle.shape.specs.declared.Shape.{Shape}
 use Rattle.shape.specs.Shapes.{shapeOk, sizeOk, bondOk, coreSize}
-use Rattle.chainfile.specs.declared.Read.{Read}
+use Rattle.fileform.specs.declared.Read.{Read}
 use Rattle.words.specs.Bytes.{bytesOf, numberAt, numbersFrom}
-use Rattle.chainfile.specs.File.{fileOf, header, tableEntry, bodyStart, fileLength}
-use Rattle.chainfile.specs.Calls.{Exit, numbersOk}
-use Rattle.chainfile.specs.Writing.{writeCall, writeExit, writing, writeOk, writeLent}
-use Rattle.chainfile.specs.Reading.{readCall, readExit, reading, readContents, readHeader, readTable, tableOk, shapeWith, shapeIn, entryOk, lengthsOk, numbersIn, readNumbers, trimmed}
+use Rattle.fileform.specs.File.{fileOf, header, tableEntry, bodyStart, fileLength}
+use Rattle.fileform.specs.Calls.{Exit, numbersOk}
+use Rattle.fileform.specs.Writing.{writeCall, writeExit, writing, writeOk, writeLent}
+use Rattle.fileform.specs.Reading.{readCall, readExit, reading, readContents, readHeader, readTable, tableOk, shapeWith, shapeIn, entryOk, lengthsOk, numbersIn, readNumbers, trimmed}
 
 -- ---- the two calls, with so much room lent
 writes : Shape → List Float → ℕ → Exit Verdict ℕ

@@ -1,10 +1,10 @@
 -- Laws of shapes: what an accepted one meets, and that what stands in the places from d on decides nothing. Assumes nothing.
 use mathlib.Core.Path.{_≡_, refl, sym, ap, _∙_}
-use Prim.Native.Nat.{ℕ, zero, suc, _*_, _≤_, _<_, zero-le}
-use native.Mathlib.Nat.{le-refl, mul-le-mul}
+use Prim.Native.Nat.{ℕ, zero, suc, _≤_, _<_, zero-le}
+use native.Mathlib.Nat.{le-refl}
 use native.Mathlib.Omega.{arith}
 use mathlib.Core.Bool.{Bool, true, false, _&&_}
-use lib.Dec.{leb, ltb, eqb}
+use lib.Dec.{ltb, eqb}
 use Rattle.answers.specs.declared.Refusal.{Refusal}
 use Rattle.answers.specs.declared.Refusal.the-variants.{Axes, Size, Bond}
 use Rattle.answers.specs.Table.{numberOf}
@@ -12,10 +12,12 @@ use Rattle.answers.specs.Outcome.{done, refused, Check, _then_, demand, demandE
 use Rattle.answers.proofs.Outcomes.{done-refused, refused-inj}
 use Rattle.answers.proofs.Checks.{demand-yes, demand-is, then-is, then-skip, each-yes, each-is}
 use Rattle.lists.specs.Slots.{offset}
-use Rattle.lists.proofs.Tests.{both, and-yes, leb-is, ltb-is}
+use Rattle.lists.proofs.Tests.{both, and-yes, ltb-is}
 use Rattle.shape.specs.declared.Shape.{Shape}
-use Rattle.shape.specs.Limits.{mostAxes, mostPoints, mostRank, within}
+use Rattle.shape.specs.Limits.{mostAxes, within}
 use Rattle.shape.specs.Shapes.{leftOf, pointsOf, rightOf, sizeOk, bondOk, shapeOk, chainOk, coreSize, entriesOf}
+use Rattle.shape.proofs.Offsets.{offset-same}
+use Rattle.shape.proofs.Shaped.{Shaped, shaped}
 
 -- ---- what a shape that is accepted meets
 pub record Meets (s : Shape) : Type 0 where
@@ -79,36 +81,9 @@ bonds-only s x axes sizes h = go (eqb (leftOf s 0) 1) (sym first ∙ h)
     first : chainOk s ≡ startOk s then bondsOk s
     first = then-skip (axesOk s) _ _ (demand-yes _ _ axes) (then-skip (sizesOk s) _ _ (each-yes Size (sizeOk s) (s .d) 0 (λ k a b. sizes k (omega arith))) refl)
 
--- ---- limits of a shape that is accepted
-module _ (s : Shape) (m : Meets s) where
-  pub axes-most : s .d ≤ mostAxes
-  axes-most = leb-is (s .d) mostAxes (both (leb 1 (s .d)) (leb (s .d) mostAxes) (m .axes) .1)
-
-  pub axes-least : 1 ≤ s .d
-  axes-least = leb-is 1 (s .d) (both (leb 1 (s .d)) (leb (s .d) mostAxes) (m .axes) .0)
-
-  module _ (k : ℕ) (lt : k < s .d) where
-    parts : (within mostRank (leftOf s k) ≡ true) × (within mostPoints (pointsOf s k) && within mostRank (rightOf s k) ≡ true)
-    unfolding sizeOk
-    parts = both (within mostRank (leftOf s k)) (within mostPoints (pointsOf s k) && within mostRank (rightOf s k)) (m .sizes k lt)
-
-    pub left-most : leftOf s k ≤ mostRank
-    left-most = leb-is (leftOf s k) mostRank (both (leb 1 (leftOf s k)) (leb (leftOf s k) mostRank) (parts .0) .1)
-
-    pub points-most : pointsOf s k ≤ mostPoints
-    points-most = leb-is (pointsOf s k) mostPoints (both (leb 1 (pointsOf s k)) (leb (pointsOf s k) mostPoints) (both (within mostPoints (pointsOf s k)) (within mostRank (rightOf s k)) (parts .1) .0) .1)
-
-    pub right-most : rightOf s k ≤ mostRank
-    right-most = leb-is (rightOf s k) mostRank (both (leb 1 (rightOf s k)) (leb (rightOf s k) mostRank) (both (within mostPoints (pointsOf s k)) (within mostRank (rightOf s k)) (parts .1) .1) .1)
-
-    pub core-most : coreSize s k ≤ mostRank * mostPoints * mostRank
-    unfolding coreSize
-    core-most = mul-le-mul (mul-le-mul left-most points-most) right-most
-
-  pub offset-most : (k : ℕ) → k ≤ s .d → offset (coreSize s) k ≤ k * (mostRank * mostPoints * mostRank)
-  unfolding offset
-  offset-most zero le = zero-le
-  offset-most (suc k) le = omega (arith, offset-most k (omega arith), core-most k le)
+-- and so its limits
+pub met : (s : Shape) → Meets s → Shaped s
+met s m = shaped s (λ (k : ℕ). true) (meets-ok s m)
 
 -- ---- shapes that agree
 pub record Alike (s t : Shape) : Type 0 where
@@ -123,9 +98,7 @@ module _ (s t : Shape) (a : Alike s t) where
   alike-core k lt = cc (a .left k lt, a .points k lt, a .right k lt)
 
   pub alike-offset : (k : ℕ) → k ≤ s .d → offset (coreSize s) k ≡ offset (coreSize t) k
-  unfolding offset
-  alike-offset zero le = refl
-  alike-offset (suc k) le = cc (alike-offset k (omega arith), alike-core k le)
+  alike-offset k le = offset-same (coreSize s) (coreSize t) k (λ j l. alike-core j (omega arith))
 
   pub alike-entries : entriesOf s ≡ entriesOf t
   alike-entries = alike-offset (s .d) (le-refl (s .d)) ∙ ap (offset (coreSize t)) (a .axes)
@@ -151,6 +124,6 @@ module _ (s t : Shape) (a : Alike s t) where
       record {
         axes = ap (within mostAxes) (sym (a .axes)) ∙ m .axes;
         sizes = λ k lt. sym (alike-size k (omega (arith, a .axes))) ∙ m .sizes k (omega (arith, a .axes));
-        start = ap (λ (r : ℕ). eqb r 1) (sym (a .left 0 (axes-least s m))) ∙ m .start;
+        start = ap (λ (r : ℕ). eqb r 1) (sym (a .left 0 (met s m .least))) ∙ m .start;
         bonds = λ k lt. sym (alike-bond k (omega (arith, a .axes))) ∙ m .bonds k (omega (arith, a .axes));
       }

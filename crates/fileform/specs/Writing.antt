@@ -10,8 +10,8 @@ use Rattle.answers.specs.declared.Verdict.the-variants.{Fits, Refused}
 use Rattle.answers.specs.Outcome.{done, refused, Answer, Check, _then_, demand}
 use Rattle.shape.specs.declared.Shape.{Shape}
 use Rattle.shape.specs.Shapes.{chainOk, entriesOf}
-use Rattle.chainfile.specs.File.{fileLength, fileOf}
-use Rattle.chainfile.specs.Calls.{Exit, numbersOk}
+use Rattle.fileform.specs.File.{fileLength, fileOf}
+use Rattle.fileform.specs.Calls.{Exit, numbersOk}
 
 -- the two lengths: refusal 5
 unfoldable pub writeLent : Shape → ℕ → ℕ → Check

@@ -24,17 +24,17 @@ use Rattle.lists.proofs.Tables.{listed-same, length-tab, getD-tab}
 use Rattle.shape.specs.declared.Shape.{Shape}
 use Rattle.shape.specs.Limits.{mostAxes, within}
 use Rattle.shape.specs.Shapes.{leftOf, pointsOf, rightOf, sizeOk, entriesOf}
-use Rattle.chainfile.specs.declared.Read.{Read}
+use Rattle.fileform.specs.declared.Read.{Read}
 use Rattle.words.specs.Bytes.{numberAt, u16At, u32At, f64At, numbersFrom}
-use Rattle.chainfile.specs.File.{entryStart, bodyStart, fileLength, mark}
-use Rattle.chainfile.specs.Calls.{Exit, numbersOk}
-use Rattle.chainfile.specs.Reading.{readHeader, shapeWith, trimmed, shapeIn, entryOk, tableOk, readTable, readContents, lengthsOk, numbersIn, readNumbers, Chain, reading, readExit, readCall}
-use Rattle.chainfile.proofs.Slots.{fit-at}
-use Rattle.chainfile.proofs.Turning.{turning-yes, turning-is}
-use Rattle.chainfile.proofs.Shapes.{Meets, Alike, meets-ok, ok-meets, alike-size, alike-meets, alike-entries, axes-most}
+use Rattle.fileform.specs.File.{entryStart, bodyStart, fileLength, mark}
+use Rattle.fileform.specs.Calls.{Exit, numbersOk}
+use Rattle.fileform.specs.Reading.{readHeader, shapeWith, trimmed, shapeIn, entryOk, tableOk, readTable, readContents, lengthsOk, numbersIn, readNumbers, Chain, reading, readExit, readCall}
+use Rattle.fileform.proofs.Slots.{fit-at}
+use Rattle.fileform.proofs.Turning.{turning-yes, turning-is}
+use Rattle.fileform.proofs.Shapes.{Meets, Alike, meets-ok, ok-meets, alike-size, alike-meets, alike-entries, met}
 use Rattle.words.proofs.Bytes.{AreDoubles}
-use Rattle.chainfile.proofs.Writers.{Sound}
-use Rattle.chainfile.proofs.Fields.{Holds, alike-body, alike-length, alike-numbers}
+use Rattle.fileform.proofs.Writers.{Sound}
+use Rattle.fileform.proofs.Fields.{Holds, alike-body, alike-length, alike-numbers}
 
 -- ---- the header
 pub record Header (bytes : List ℕ) (d : ℕ) : Type 0 where
@@ -158,7 +158,7 @@ unfolding readContents trimmed shapeWith fileLength
 contents-yes bytes s chain m h =
     let long : length bytes ≡ 8 + 12 * s .d + 8 * entriesOf s = h .long in
     let t = trimmed s in
-    let a = trimmed-alike s (axes-most s m) in
+    let a = trimmed-alike s (met s m .most) in
     let header : Header bytes (s .d) = record { there = omega arith; marked = h .marked; clear = h .clear; few = m .axes; axes = h .axes } in
     let table : Table bytes t
     = record {
@@ -192,7 +192,7 @@ module _ (bytes : List ℕ) (s : Shape) where
   numbers-yes chain ok h =
       let N = entriesOf s in
       let t = trimmed s in
-      let a = trimmed-alike s (axes-most s (ok .meets)) in
+      let a = trimmed-alike s (met s (ok .meets) .most) in
       let e : tab (entriesOf t) found ≡ chain
       = ap (λ (m : ℕ). tab m found) (sym (alike-entries s t a))
       ∙ ext-getD nan (tab N found) chain (length-tab N found ∙ sym (ok .whole)) (λ i lt. let here : i < N = rw length-tab at lt in getD-tab N found i nan here ∙ h .numbers i here) in
@@ -219,7 +219,7 @@ module _ (bytes : List ℕ) (out : List Float) where
   unfolding reading
   reading-yes s chain ok h room =
       let t = trimmed s in
-      let a = trimmed-alike s (axes-most s (ok .meets)) in
+      let a = trimmed-alike s (met s (ok .meets) .most) in
       ap (λ (o : Answer Shape). bind o rest) (contents-yes bytes s chain (ok .meets) h)
       ∙ then-skip _ _ _ (lengths-yes t (h .long ∙ alike-length s t a) (omega (arith, alike-entries s t a)))
       (ap (λ (o : Answer (List Float)). bind o (λ l. done (record { shape = t; numbers = l }))) (numbers-yes bytes s chain ok h))
@@ -233,7 +233,7 @@ module _ (bytes : List ℕ) (out : List Float) where
 
   module _ (s : Shape) (chain : List Float) (contents : Contents bytes s) (long : length bytes ≡ fileLength s) (same : tab (entriesOf s) (found bytes s) ≡ chain) where
     few : s .d ≤ mostAxes
-    few = axes-most s (contents .table .meets)
+    few = met s (contents .table .meets) .most
 
     whole : length chain ≡ entriesOf s
     whole = ap length (sym same) ∙ length-tab (entriesOf s) (found bytes s)

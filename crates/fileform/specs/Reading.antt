@@ -1,6 +1,6 @@
 -- Reading a chain file. The call is lent the file's bytes (position 0) and an output with room for at least N numbers (position 1).
 -- A read beyond the end counts as 0, but none decides anything: a header, a table and bodies are looked into only behind the check that they are there. Definitions only.
-use Prim.Native.Nat.{ℕ, _+_, _*_}
+use Prim.Native.Nat.{ℕ, _+_}
 use mathlib.Core.List.{List}
 use lib.Dec.{leb, eqb}
 use lib.ListN.{length, replicate}
@@ -15,10 +15,10 @@ use Rattle.lists.specs.Walks.{turning}
 use Rattle.shape.specs.declared.Shape.{Shape}
 use Rattle.shape.specs.Limits.{mostAxes, within}
 use Rattle.shape.specs.Shapes.{leftOf, pointsOf, rightOf, sizeOk, chainOk, entriesOf}
-use Rattle.chainfile.specs.declared.Read.{Read}
+use Rattle.fileform.specs.declared.Read.{Read}
 use Rattle.words.specs.Bytes.{u16At, u32At, numbersFrom}
-use Rattle.chainfile.specs.File.{entryStart, bodyStart, fileLength, mark}
-use Rattle.chainfile.specs.Calls.{Exit, numbersOk}
+use Rattle.fileform.specs.File.{entryStart, bodyStart, fileLength, mark}
+use Rattle.fileform.specs.Calls.{Exit, numbersOk}
 
 -- ---- the header: it answers d
 unfoldable pub readHeader : List ℕ → Answer ℕ

@@ -20,11 +20,11 @@ use Rattle.lists.proofs.Asked.{lengths-say}
 use Rattle.lists.proofs.Floats.{finite-getD}
 use Rattle.shape.specs.declared.Shape.{Shape}
 use Rattle.shape.specs.Shapes.{coreSize, entriesOf}
-use Rattle.chainfile.specs.File.{fileLength, fileOf}
-use Rattle.chainfile.specs.Calls.{numbersOk}
-use Rattle.chainfile.specs.Writing.{writeLent, writeOk, writing, writeExit, writeCall}
-use Rattle.chainfile.proofs.Slots.{finite-slots}
-use Rattle.chainfile.proofs.Shapes.{Meets, meets-ok, ok-meets}
+use Rattle.fileform.specs.File.{fileLength, fileOf}
+use Rattle.fileform.specs.Calls.{numbersOk}
+use Rattle.fileform.specs.Writing.{writeLent, writeOk, writing, writeExit, writeCall}
+use Rattle.fileform.proofs.Slots.{finite-slots}
+use Rattle.fileform.proofs.Shapes.{Meets, meets-ok, ok-meets}
 
 -- ---- what both calls ask of a chain
 pub record Sound (s : Shape) (chain : List Float) : Type 0 where
@@ -32,13 +32,14 @@ pub record Sound (s : Shape) (chain : List Float) : Type 0 where
   pub whole : length chain ≡ entriesOf s
   pub finites : numbersOk s chain ≡ done tt
 
-pub sound-finite : (s : Shape) (chain : List Float) → Sound s chain → (i : ℕ) → i < entriesOf s → finite (at chain i) ≡ true
+pub numbers-finite : (s : Shape) (chain : List Float) → length chain ≡ entriesOf s → numbersOk s chain ≡ done tt → allFinite chain ≡ true
 unfolding numbersOk
-sound-finite s chain ok i lt =
-    let slots = each-is Number (λ (k : ℕ). allFinite (slot (coreSize s) k chain)) (s .d) 0 (ok .finites) in
-    let all : allFinite chain ≡ true
-    = ap allFinite (sym (take-all (entriesOf s) chain (omega (arith, ok .whole)))) ∙ finite-slots (coreSize s) chain (s .d) (λ k l. slots k zero-le (omega arith)) in
-    finite-getD chain i nan (omega (arith, ok .whole)) all
+numbers-finite s chain e ok =
+    let slots = each-is Number (λ (k : ℕ). allFinite (slot (coreSize s) k chain)) (s .d) 0 ok in
+    ap allFinite (sym (take-all (entriesOf s) chain (omega arith))) ∙ finite-slots (coreSize s) chain (s .d) (λ k l. slots k zero-le (omega arith))
+
+pub sound-finite : (s : Shape) (chain : List Float) → Sound s chain → (i : ℕ) → i < entriesOf s → finite (at chain i) ≡ true
+sound-finite s chain ok i lt = finite-getD chain i nan (omega (arith, ok .whole)) (numbers-finite s chain (ok .whole) (ok .finites))
 
 -- ---- writing
 module _ (s : Shape) (chain : List Float) (out : List ℕ) where

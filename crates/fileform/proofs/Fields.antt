@@ -14,15 +14,17 @@ use Rattle.numbers.specs.Finite.{finite}
 use Rattle.lists.specs.Lists.{flat, joined}
 use Rattle.lists.specs.Slots.{slot}
 use Rattle.lists.specs.Floats.{at, allFinite}
-use Rattle.lists.proofs.Tables.{listed-same}
+use Rattle.lists.proofs.Tables.{listed-same, length-joined}
 use Rattle.shape.specs.declared.Shape.{Shape}
 use Rattle.shape.specs.Shapes.{leftOf, pointsOf, rightOf, coreSize, entriesOf}
+use Rattle.shape.proofs.Offsets.{core-offset-most}
 use Rattle.words.specs.Bytes.{bytesOf, numberAt, u16, f64, u16At, u32At, f64At}
-use Rattle.chainfile.specs.File.{entryStart, bodyStart, fileLength, mark, header, tableEntry, fileOf}
-use Rattle.chainfile.specs.Calls.{numbersOk}
-use Rattle.words.proofs.Cuts.{cut, cut-all, cut-cut, cut-add, cut-first, cut-second, parts-length, part-at, cut-parts}
-use Rattle.words.proofs.Bytes.{AreBytes, AreDoubles, bytes-length, append-bytes, joined-bytes, number-bytes, reads, written, f64-reads, f64-written}
-use Rattle.chainfile.proofs.Shapes.{Meets, axes-most, left-most, points-most, right-most, offset-most, Alike, alike-core, alike-offset, alike-entries}
+use Rattle.fileform.specs.File.{entryStart, bodyStart, fileLength, mark, header, tableEntry, fileOf}
+use Rattle.fileform.specs.Calls.{numbersOk}
+use Rattle.words.proofs.Cuts.{cut, cut-all, cut-cut, cut-add, cut-first, cut-second, part-at, cut-parts}
+use Rattle.words.proofs.Runs.{f64-length}
+use Rattle.words.proofs.Bytes.{AreBytes, AreDoubles, append-bytes, joined-bytes, number-bytes, reads, written, f64-reads, f64-written}
+use Rattle.fileform.proofs.Shapes.{Meets, met, Alike, alike-core, alike-offset, alike-entries}
 
 -- the fields of these bytes are those of this chain
 pub record Holds (bytes : List ℕ) (s : Shape) (chain : List Float) : Type 0 where
@@ -70,9 +72,6 @@ entry-bytes s k =
     (append-bytes (u16 (rightOf s k)) _ (number-bytes 2 (rightOf s k))
     (append-bytes (u16 0) _ (number-bytes 2 0) (number-bytes 4 (bodyStart s k)))))
 
-f64-length : (x : Float) → length (f64 x) ≡ 8
-f64-length x = bytes-length 8 (toBits binary64 x)
-
 -- ---- where things stand in the file
 module _ (s : Shape) (chain : List Float) where
   abbrev table : List ℕ
@@ -82,10 +81,10 @@ module _ (s : Shape) (chain : List Float) where
   bodies = joined (entriesOf s) (λ (i : ℕ). f64 (at chain i))
 
   table-length : length table ≡ 12 * s .d
-  table-length = parts-length 12 (tableEntry s) (entry-length s) (s .d) 0
+  table-length = omega (arith, length-joined 12 (tableEntry s) (entry-length s) (s .d))
 
   bodies-length : length bodies ≡ 8 * entriesOf s
-  bodies-length = parts-length 8 (λ (i : ℕ). f64 (at chain i)) (λ i. f64-length (at chain i)) (entriesOf s) 0
+  bodies-length = omega (arith, length-joined 8 (λ (i : ℕ). f64 (at chain i)) (λ i. f64-length (at chain i)) (entriesOf s))
 
   pub file-length : length (fileOf s chain) ≡ fileLength s
   unfolding fileOf fileLength header bytesOf
@@ -134,7 +133,7 @@ module _ (s : Shape) (chain : List Float) (m : Meets s) (whole : length chain �
   -- a body's offset needs no more than its four bytes
   body-lt : (k : ℕ) → k < s .d → bodyStart s k < 256 ^ 4
   unfolding bodyStart
-  body-lt k lt = omega (arith, offset-most s m k (omega arith), axes-most s m)
+  body-lt k lt = omega (arith, core-offset-most s (met s m .sizes) k (omega arith), met s m .most)
 
   pub file-holds : Holds file s chain
   unfolding header tableEntry bytesOf numberAt
@@ -142,11 +141,11 @@ module _ (s : Shape) (chain : List Float) (m : Meets s) (whole : length chain �
       record {
         long = file-length s chain;
         marked = in-header 4 0 (u32At mark 0) (omega arith) (omega arith) refl;
-        axes = in-header 2 4 (s .d) (omega arith) (omega (arith, axes-most s m)) refl;
+        axes = in-header 2 4 (s .d) (omega arith) (omega (arith, met s m .most)) refl;
         clear = in-header 2 6 0 (omega arith) (omega arith) refl;
-        left = λ k lt. rw (add-zero (entryStart k)) at (in-entry k 0 2 (leftOf s k) lt (omega arith) (omega (arith, left-most s m k lt)) refl);
-        points = λ k lt. in-entry k 2 2 (pointsOf s k) lt (omega arith) (omega (arith, points-most s m k lt)) refl;
-        right = λ k lt. in-entry k 4 2 (rightOf s k) lt (omega arith) (omega (arith, right-most s m k lt)) refl;
+        left = λ k lt. rw (add-zero (entryStart k)) at (in-entry k 0 2 (leftOf s k) lt (omega arith) (omega (arith, met s m .sizes .left k lt .1)) refl);
+        points = λ k lt. in-entry k 2 2 (pointsOf s k) lt (omega arith) (omega (arith, met s m .sizes .axes .points k lt .1)) refl;
+        right = λ k lt. in-entry k 4 2 (rightOf s k) lt (omega arith) (omega (arith, met s m .sizes .right k lt .1)) refl;
         void = λ k lt. in-entry k 6 2 0 lt (omega arith) (omega arith) refl;
         body = λ k lt. in-entry k 8 4 (bodyStart s k) lt (omega arith) (body-lt k lt) refl;
         numbers = λ i lt. f64-reads (at chain i) (entryStart (s .d) + 8 * i) file (doubles i (omega arith)) (body-part s chain i lt);

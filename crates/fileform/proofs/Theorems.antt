@@ -18,16 +18,16 @@ use Rattle.lists.specs.Floats.{at, zeros}
 use Rattle.lists.proofs.Slots.{offset-suc, offset-mono, fit-used}
 use Rattle.shape.specs.declared.Shape.{Shape}
 use Rattle.shape.specs.Shapes.{coreSize, entriesOf}
-use Rattle.chainfile.specs.declared.Read.{Read}
+use Rattle.fileform.specs.declared.Read.{Read}
 use Rattle.words.specs.Bytes.{f64At}
-use Rattle.chainfile.specs.File.{bodyStart, fileOf}
-use Rattle.chainfile.specs.Calls.{Exit}
-use Rattle.chainfile.specs.Writing.{writing, writeExit, writeCall}
-use Rattle.chainfile.specs.Reading.{Chain, trimmed, reading, noShape, readExit, readCall}
+use Rattle.fileform.specs.File.{bodyStart, fileOf}
+use Rattle.fileform.specs.Calls.{Exit}
+use Rattle.fileform.specs.Writing.{writing, writeExit, writeCall}
+use Rattle.fileform.specs.Reading.{Chain, trimmed, reading, noShape, readExit, readCall}
 use Rattle.words.proofs.Bytes.{AreBytes, AreDoubles}
-use Rattle.chainfile.proofs.Fields.{file-bytes, file-holds, holds-file}
-use Rattle.chainfile.proofs.Readers.{Accepted, reading-yes, reading-is, read-fits}
-use Rattle.chainfile.proofs.Writers.{sound-finite, writing-yes, write-fits}
+use Rattle.fileform.proofs.Fields.{file-bytes, file-holds, holds-file}
+use Rattle.fileform.proofs.Readers.{Accepted, reading-yes, reading-is, read-fits}
+use Rattle.fileform.proofs.Writers.{sound-finite, writing-yes, write-fits}
 
 -- ---- 1. what was written is read again: the shape, and the chain bit for bit
 module _ (s : Shape) (chain : List Float) (doubles : AreDoubles chain) (out : List ℕ) (accepted : writeCall s chain out .result ≡ Fits) (room : List Float) where
