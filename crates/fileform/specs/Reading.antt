@@ -92,7 +92,7 @@ pub record Chain : Type 0 where
   pub shape : Shape
   pub numbers : List Float
 
--- every check but that there is more to read: what the shape is, if the bytes are a chain's file and its numbers have room
+-- every check, and then the shape: all that is left is to make the numbers
 unfoldable pub readOk : List ℕ → ℕ → Answer Shape
 readOk bytes room =
     bind (readContents bytes) (λ s.
