@@ -87,30 +87,40 @@ fn same_shape(s: shape::Shape, want: shape::Shape) -> bool {
     same
 }
 
-// Reading: bytes and room, then the verdict, the shape, and what the room holds at the end.
-fn reads(file: &mut [u8], room: &mut [f64]) -> bool {
-    let n = bytes(file);
-    let most = at_most(room.len(), replay::word() as usize);
-    lists::fill(&mut room[0..most], BEFORE);
-    let r = chainfile::read_chain(&file[0..n], &mut room[0..most]);
+// Reading: the verdict, the shape, and what the room holds at the end.
+fn read_as_said(file: &[u8], room: &mut [f64]) -> bool {
+    lists::fill(room, BEFORE);
+    let r = chainfile::read_chain(file, room);
     let v = r.verdict;
     let told = replay::verdict(v);
     let s = r.shape;
     let shaped = same_shape(s, replay::shape());
-    let held = same_numbers(&room[0..most]);
+    let held = same_numbers(room);
     told & shaped & held
 }
 
-// Writing: shape, chain and the output's length, then the verdict, and what the output holds at the end.
+// Its bytes and its room.
+fn reads(file: &mut [u8], room: &mut [f64]) -> bool {
+    let n = bytes(file);
+    let most = at_most(room.len(), replay::word() as usize);
+    read_as_said(&file[0..n], &mut room[0..most])
+}
+
+// Writing: the verdict, and what the output holds at the end.
+fn written_as_said(s: shape::Shape, chain: &[f64], out: &mut [u8], want: &mut [u8]) -> bool {
+    clear(out);
+    let v = chainfile::write_chain(s, chain, out);
+    let told = replay::verdict(v);
+    let held = same_bytes(out, want);
+    told & held
+}
+
+// Its shape, its chain and the output's length.
 fn writes(chain: &mut [f64], out: &mut [u8], want: &mut [u8]) -> bool {
     let s = replay::shape();
     let n = replay::list(chain);
     let most = at_most(out.len(), replay::word() as usize);
-    clear(&mut out[0..most]);
-    let v = chainfile::write_chain(s, &chain[0..n], &mut out[0..most]);
-    let told = replay::verdict(v);
-    let held = same_bytes(&out[0..most], want);
-    told & held
+    written_as_said(s, &chain[0..n], &mut out[0..most], want)
 }
 
 // Listing: bytes, then the text.
