@@ -1,8 +1,8 @@
 // The chain file, read and written.
 ghost use mathlib.Core.Path.{_≡_};
+ghost use Prim.Native.Nat.{_≤_};
 ghost use lib.ListN.{length};
 ghost use Rattle.answers.specs.Outcome.{done, refused, verdictOf};
-ghost use Prim.Native.Nat.{_≤_};
 ghost use Rattle.shape.specs.Shapes.{entriesOf};
 ghost use Rattle.shape.specs.Sizes.{SizesWithin};
 ghost use Rattle.fileform.specs.Calls.{numbersOk};

@@ -11,6 +11,7 @@ ghost use Rattle.words.specs.Placed.{placed};
 ghost use Rattle.fileform.specs.File.{entryStart, bodyStart, fileLength, header, tableEntry, fileOf};
 ghost use Rattle.fileform.specs.Calls.{numbersOk};
 
+// The mark, d and zero.
 fn header_bytes(d: usize) -> [u8; 8]
     ensures { λ r. ⌜ r ≡ header d ⌝ }
 {
@@ -43,6 +44,7 @@ fn entry_bytes(s: shape::Shape, k: usize, start: usize) -> [u8; 12]
     ]
 }
 
+// The table, behind the header.
 fn put_table(s: shape::Shape, out: &mut [u8])
     requires { ⌜ SizesWithin s ⌝ }
     requires { ⌜ entryStart (s .d) ≤ length (now out) ⌝ }

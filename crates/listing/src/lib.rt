@@ -19,6 +19,7 @@ pub const MOST_BYTES: usize = 8392;
 
 const ROOM: usize = 1049;
 
+// A word behind the first `at` bytes; answers where it ends.
 fn put_word(word: &[u8], text: &mut [u8], at: usize) -> usize
     requires { ⌜ at + length (now word) ≤ length (now text) ⌝ }
     ensures { λ r. ⌜ Put (length (now (word .entry))) at (now (word .entry)) (now (text .entry)) (now (text .exit)) r ⌝ }
@@ -27,6 +28,7 @@ fn put_word(word: &[u8], text: &mut [u8], at: usize) -> usize
     at + word.len()
 }
 
+// A number in decimal digits.
 fn put_digits(n: usize, text: &mut [u8], at: usize) -> usize
     requires { ⌜ at + 20 ≤ length (now text) ⌝ }
     ensures { λ r. ⌜ Put 20 at (digitsOf n) (now (text .entry)) (now (text .exit)) r ⌝ }
@@ -86,6 +88,7 @@ fn put_headline(s: shape::Shape, text: &mut [u8]) -> usize
     put_field(s.entries(), b'\n', text, c)
 }
 
+// The listing of a chain.
 fn put_chain(s: shape::Shape, text: &mut [u8]) -> usize
     requires { ⌜ SizesWithin s ⌝ }
     requires { ⌜ 1735 ≤ length (now text) ⌝ }
@@ -95,6 +98,7 @@ fn put_chain(s: shape::Shape, text: &mut [u8]) -> usize
     put_axes(s, text, end)
 }
 
+// A refusal by its number and place in the scope's table.
 fn put_refusal(r: answers::Refusal, text: &mut [u8]) -> usize
     requires { ⌜ 53 ≤ length (now text) ⌝ }
     ensures { λ e. ⌜ Put 53 0 (refusedText r) (now (text .entry)) (now (text .exit)) e ⌝ }
@@ -107,6 +111,7 @@ fn put_refusal(r: answers::Refusal, text: &mut [u8]) -> usize
     put_field(place, b'\n', text, c)
 }
 
+// What reading a file answered.
 fn put_read(x: fileform::Read, text: &mut [u8]) -> usize
     requires { ⌜ (x .verdict ≡ Fits → SizesWithin (x .shape)) ⌝ }
     requires { ⌜ 1735 ≤ length (now text) ⌝ }

@@ -10,6 +10,7 @@ ghost use Rattle.words.specs.Placed.{placed};
 
 // ---- from bytes
 
+// A byte as a number.
 fn wide(b: u8) -> usize
     ensures { λ r. ⌜ (r ≡ b) × (r < 256) ⌝ }
 {
@@ -92,12 +93,14 @@ fn low(x: usize) -> u8
     (x % 256) as u8
 }
 
+// The two lowest bytes of x.
 pub fn u16_bytes(x: usize) -> [u8; 2]
     ensures { λ r. ⌜ r ≡ bytesOf 2 x ⌝ }
 {
     [low(x), low(x / 256)]
 }
 
+// The four lowest.
 pub fn u32_bytes(x: usize) -> [u8; 4]
     ensures { λ r. ⌜ r ≡ bytesOf 4 x ⌝ }
 {
@@ -106,7 +109,7 @@ pub fn u32_bytes(x: usize) -> [u8; 4]
     [low(x), low(y), low(z), low(z / 256)]
 }
 
-// The bytes of a number of eight, from those of its halves.
+// All eight, from those of its halves.
 fn u64_bytes(x: usize) -> [u8; 8]
     ensures { λ r. ⌜ r ≡ bytesOf 8 x ⌝ }
 {

@@ -5,9 +5,6 @@ use Rattle.listing.proofs.Grows.{field-put}
 use Rattle.listing.proofs.put_field.Statement.{statement}
 use Rattle.listing.proofs.put_field.Tie as tie
 
-put-word-requires : tie.Need-put-word-requires
-put-word-requires c κs = omega (arith, (c .before .before .before .before .put-digits .ensures) .few, (c .before .before .before .before .before .before .before .pre), (c .before .before .before .before .put-digits .kept) .1 .0)
-
 returns : tie.Need-returns
 returns c = field-put _ _ (omega (arith, (c .before .before .before .before .before .before .before .before .before .before .pre))) (c .before .before .before .before .before .before .before .put-digits .ensures) (c .before .before .put-word .ensures)
 
@@ -15,6 +12,6 @@ pub put-field-spec : {M : Type 1} → statement M
 put-field-spec = tie.close (tie.spec
     (λ c κs. search needs)
     (λ c. search needs)
-    put-word-requires
+    (λ c κs. search needs)
     (λ c. search needs)
     returns)
