@@ -26,7 +26,7 @@ fn at_most(most: usize, n: usize) -> usize
 }
 
 // A word that says how many follow, at most `most`.
-fn count(most: usize) -> usize
+pub fn count(most: usize) -> usize
     ensures { λ r. ⌜ r ≤ most ⌝ }
 {
     at_most(most, word() as usize)
@@ -86,6 +86,87 @@ pub fn verdict(v: answers::Verdict) -> bool {
         answers::Verdict::Refused(r) => (number == answers::number(r) as u64)
             & (place == answers::place(r) as u64),
     }
+}
+
+// ---- what a call left
+// Whether every number is x, a zero of either sign being zero.
+pub fn all_are(list: &[f64], x: f64) -> bool {
+    let mut all = true;
+    let mut i = 0;
+    while i < list.len() {
+        all = all & (list[i] == x);
+        i += 1;
+    }
+    all
+}
+
+// Whether two numbers are the same, or both none.
+fn same(x: f64, y: f64) -> bool {
+    (x == y) | ((x != x) & (y != y))
+}
+
+// Whether two lists hold the same numbers.
+pub fn same_numbers(a: &[f64], b: &[f64]) -> bool {
+    if a.len() != b.len() {
+        return false;
+    }
+    let mut all = true;
+    let mut i = 0;
+    while i < a.len() {
+        all = all & same(a[i], b[i]);
+        i += 1;
+    }
+    all
+}
+
+// Whether the counts that follow are the first of an array.
+pub fn counts(list: [usize; shape::MOST_AXES]) -> bool {
+    let n = count(shape::MOST_AXES);
+    let mut all = true;
+    let mut i = 0;
+    while i < n {
+        all = all & (list[i] == word() as usize);
+        i += 1;
+    }
+    all
+}
+
+fn flag(b: bool) -> u64 {
+    if b {
+        return 1;
+    }
+    0
+}
+
+// Whether the flags that follow, 1 and 0, are the first of an array.
+pub fn flags(list: [bool; shape::MOST_AXES]) -> bool {
+    let n = count(shape::MOST_AXES);
+    let mut all = true;
+    let mut i = 0;
+    while i < n {
+        all = all & (flag(list[i]) == word());
+        i += 1;
+    }
+    all
+}
+
+// Whether the numbers that follow are those of a list.
+fn numbers_are(list: &[f64]) -> bool {
+    let mut all = true;
+    let mut i = 0;
+    while i < list.len() {
+        all = all & (list[i] == number(word()));
+        i += 1;
+    }
+    all
+}
+
+// Whether the numbers that follow are at the front of a list, and the rest is +0.
+pub fn packed(list: &[f64]) -> bool {
+    let n = count(list.len());
+    let front = numbers_are(&list[0..n]);
+    let rest = all_are(&list[n..], 0.0);
+    front & rest
 }
 
 // A number as a line of standard output.
