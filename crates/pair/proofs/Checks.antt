@@ -16,7 +16,7 @@ use Rattle.lists.proofs.Tests.{leb-is, eqb-is, both}
 use Rattle.shape.specs.Limits.{mostPoints, mostRank, within}
 use Rattle.shape.specs.Cores.{Core}
 use Rattle.rounding.specs.Call.{notBelowZero}
-use Rattle.pair.specs.Call.{mostLines, pairScratch, sizesOk, coreNumbers, leftRoom, rightRoom, pairOk}
+use Rattle.pair.specs.Call.{mostLines, pairScratch, sizesOk, coreNumbers, leftRoom, rightRoom, pairSized, pairLent, pairFinite, pairOk}
 
 -- x is from 1 to the most
 pub record Within (most x : ℕ) : Type 0 where
@@ -41,7 +41,7 @@ sizes-are c e =
 demand-then : {A : Type 0} (b : Bool) (r : Refusal) (o : Answer A) (a : A) → demand b r then o ≡ done a → (b ≡ true) × (o ≡ done a)
 demand-then b r o a h = let (p, q) = then-is (demand b r) o a h in (demand-is b r p, q)
 
-pub record Checked (l r : Core) (eps : Float) (leftOut rightOut scratch : List Float) : Type 0 where
+pub record Checked (l r : Core) (eps : Float) (leftOut rightOut scratch : ℕ) : Type 0 where
   pub left : Sizes l
   pub right : Sizes r
   pub rows : l .rl * l .n ≤ mostLines
@@ -49,26 +49,26 @@ pub record Checked (l r : Core) (eps : Float) (leftOut rightOut scratch : List F
   pub middle : l .rr ≡ r .rl
   pub leftLength : length (l .entries) ≡ coreNumbers l
   pub rightLength : length (r .entries) ≡ coreNumbers r
-  pub leftRoomy : length leftOut ≡ leftRoom l
-  pub rightRoomy : length rightOut ≡ rightRoom r
-  pub scratchLength : length scratch ≡ pairScratch
+  pub leftRoomy : leftOut ≡ leftRoom l
+  pub rightRoomy : rightOut ≡ rightRoom r
+  pub scratchLength : scratch ≡ pairScratch
   pub epsFinite : finite eps ≡ true
   pub leftFinite : allFinite (l .entries) ≡ true
   pub rightFinite : allFinite (r .entries) ≡ true
   pub epsMild : notBelowZero eps ≡ true
 
-pub checked : (l r : Core) (eps : Float) (leftOut rightOut scratch : List Float) → pairOk l r eps leftOut rightOut scratch ≡ done tt → Checked l r eps leftOut rightOut scratch
-unfolding pairOk
+pub checked : (l r : Core) (eps : Float) (leftOut rightOut scratch : ℕ) → pairOk l r eps leftOut rightOut scratch ≡ done tt → Checked l r eps leftOut rightOut scratch
+unfolding pairOk pairSized pairLent pairFinite
 checked l r eps leftOut rightOut scratch h =
-    let (size0, a) = demand-then _ _ _ tt h in
+    let (sized, x) = then-is (pairSized l r) _ tt h in
+    let (lent, fine) = then-is (pairLent l r leftOut rightOut scratch) (pairFinite l r eps) tt x in
+    let (size0, a) = demand-then _ _ _ tt sized in
     let (size1, b) = demand-then _ _ _ tt a in
-    let (bond, c) = demand-then _ _ _ tt b in
-    let (length0, d) = demand-then _ _ _ tt c in
+    let (length0, d) = demand-then _ _ _ tt lent in
     let (length1, e) = demand-then _ _ _ tt d in
     let (length2, f) = demand-then _ _ _ tt e in
     let (length3, g) = demand-then _ _ _ tt f in
-    let (length4, i) = demand-then _ _ _ tt g in
-    let (number0, j) = demand-then _ _ _ tt i in
+    let (number0, j) = demand-then _ _ _ tt fine in
     let (number1, k) = demand-then _ _ _ tt j in
     let (left, rows) = both (sizesOk l) (leb (l .rl * l .n) mostLines) size0 in
     let (right, columns) = both (sizesOk r) (leb (r .n * r .rr) mostLines) size1 in
@@ -78,12 +78,12 @@ checked l r eps leftOut rightOut scratch h =
       right = sizes-are r right;
       rows = leb-is (l .rl * l .n) mostLines rows;
       columns = leb-is (r .n * r .rr) mostLines columns;
-      middle = eqb-is (l .rr) (r .rl) bond;
+      middle = eqb-is (l .rr) (r .rl) (demand-is _ _ b);
       leftLength = eqb-is (length (l .entries)) (coreNumbers l) length0;
       rightLength = eqb-is (length (r .entries)) (coreNumbers r) length1;
-      leftRoomy = eqb-is (length leftOut) (leftRoom l) length2;
-      rightRoomy = eqb-is (length rightOut) (rightRoom r) length3;
-      scratchLength = eqb-is (length scratch) pairScratch length4;
+      leftRoomy = eqb-is leftOut (leftRoom l) length2;
+      rightRoomy = eqb-is rightOut (rightRoom r) length3;
+      scratchLength = eqb-is scratch pairScratch (demand-is _ _ g);
       epsFinite = lone;
       leftFinite = lefts;
       rightFinite = number1;

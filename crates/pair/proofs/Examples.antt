@@ -23,9 +23,9 @@ use Rattle.bond.specs.Sweeps.{eye}
 use Rattle.bond.specs.Values.{rankIn, indexAt, order, sorted, thresholdOf, keptRank}
 use Rattle.rounding.specs.Call.{notBelowZero, scratchAfter}
 use Rattle.pair.specs.Slabs.{plusProduct, slabEntry, slab}
-use Rattle.pair.specs.Passes.{turnStored, turned, dot, tolerance64, skipped, rotate, pass, passesFrom, orthogonalized, start}
+use Rattle.passes.specs.Passes.{turnStored, turned, dot, tolerance64, skipped, rotate, pass, passesFrom, orthogonalized, start}
 use Rattle.pair.specs.Splits.{values, inverse, leftNumbers, rightNumbers, formed, cut, split, pairOf}
-use Rattle.pair.specs.Call.{sizesOk, coreNumbers, leftRoom, rightRoom, pairScratch, pairOk, PairEnded, pairBy, pairCall}
+use Rattle.pair.specs.Call.{sizesOk, coreNumbers, leftRoom, rightRoom, pairScratch, pairSized, pairLent, pairFinite, pairOk, PairEnded, pairBy, pairCall}
 
 -- the tolerance is the f64 nearest to 1e-14
 tolerance-nearest : tolerance64 ≡ round binary64 false 1 (10 ^ 14)
@@ -94,5 +94,5 @@ AllRight [] = Unit {0}
 AllRight (c ∷ cs) = (c .0 ≡ c .1) × AllRight cs
 
 by-hand : AllRight cases
-unfolding cases add sub mul div lt le eq ofBits toBits magnitudeOf rootIn wholeRoot rootOfUnits rootOf demand pick listed flat first count pairs fit along sumOn sumTo allFinite firstNotFinite stored place entry block tangentOf slopeOf cosineOf turnedAt eye rankIn indexAt order sorted thresholdOf keptRank notBelowZero scratchAfter plusProduct slabEntry slab turnStored turned dot skipped rotate pass passesFrom orthogonalized start values inverse leftNumbers rightNumbers formed cut split pairOf sizesOk coreNumbers leftRoom rightRoom pairOk pairBy pairCall
+unfolding cases add sub mul div lt le eq ofBits toBits magnitudeOf rootIn wholeRoot rootOfUnits rootOf demand pick listed flat first count pairs fit along sumOn sumTo allFinite firstNotFinite stored place entry block tangentOf slopeOf cosineOf turnedAt eye rankIn indexAt order sorted thresholdOf keptRank notBelowZero scratchAfter plusProduct slabEntry slab turnStored turned dot skipped rotate pass passesFrom orthogonalized start values inverse leftNumbers rightNumbers formed cut split pairOf sizesOk coreNumbers leftRoom rightRoom pairSized pairLent pairFinite pairOk pairBy pairCall
 by-hand = (refl, (refl, (refl, (refl, (refl, (refl, (refl, (refl, (refl, (refl, (refl, (refl, (refl, (refl, tt))))))))))))))

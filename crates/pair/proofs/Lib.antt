@@ -1,8 +1,5 @@
-pub mod Laws
--- the slab, the passes and their count, the split, the call
+-- the slab, the split, the call
 pub mod Slabs
-pub mod Wholes
-pub mod Counts
 pub mod Splits
 pub mod Checks
 pub mod Calls

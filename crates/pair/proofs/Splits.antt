@@ -1,38 +1,30 @@
 -- The two new cores have the sizes and the numbers of a pair, and the passes answered are counted. Assumes nothing.
 use mathlib.Core.Path.{_≡_, ap, ap₂, _∙_, sym}
 use Prim.Native.Nat.{ℕ, _*_, _≤_}
-use native.Mathlib.Omega.{arith}
 use mathlib.Core.Bool.{true}
 use mathlib.Core.List.{List}
 use lib.Dec.{leb}
 use lib.ListN.{length}
-use lib.Ieee.{Float, lt}
+use lib.Ieee.{Float}
 use Rattle.answers.specs.declared.Part.the-variants.{Entry, Spectrum, Factor}
 use Rattle.answers.specs.declared.Refusal.the-variants.{PairRank}
 use Rattle.answers.specs.Outcome.{Answer, done, bind, demand, making}
 use Rattle.answers.proofs.Outcomes.{bind-done, done-inj, making-is}
 use Rattle.answers.proofs.Checks.{then-is, demand-is}
-use Rattle.lists.specs.Floats.{at, allFinite, stored}
+use Rattle.lists.specs.Floats.{allFinite, stored}
 use Rattle.lists.proofs.Floats.{stored-is}
 use Rattle.lists.proofs.Tests.{leb-is}
 use Rattle.shape.specs.Limits.{mostRank}
 use Rattle.shape.specs.Cores.{Core, coreWith}
-use Rattle.bond.specs.Values.{order, sorted, thresholdOf, keptRank}
+use Rattle.bond.specs.Values.{order, sorted, keptRank}
 use Rattle.pair.specs.Slabs.{slab}
-use Rattle.pair.specs.Passes.{Passes, mostPasses, orthogonalized, start}
+use Rattle.passes.specs.Passes.{Passes, mostPasses, orthogonalized, start}
 use Rattle.pair.specs.Splits.{values, leftNumbers, rightNumbers, Halves, formed, cut, split, pairOf}
-use Rattle.pair.specs.Claims.{Counted, Formed}
-use Rattle.pair.proofs.Counts.{passes-counted}
-use Rattle.pair.proofs.Laws.{count-most, block-length}
-
--- the kept rank is from 1 to the number of values
-pub rank-least : (eps : Float) (n : ℕ) (ss : List Float) → 1 ≤ keptRank eps n ss
-unfolding keptRank
-rank-least eps n ss = omega arith
-
-pub rank-most : (eps : Float) (n : ℕ) (ss : List Float) → 1 ≤ n → keptRank eps n ss ≤ n
-unfolding keptRank
-rank-most eps n ss h = omega (arith, count-most (λ (r : ℕ). lt (thresholdOf eps (at ss 0)) (at ss r)) n)
+use Rattle.passes.specs.Claims.{Counted}
+use Rattle.pair.specs.Claims.{Formed}
+use Rattle.passes.proofs.Counts.{passes-counted}
+use Rattle.shape.proofs.Places.{block-length}
+use Rattle.bond.proofs.Made.{rank-least, rank-most}
 
 module _ (rl nj nk rr : ℕ) where
   module _ (r : ℕ) (ss : List Float) (js : List ℕ) (w : Passes) where

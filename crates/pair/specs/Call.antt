@@ -39,19 +39,31 @@ leftRoom l = l .rl * l .n * mostRank
 unfoldable pub rightRoom : Core → ℕ
 rightRoom r = mostRank * r .n * r .rr
 
-unfoldable pub pairOk : Core → Core → Float → List Float → List Float → List Float → Check
-pairOk l r eps leftOut rightOut scratch =
+-- 2 and 3: a slab's rows, its columns, the middle ranks
+unfoldable pub pairSized : Core → Core → Check
+pairSized l r =
     demand (sizesOk l && leb (l .rl * l .n) mostLines) (Size 0)
     then demand (sizesOk r && leb (r .n * r .rr) mostLines) (Size 1)
     then demand (eqb (l .rr) (r .rl)) (Bond 0)
-    then demand (eqb (length (l .entries)) (coreNumbers l)) (Length 0)
+
+-- 5; the outputs and scratch by their lengths alone
+unfoldable pub pairLent : Core → Core → ℕ → ℕ → ℕ → Check
+pairLent l r leftOut rightOut scratch =
+    demand (eqb (length (l .entries)) (coreNumbers l)) (Length 0)
     then demand (eqb (length (r .entries)) (coreNumbers r)) (Length 1)
-    then demand (eqb (length leftOut) (leftRoom l)) (Length 2)
-    then demand (eqb (length rightOut) (rightRoom r)) (Length 3)
-    then demand (eqb (length scratch) pairScratch) (Length 4)
-    then demand (finite eps && allFinite (l .entries)) (Number 0)
+    then demand (eqb leftOut (leftRoom l)) (Length 2)
+    then demand (eqb rightOut (rightRoom r)) (Length 3)
+    then demand (eqb scratch pairScratch) (Length 4)
+
+-- 6 and 7
+unfoldable pub pairFinite : Core → Core → Float → Check
+pairFinite l r eps =
+    demand (finite eps && allFinite (l .entries)) (Number 0)
     then demand (allFinite (r .entries)) (Number 1)
     then demand (notBelowZero eps) (Setting 0)
+
+unfoldable pub pairOk : Core → Core → Float → ℕ → ℕ → ℕ → Check
+pairOk l r eps leftOut rightOut scratch = pairSized l r then pairLent l r leftOut rightOut scratch then pairFinite l r eps
 
 -- what the call answers and leaves: each core packed at the front of its output, the rest +0
 pub record PairEnded : Type 0 where
@@ -75,4 +87,4 @@ pairBy leftOut rightOut scratch (refused r) = record {
 }
 
 unfoldable pub pairCall : Core → Core → Float → List Float → List Float → List Float → PairEnded
-pairCall l r eps leftOut rightOut scratch = pairBy leftOut rightOut scratch (pairOk l r eps leftOut rightOut scratch then pairOf eps l r)
+pairCall l r eps leftOut rightOut scratch = pairBy leftOut rightOut scratch (pairOk l r eps (length leftOut) (length rightOut) (length scratch) then pairOf eps l r)

@@ -1,5 +1,5 @@
 pub mod Slabs
-pub mod Passes
 pub mod Splits
 pub mod Call
 pub mod Claims
+pub mod Loops

@@ -15,7 +15,7 @@ use Rattle.shape.specs.Limits.{mostRank}
 use Rattle.shape.specs.Cores.{Core, coreWith, block}
 use Rattle.bond.specs.Values.{order, sorted, keptRank}
 use Rattle.pair.specs.Slabs.{slab}
-use Rattle.pair.specs.Passes.{dot, Passes, orthogonalized, start}
+use Rattle.passes.specs.Passes.{dot, Passes, orthogonalized, start}
 
 -- the root of the sum of squares of each of n columns of m numbers, rows ascending
 unfoldable pub values : ℕ → ℕ → List Float → List Float

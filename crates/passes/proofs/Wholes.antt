@@ -1,6 +1,6 @@
 -- The columns and the basis are finite and keep their lengths: as made from a slab that was stored, and by every pass. Assumes nothing.
 use mathlib.Core.Path.{_≡_, refl, ap, _∙_, sym}
-use Prim.Native.Nat.{ℕ, zero, suc, _+_, _*_}
+use Prim.Native.Nat.{ℕ, zero, suc, _+_, _-_, _*_}
 use native.Mathlib.Omega.{arith}
 use mathlib.Core.Bool.{Bool, true, false}
 use mathlib.Core.List.{List}
@@ -18,8 +18,9 @@ use Rattle.lists.proofs.Floats.{finite-getD, stored-is}
 use Rattle.lists.proofs.Tables.{length-grid}
 use Rattle.bond.specs.Rotation.{tangentOf, slopeOf, cosineOf}
 use Rattle.bond.specs.Sweeps.{eye}
-use Rattle.pair.specs.Passes.{Svd, svd, turnStored, turned, dot, skipped, Pass, passed, rotate, pass, Passes, passesFrom, mostPasses, orthogonalized, start}
-use Rattle.pair.proofs.Laws.{grid-finite, along-keeps}
+use Rattle.passes.specs.Passes.{Svd, svd, turnStored, turned, dot, skipped, Pass, passed, rotate, pass, Passes, passesFrom, mostPasses, orthogonalized, start}
+use Rattle.passes.specs.Loops.{passRow}
+use Rattle.passes.proofs.Laws.{grid-finite, turning-keeps, along-keeps}
 
 -- ---- n columns of m numbers, and a basis of n by n
 pub record Whole (m n : ℕ) (e : Svd) : Type 0 where
@@ -52,7 +53,7 @@ module _ (m n : ℕ) where
       let (j, u) = stored-is (turnStored n n p q c s (e .basis)) v y in
       rw (← done-inj k) (record { columnsLength = ap length (sym i) ∙ length-grid n m _; basisLength = ap length (sym j) ∙ length-grid n n _; columnsFinite = t; basisFinite = u })
 
-  rotate-whole : (p q : ℕ) (x y : Pass) → Whole m n (x .svd) → rotate m n p q x ≡ done y → Whole m n (y .svd)
+  pub rotate-whole : (p q : ℕ) (x y : Pass) → Whole m n (x .svd) → rotate m n p q x ≡ done y → Whole m n (y .svd)
   unfolding rotate pick
   rotate-whole p q x y w h =
       let a = x .svd .columns in
@@ -62,6 +63,10 @@ module _ (m n : ℕ) where
       go : (b : Bool) (c s : Float) → pick b (done x) (bind (turned m n p q c s (x .svd)) (λ e. done (passed e false))) ≡ done y → Whole m n (y .svd)
       go true c s h = rw (← done-inj h) w
       go false c s h = let (e, t, g) = bind-done (turned m n p q c s (x .svd)) (λ e. done (passed e false)) y h in rw (← done-inj g) (turned-whole p q c s (x .svd) e t)
+
+  pub row-whole : (p : ℕ) (x y : Pass) → Whole m n (x .svd) → passRow m n p x ≡ done y → Whole m n (y .svd)
+  unfolding passRow
+  row-whole p x y w h = turning-keeps (λ (z : Pass). Whole m n (z .svd)) (λ (q : ℕ). rotate m n p q) (λ q a b u g. rotate-whole p q a b u g) (n - (p + 1)) (p + 1) x y w h
 
   pub pass-whole : (e : Svd) (y : Pass) → Whole m n e → pass m n e ≡ done y → Whole m n (y .svd)
   unfolding pass

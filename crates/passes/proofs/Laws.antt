@@ -1,4 +1,4 @@
--- Laws of lists and cores that a pair needs: lengths, finite numbers, walks along a list. Assumes nothing.
+-- Laws of lists that passes need: tables of finite numbers, a walk along a list. Assumes nothing.
 use mathlib.Core.Path.{_≡_, refl, ap, _∙_, sym}
 use Prim.Native.Nat.{ℕ, zero, suc, _+_, _*_, _≤_, _<_}
 use native.Mathlib.Nat.{suc-mul, zero-mul, mul-assoc, le-refl}
@@ -11,30 +11,12 @@ use Rattle.numbers.specs.Finite.{finite}
 use Rattle.answers.specs.Outcome.{Outcome, done}
 use Rattle.answers.proofs.Outcomes.{bind-done, done-inj}
 use Rattle.lists.specs.Lists.{listed, tab, joined, grid, count}
-use Rattle.lists.specs.Walks.{along}
+use Rattle.lists.specs.Walks.{turning, along}
 use Rattle.lists.specs.Floats.{allFinite}
 use Rattle.lists.proofs.Floats.{finite-append}
 use Rattle.lists.proofs.Tables.{joined-none, joined-more, length-grid}
 use Rattle.lists.proofs.Tests.{and-yes}
 use Rattle.shape.specs.Cores.{block}
-
--- ---- lengths
-one-or-none : (b : Bool) → cond b 1 0 ≤ 1
-one-or-none true = omega arith
-one-or-none false = omega arith
-
-pub count-most : (p : ℕ → Bool) (n : ℕ) → count p n ≤ n
-unfolding count
-count-most p zero = omega arith
-count-most p (suc n) = omega (arith, count-most p n, one-or-none (p n))
-
-pub joined-length : {A : Type 0} (m n : ℕ) (f : ℕ → List A) → ((i : ℕ) → length (f i) ≡ n) → length (joined m f) ≡ m * n
-joined-length zero n f h = rw (joined-none f, zero-mul)
-joined-length (suc m) n f h = ap length (joined-more m f) ∙ length-append (joined m f) (f m) ∙ rw (joined-length m n f h, h m) (sym (suc-mul m n))
-
-pub block-length : (rl n rr : ℕ) (f : ℕ → ℕ → ℕ → Float) → length (block rl n rr f) ≡ rl * n * rr
-unfolding block
-block-length rl n rr f = joined-length rl (n * rr) (λ (il : ℕ). grid n rr (f il)) (λ i. length-grid n rr (f i)) ∙ sym (mul-assoc rl n rr)
 
 -- ---- lists made of finite numbers
 tab-finite : (m k : ℕ) (f : ℕ → Float) → ((j : ℕ) → k ≤ j → j < k + m → finite (f j) ≡ true) → allFinite (listed m k f) ≡ true
@@ -50,7 +32,13 @@ joined-finite (suc m) f h = ap allFinite (joined-more m f) ∙ finite-append (jo
 pub grid-finite : (m n : ℕ) (f : ℕ → ℕ → Float) → ((i j : ℕ) → i < m → j < n → finite (f i j) ≡ true) → allFinite (grid m n f) ≡ true
 grid-finite m n f h = joined-finite m (λ (i : ℕ). tab n (f i)) (λ i l. tab-finite n 0 (f i) (λ j a b. h i j l (omega arith)))
 
--- ---- a walk along a list keeps what each turn keeps
+-- ---- a walk keeps what each turn keeps: by count, and along a list
+pub turning-keeps : {E A : Type 0} (P : A → Type 0) (f : ℕ → A → Outcome E A) → ((i : ℕ) (a b : A) → P a → f i a ≡ done b → P b)
+    → (m k : ℕ) (a b : A) → P a → turning m k f a ≡ done b → P b
+unfolding turning
+turning-keeps P f h zero k a b p e = rw (← done-inj e) p
+turning-keeps P f h (suc m) k a b p e = let (c, d, g) = bind-done (f k a) (λ x. turning m (suc k) f x) b e in turning-keeps P f h m (suc k) c b (h k a c p d) g
+
 pub along-keeps : {E X A : Type 0} (P : A → Type 0) (f : X → A → Outcome E A) → ((x : X) (a b : A) → P a → f x a ≡ done b → P b)
     → (xs : List X) (a b : A) → P a → along xs f a ≡ done b → P b
 unfolding along

@@ -8,8 +8,8 @@ use mathlib.Core.Bool.{Bool, true, false, true≢false}
 use Rattle.answers.specs.Outcome.{Made, done, bind}
 use Rattle.answers.proofs.Outcomes.{bind-done, done-inj}
 use Rattle.lists.specs.Walks.{turning}
-use Rattle.pair.specs.Passes.{Svd, Pass, passed, pass, Passes, made, passesFrom, mostPasses, orthogonalized}
-use Rattle.pair.specs.Claims.{passesMade, Counted}
+use Rattle.passes.specs.Passes.{Svd, Pass, passed, pass, Passes, made, passesFrom, mostPasses, orthogonalized}
+use Rattle.passes.specs.Claims.{passesMade, Counted}
 
 module _ (m n : ℕ) where
   next : ℕ → Pass → Made Pass

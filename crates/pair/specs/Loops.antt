@@ -1,0 +1,46 @@
+-- How the work on a pair goes, stage by stage: the slab by flat indices, its columns, their values, the split. Definitions for loops only.
+use Prim.Native.Nat.{ℕ, _+_, _*_, _≤_}
+use mathlib.Core.List.{List}
+use lib.Ieee.{Float}
+use Rattle.numbers.specs.Arithmetic.{zero64}
+use Rattle.answers.specs.declared.Part.the-variants.{Spectrum}
+use Rattle.answers.specs.Outcome.{Made, Answer, done, bind, making}
+use Rattle.lists.specs.Lists.{iter, grid}
+use Rattle.lists.specs.Floats.{at, cell, stored}
+use Rattle.shape.specs.Cores.{Core}
+use Rattle.bond.specs.Sweeps.{eye}
+use Rattle.passes.specs.Passes.{svd, Passes, orthogonalized}
+use Rattle.pair.specs.Slabs.{plusProduct, slab}
+use Rattle.pair.specs.Splits.{values, Halves, cut}
+use Rattle.pair.specs.Call.{mostLines}
+
+-- what the checks say of a slab's rows and columns
+pub record Lines (rl nj nk rr : ℕ) : Type 0 where
+  pub rows : rl * nj ≤ mostLines
+  pub columns : nk * rr ≤ mostLines
+  pub some : 1 ≤ nk * rr
+
+-- row `row` of rows of k times column `col` of rows of w
+unfoldable pub slabAt : List Float → List Float → ℕ → ℕ → ℕ → ℕ → Float
+slabAt left right k w row col = iter k (λ (im : ℕ) (s : Float). plusProduct s (cell k left row im) (cell w right im col)) zero64
+
+-- the columns of m rows of n
+abbrev pub columnsOf : ℕ → ℕ → List Float → List Float
+columnsOf m n s = grid n m (λ (col row : ℕ). cell n s row col)
+
+unfoldable pub slabColumns : Core → Core → Made (List Float)
+slabColumns l r = bind (stored (slab l r)) (λ s. done (columnsOf (l .rl * l .n) (r .n * r .rr) s))
+
+-- columns after their passes, and their values
+pub record Valued : Type 0 where
+  pub passes : Passes
+  pub values : List Float
+
+unfoldable pub valuedFrom : ℕ → ℕ → List Float → Made Valued
+valuedFrom m n a =
+    bind (orthogonalized m n (svd a (eye n))) (λ w.
+    bind (stored (values m n (w .svd .columns))) (λ sv.
+    done (record { passes = w; values = sv })))
+
+unfoldable pub splitFrom : Float → (rl nj nk rr : ℕ) → List Float → Answer Halves
+splitFrom eps rl nj nk rr a = bind (making Spectrum 0 (valuedFrom (rl * nj) (nk * rr) a)) (λ d. cut eps rl nj nk rr (d .passes) (d .values))
