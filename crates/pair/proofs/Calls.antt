@@ -24,7 +24,7 @@ use Rattle.passes.specs.Claims.{Counted}
 use Rattle.pair.specs.Claims.{Formed}
 use Rattle.pair.specs.Call.{leftRoom, rightRoom, pairOk, PairEnded, pairBy, pairCall}
 use Rattle.pair.proofs.Splits.{pair-formed}
-use Rattle.pair.proofs.Checks.{Checked, checked}
+use Rattle.pair.proofs.Checked.{Checked, checked}
 
 -- ---- slices keep their lengths
 pub record SameLengths (leftOut rightOut scratch : List Float) (e : PairEnded) : Type 0 where

@@ -13,8 +13,9 @@ use Rattle.answers.specs.Outcome.{Answer, done, refused, Check, _then_, demand}
 use Rattle.lists.specs.Slots.{fit}
 use Rattle.lists.specs.Floats.{allFinite}
 use Rattle.shape.specs.Limits.{mostPoints, mostRank, within}
-use Rattle.shape.specs.Cores.{Core}
+use Rattle.shape.specs.Cores.{Core, coreWith}
 use Rattle.rounding.specs.Call.{notBelowZero, scratchAfter}
+use Rattle.pair.specs.declared.Sizes.{Sizes}
 use Rattle.pair.specs.declared.Paired.{Paired}
 use Rattle.pair.specs.Splits.{Halves, pairOf}
 
@@ -24,6 +25,10 @@ mostLines = 64
 
 abbrev pub pairScratch : ℕ
 pairScratch = 20480
+
+-- a core of these sizes
+abbrev pub coreOf : Sizes → List Float → Core
+coreOf s l = coreWith (s .rl) (s .n) (s .rr) l
 
 -- the outer ranks needn't be 1
 unfoldable pub sizesOk : Core → Bool
@@ -55,15 +60,15 @@ pairLent l r leftOut rightOut scratch =
     then demand (eqb rightOut (rightRoom r)) (Length 3)
     then demand (eqb scratch pairScratch) (Length 4)
 
--- 6 and 7
-unfoldable pub pairFinite : Core → Core → Float → Check
-pairFinite l r eps =
-    demand (finite eps && allFinite (l .entries)) (Number 0)
-    then demand (allFinite (r .entries)) (Number 1)
+-- 6 and 7, of both cores' numbers
+unfoldable pub pairFinite : Float → List Float → List Float → Check
+pairFinite eps left right =
+    demand (finite eps && allFinite left) (Number 0)
+    then demand (allFinite right) (Number 1)
     then demand (notBelowZero eps) (Setting 0)
 
 unfoldable pub pairOk : Core → Core → Float → ℕ → ℕ → ℕ → Check
-pairOk l r eps leftOut rightOut scratch = pairSized l r then pairLent l r leftOut rightOut scratch then pairFinite l r eps
+pairOk l r eps leftOut rightOut scratch = pairSized l r then pairLent l r leftOut rightOut scratch then pairFinite eps (l .entries) (r .entries)
 
 -- what the call answers and leaves: each core packed at the front of its output, the rest +0
 pub record PairEnded : Type 0 where

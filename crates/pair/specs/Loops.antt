@@ -7,10 +7,9 @@ use Rattle.answers.specs.declared.Part.the-variants.{Spectrum}
 use Rattle.answers.specs.Outcome.{Made, Answer, done, bind, making}
 use Rattle.lists.specs.Lists.{iter, grid}
 use Rattle.lists.specs.Floats.{at, cell, stored}
-use Rattle.shape.specs.Cores.{Core}
 use Rattle.bond.specs.Sweeps.{eye}
 use Rattle.passes.specs.Passes.{svd, Passes, orthogonalized}
-use Rattle.pair.specs.Slabs.{plusProduct, slab}
+use Rattle.pair.specs.Slabs.{plusProduct}
 use Rattle.pair.specs.Splits.{values, Halves, cut}
 use Rattle.pair.specs.Call.{mostLines}
 
@@ -28,8 +27,9 @@ slabAt left right k w row col = iter k (λ (im : ℕ) (s : Float). plusProduct s
 abbrev pub columnsOf : ℕ → ℕ → List Float → List Float
 columnsOf m n s = grid n m (λ (col row : ℕ). cell n s row col)
 
-unfoldable pub slabColumns : Core → Core → Made (List Float)
-slabColumns l r = bind (stored (slab l r)) (λ s. done (columnsOf (l .rl * l .n) (r .n * r .rr) s))
+-- the columns of the slab of m rows of k and k rows of w
+unfoldable pub slabColumns : (m k w : ℕ) → List Float → List Float → Made (List Float)
+slabColumns m k w left right = bind (stored (grid m w (slabAt left right k w))) (λ s. done (columnsOf m w s))
 
 -- columns after their passes, and their values
 pub record Valued : Type 0 where

@@ -1,21 +1,23 @@
 -- A rotation, a pass row by row, and passes one after another, in the form that proofs of code cite. Assumes nothing.
 use mathlib.Core.Path.{_≡_, refl, sym, ap, _∙_}
-use Prim.Native.Nat.{ℕ, zero, suc, _+_, _-_, _<_, _≤_}
+use Prim.Native.Nat.{ℕ, suc, _+_, _-_, _*_, _<_, _≤_}
 use native.Mathlib.Numerals.{add-one}
 use native.Mathlib.Omega.{arith}
 use mathlib.Core.Bool.{Bool, true, false}
 use mathlib.Core.List.{List}
+use lib.ListN.{length}
 use lib.Ieee.{Float}
 use Rattle.answers.specs.declared.Stage.{Stage}
 use Rattle.answers.specs.declared.Stage.the-variants.{Whole, Spilt}
 use Rattle.answers.specs.Outcome.{Made, done, bind, staged, stageOf}
 use Rattle.numbers.specs.Arithmetic.{times}
 use Rattle.lists.specs.Lists.{pick}
-use Rattle.lists.specs.Floats.{at, stored}
+use Rattle.lists.specs.Floats.{at, allFinite, stored}
 use Rattle.lists.specs.Walks.{turning}
 use Rattle.lists.proofs.Pairs.{along-pairs}
 use Rattle.lists.proofs.Stages.{stored-staged, staged-on, staged-stop, staged-last, turning-start}
 use Rattle.bond.specs.Rotation.{tangentOf, slopeOf, cosineOf}
+use Rattle.bond.specs.Sweeps.{eye}
 use Rattle.passes.specs.Passes.{Svd, svd, turnStored, turned, dot, skipped, Pass, passed, rotate, pass, Passes, made, passesFrom, mostPasses, orthogonalized}
 use Rattle.passes.specs.Loops.{passRow, squares, Held}
 use Rattle.passes.proofs.TwoColumns.{squares-length, squares-at}
@@ -57,7 +59,17 @@ module _ (m n p q : ℕ) (a v ss : List Float) (quiet : Bool) (es : ss ≡ squar
       let y : slopeOf (dot m a p p) (dot m a q q) (dot m a p q) ≡ x = sym (ex ∙ rw (el, low, high)) in
       rw (test, f, y, ← et, ← ec, d) (staged-last r e (λ z. passed z false))
 
--- ---- what is held stays held
+-- ---- what is held before the first pass, and stays held
+pub held-first : (m n : ℕ) (a v ss : List Float) → length a ≡ n * m → allFinite a ≡ true → v ≡ eye n → ss ≡ squares m n a → Held m n a v ss
+held-first m n a v ss long fine ev es = record {
+  long = long;
+  wide = ap length ev ∙ wholes.eye-length n;
+  fine = fine;
+  basis-fine = ap allFinite ev ∙ wholes.eye-finite n;
+  count = squares-length m n a ss es;
+  kept = es;
+}
+
 module _ (m n : ℕ) (a v ss a' v' ss' : List Float) (H : Held m n a v ss) (es : ss' ≡ squares m n a') (r : Stage) (w : r ≡ Whole) where
   still : wholes.Whole m n (svd a v)
   still = record { columnsLength = H .long; basisLength = H .wide; columnsFinite = H .fine; basisFinite = H .basis-fine }

@@ -29,19 +29,27 @@ pub record Whole (m n : ℕ) (e : Svd) : Type 0 where
   pub columnsFinite : allFinite (e .columns) ≡ true
   pub basisFinite : allFinite (e .basis) ≡ true
 
--- the columns and the basis as made hold only the slab's numbers, ones and zeros
-pub start-whole : (m n : ℕ) (s : List Float) → length s ≡ m * n → allFinite s ≡ true → Whole m n (start m n s)
-unfolding start eye pick ofBits
-start-whole m n s l f = record {
-  columnsLength = length-grid n m _;
-  basisLength = length-grid n n _;
-  columnsFinite = grid-finite n m _ (λ col row a b. finite-getD s (row * n + col) nan (cell-lt row m n col (length s) b a (omega arith)) f);
-  basisFinite = grid-finite n n _ (λ i j a b. go (eqb i j));
-}
+-- the basis as made holds ones and zeros, the columns the slab's numbers
+pub eye-length : (n : ℕ) → length (eye n) ≡ n * n
+unfolding eye
+eye-length n = length-grid n n _
+
+pub eye-finite : (n : ℕ) → allFinite (eye n) ≡ true
+unfolding eye pick ofBits
+eye-finite n = grid-finite n n _ (λ i j a b. go (eqb i j))
   where
     go : (b : Bool) → finite (pick b one64 zero64) ≡ true
     go true = refl
     go false = refl
+
+pub start-whole : (m n : ℕ) (s : List Float) → length s ≡ m * n → allFinite s ≡ true → Whole m n (start m n s)
+unfolding start
+start-whole m n s l f = record {
+  columnsLength = length-grid n m _;
+  basisLength = eye-length n;
+  columnsFinite = grid-finite n m _ (λ col row a b. finite-getD s (row * n + col) nan (cell-lt row m n col (length s) b a (omega arith)) f);
+  basisFinite = eye-finite n;
+}
 
 module _ (m n : ℕ) where
   turned-whole : (p q : ℕ) (c s : Float) (e d : Svd) → turned m n p q c s e ≡ done d → Whole m n d

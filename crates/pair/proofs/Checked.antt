@@ -31,14 +31,14 @@ pub record Sizes (c : Core) : Type 0 where
   pub n : Within mostPoints (c .n)
   pub rr : Within mostRank (c .rr)
 
-sizes-are : (c : Core) → sizesOk c ≡ true → Sizes c
+pub sizes-are : (c : Core) → sizesOk c ≡ true → Sizes c
 unfolding sizesOk
 sizes-are c e =
     let (a, b) = both (within mostRank (c .rl)) (within mostPoints (c .n) && within mostRank (c .rr)) e in
     let (p, q) = both (within mostPoints (c .n)) (within mostRank (c .rr)) b in
     record { rl = within-is mostRank (c .rl) a; n = within-is mostPoints (c .n) p; rr = within-is mostRank (c .rr) q }
 
-demand-then : {A : Type 0} (b : Bool) (r : Refusal) (o : Answer A) (a : A) → demand b r then o ≡ done a → (b ≡ true) × (o ≡ done a)
+pub demand-then : {A : Type 0} (b : Bool) (r : Refusal) (o : Answer A) (a : A) → demand b r then o ≡ done a → (b ≡ true) × (o ≡ done a)
 demand-then b r o a h = let (p, q) = then-is (demand b r) o a h in (demand-is b r p, q)
 
 pub record Checked (l r : Core) (eps : Float) (leftOut rightOut scratch : ℕ) : Type 0 where
@@ -61,7 +61,7 @@ pub checked : (l r : Core) (eps : Float) (leftOut rightOut scratch : ℕ) → pa
 unfolding pairOk pairSized pairLent pairFinite
 checked l r eps leftOut rightOut scratch h =
     let (sized, x) = then-is (pairSized l r) _ tt h in
-    let (lent, fine) = then-is (pairLent l r leftOut rightOut scratch) (pairFinite l r eps) tt x in
+    let (lent, fine) = then-is (pairLent l r leftOut rightOut scratch) (pairFinite eps (l .entries) (r .entries)) tt x in
     let (size0, a) = demand-then _ _ _ tt sized in
     let (size1, b) = demand-then _ _ _ tt a in
     let (length0, d) = demand-then _ _ _ tt lent in
