@@ -1,15 +1,14 @@
 -- The call by its verdicts: what the checks say, what an outcome leaves, and which refusals leave scratch unwritten. Assumes nothing.
 use mathlib.Core.Path.{_≡_, refl, sym, ap, _∙_}
 use Prim.Native.Nat.{ℕ, _*_, _≤_}
-use native.Mathlib.Nat.{mul-assoc, mul-le-mul, mul-le-mul-left, mul-le-mul-right}
+use native.Mathlib.Nat.{mul-assoc, mul-le-mul}
 use native.Mathlib.Omega.{arith}
 use mathlib.Core.Bool.{Bool, true, false}
-use mathlib.Core.List.{List, []}
+use mathlib.Core.List.{List}
 use lib.Dec.{leb}
 use lib.ListN.{length, replicate}
 use lib.Ieee.{Float}
 use Rattle.numbers.specs.Arithmetic.{zero64}
-use Rattle.numbers.specs.Finite.{finite}
 use Rattle.answers.specs.declared.Part.{Part}
 use Rattle.answers.specs.declared.Part.the-variants.{Entry, Spectrum, Factor}
 use Rattle.answers.specs.declared.Refusal.{Refusal}
@@ -22,7 +21,7 @@ use Rattle.answers.proofs.Outcomes.{refused-inj, done-refused}
 use Rattle.answers.proofs.Checks.{verdict-passed, verdict-refused}
 use Rattle.lists.specs.Lists.{pick}
 use Rattle.lists.specs.Slots.{fit}
-use Rattle.lists.specs.Floats.{allFinite, stored}
+use Rattle.lists.specs.Floats.{stored}
 use Rattle.shape.specs.Limits.{mostRank}
 use Rattle.shape.specs.Cores.{Core, coreWith}
 use Rattle.rounding.specs.Call.{scratchAfter}
@@ -32,7 +31,7 @@ use Rattle.pair.specs.declared.Sizes as given
 use Rattle.pair.specs.declared.Paired.{Paired}
 use Rattle.pair.specs.Slabs.{slab}
 use Rattle.pair.specs.Splits.{values, leftNumbers, rightNumbers, Halves, formed, cut, split, pairOf}
-use Rattle.pair.specs.Call.{mostLines, pairScratch, coreOf, coreNumbers, leftRoom, rightRoom, pairSized, pairLent, pairFinite, pairOk, PairEnded, pairBy, pairCall}
+use Rattle.pair.specs.Call.{coreOf, coreNumbers, leftRoom, rightRoom, pairSized, pairLent, pairFinite, pairOk, PairEnded, pairBy, pairCall}
 use Rattle.pair.specs.Loops.{Lines}
 use Rattle.pair.proofs.Checked.{checked}
 use Rattle.pair.proofs.Splits.{pair-formed}

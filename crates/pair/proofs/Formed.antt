@@ -1,10 +1,10 @@
 -- A pair stage by stage, in the form that proofs of code cite. Assumes nothing.
 use mathlib.Core.Path.{_≡_, refl, sym, ap, _∙_}
 use Prim.Native.Nat.{ℕ, _+_, _-_, _*_, _≤_, _<_}
-use native.Mathlib.Nat.{mul-assoc, mul-comm, mul-le-mul, le-of-eq}
+use native.Mathlib.Nat.{le-of-eq}
 use native.Mathlib.Omega.{arith}
-use mathlib.Core.Bool.{Bool, true, false}
-use mathlib.Core.List.{List, [], _++_, map}
+use mathlib.Core.Bool.{true}
+use mathlib.Core.List.{List, _++_, map}
 use lib.Dec.{leb}
 use lib.ListN.{length, getD, take, drop, replicate, length-replicate, replicate-append-replicate}
 use lib.Seq.{length-take-le, drop-at}
@@ -13,16 +13,15 @@ use Rattle.numbers.specs.Arithmetic.{times, zero64}
 use Rattle.numbers.specs.Root.{rootOf}
 use Rattle.answers.specs.declared.Part.{Part}
 use Rattle.answers.specs.declared.Part.the-variants.{Entry, Spectrum, Factor}
-use Rattle.answers.specs.declared.Refusal.{Refusal}
 use Rattle.answers.specs.declared.Refusal.the-variants.{Stored, PairRank}
 use Rattle.answers.specs.declared.Verdict.{Verdict}
 use Rattle.answers.specs.declared.Verdict.the-variants.{Fits, Refused}
 use Rattle.answers.specs.declared.Stage.{Stage}
 use Rattle.answers.specs.declared.Stage.the-variants.{Whole, Spilt}
 use Rattle.answers.specs.Outcome.{Made, Answer, done, refused, bind, making, demand, _then_, staged, stageOf, answered}
-use Rattle.answers.proofs.Outcomes.{bind-done, bind-cong, done-inj}
+use Rattle.answers.proofs.Outcomes.{bind-done, done-inj}
 use Rattle.answers.proofs.Checks.{demand-yes, demand-no}
-use Rattle.lists.specs.Lists.{grid, tab}
+use Rattle.lists.specs.Lists.{grid}
 use Rattle.lists.specs.Floats.{at, cell, allFinite, stored}
 use Rattle.lists.proofs.Cells.{cell-lt}
 use Rattle.lists.proofs.Floats.{stored-is, finite-getD}
@@ -37,10 +36,9 @@ use Rattle.shape.specs.Cores.{Core, coreWith}
 use Rattle.shape.proofs.Places.{block-rows, block-lines}
 use Rattle.bond.specs.Sweeps.{eye}
 use Rattle.bond.specs.Values.{order, sorted, keptRank}
-use Rattle.passes.specs.Passes.{Svd, svd, dot, Passes, made, orthogonalized, start}
-use Rattle.passes.specs.Loops.{squares, Held}
+use Rattle.passes.specs.Passes.{svd, dot, Passes, made, orthogonalized, start}
+use Rattle.passes.specs.Loops.{squares}
 use Rattle.passes.proofs.Laws.{grid-finite}
-use Rattle.pair.specs.Slabs.{slab}
 use Rattle.pair.specs.Splits.{values, inverse, leftNumbers, rightNumbers, Halves, formed, cut, split, pairOf}
 use Rattle.pair.specs.Loops.{slabAt, columnsOf, slabColumns, Valued, valuedFrom, splitFrom}
 use Rattle.pair.proofs.Slabs.{slab-flat}

@@ -1,12 +1,11 @@
 -- The checks of a pair by what code finds. Assumes nothing.
-use mathlib.Core.Path.{_≡_, refl, sym, ap, _∙_}
+use mathlib.Core.Path.{_≡_, sym, ap, _∙_}
 use Prim.Native.Nat.{ℕ, _*_, _≤_}
 use native.Mathlib.Nat.{mul-le-mul}
 use native.Mathlib.Omega.{arith}
 use mathlib.Core.Bool.{Bool, true, false, not, _&&_}
 use mathlib.Core.List.{List, []}
-use lib.Dec.{leb, eqb}
-use lib.ListN.{length}
+use lib.Dec.{eqb}
 use lib.Ieee.{Float}
 use mir.Syntax.{w64}
 use mir.Val.{Fits}
@@ -16,10 +15,8 @@ use Rattle.answers.specs.declared.Verdict.the-variants as verdict
 use Rattle.answers.specs.Outcome.{done, verdictOf, Check, demand, _then_}
 use Rattle.answers.proofs.Checks.{demand-yes, demand-no, then-stops, then-passes}
 use Rattle.lists.proofs.Tests.{eqb-yes, eqb-no, not-yes, not-no, both}
-use Rattle.shape.specs.Limits.{mostPoints}
-use Rattle.shape.specs.Cores.{Core}
 use Rattle.pair.specs.declared.Sizes as given
-use Rattle.pair.specs.Call.{mostLines, coreOf, sizesOk, pairSized, pairLent, pairFinite, pairOk}
+use Rattle.pair.specs.Call.{coreOf, sizesOk, pairSized, pairLent, pairFinite, pairOk}
 use Rattle.pair.proofs.Checked.{Sizes, sizes-are, demand-then}
 
 -- ---- one demand of several: by a test, and by two counts that are equal

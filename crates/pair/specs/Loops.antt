@@ -1,12 +1,12 @@
 -- How the work on a pair goes, stage by stage: the slab by flat indices, its columns, their values, the split. Definitions for loops only.
-use Prim.Native.Nat.{ℕ, _+_, _*_, _≤_}
+use Prim.Native.Nat.{ℕ, _*_, _≤_}
 use mathlib.Core.List.{List}
 use lib.Ieee.{Float}
 use Rattle.numbers.specs.Arithmetic.{zero64}
 use Rattle.answers.specs.declared.Part.the-variants.{Spectrum}
 use Rattle.answers.specs.Outcome.{Made, Answer, done, bind, making}
 use Rattle.lists.specs.Lists.{iter, grid}
-use Rattle.lists.specs.Floats.{at, cell, stored}
+use Rattle.lists.specs.Floats.{cell, stored}
 use Rattle.bond.specs.Sweeps.{eye}
 use Rattle.passes.specs.Passes.{svd, Passes, orthogonalized}
 use Rattle.pair.specs.Slabs.{plusProduct}

@@ -4,7 +4,6 @@ ghost use mathlib.Core.Bool.{true, _&&_};
 ghost use mathlib.Core.List.{[]};
 ghost use Prim.Native.Nat.{_*_, _≤_};
 ghost use lib.Dec.{leb};
-ghost use lib.ListN.{length};
 ghost use Rattle.answers.specs.Outcome.{verdictOf, done};
 ghost use Rattle.numbers.specs.Finite.{finite};
 ghost use Rattle.lists.specs.Floats.{allFinite};

@@ -1,6 +1,6 @@
 // The slab of two neighbouring cores: rows of the left one times the right one.
 ghost use mathlib.Core.Path.{_≡_};
-ghost use Prim.Native.Nat.{ℕ, _+_, _*_, _<_, _≤_};
+ghost use Prim.Native.Nat.{_+_, _*_, _<_, _≤_};
 ghost use lib.ListN.{length};
 ghost use Rattle.answers.specs.Outcome.{staged};
 ghost use Rattle.lists.specs.Lists.{grid};

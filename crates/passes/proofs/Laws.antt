@@ -1,22 +1,20 @@
 -- Laws of lists that passes need: tables of finite numbers, a walk along a list. Assumes nothing.
-use mathlib.Core.Path.{_≡_, refl, ap, _∙_, sym}
-use Prim.Native.Nat.{ℕ, zero, suc, _+_, _*_, _≤_, _<_}
-use native.Mathlib.Nat.{suc-mul, zero-mul, mul-assoc, le-refl}
+use mathlib.Core.Path.{_≡_, refl, ap, _∙_}
+use Prim.Native.Nat.{ℕ, zero, suc, _+_, _≤_, _<_}
+use native.Mathlib.Nat.{le-refl}
 use native.Mathlib.Omega.{arith}
-use mathlib.Core.Bool.{Bool, true, false, cond}
+use mathlib.Core.Bool.{true}
 use mathlib.Core.List.{List, [], _∷_}
-use lib.ListN.{length, length-append}
 use lib.Ieee.{Float}
 use Rattle.numbers.specs.Finite.{finite}
 use Rattle.answers.specs.Outcome.{Outcome, done}
 use Rattle.answers.proofs.Outcomes.{bind-done, done-inj}
-use Rattle.lists.specs.Lists.{listed, tab, joined, grid, count}
+use Rattle.lists.specs.Lists.{listed, tab, joined, grid}
 use Rattle.lists.specs.Walks.{turning, along}
 use Rattle.lists.specs.Floats.{allFinite}
 use Rattle.lists.proofs.Floats.{finite-append}
-use Rattle.lists.proofs.Tables.{joined-none, joined-more, length-grid}
+use Rattle.lists.proofs.Tables.{joined-none, joined-more}
 use Rattle.lists.proofs.Tests.{and-yes}
-use Rattle.shape.specs.Cores.{block}
 
 -- ---- lists made of finite numbers
 tab-finite : (m k : ℕ) (f : ℕ → Float) → ((j : ℕ) → k ≤ j → j < k + m → finite (f j) ≡ true) → allFinite (listed m k f) ≡ true

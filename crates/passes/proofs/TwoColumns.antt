@@ -3,23 +3,24 @@ use mathlib.Core.Path.{_≡_, refl, sym, ap, _∙_}
 use Prim.Native.Nat.{ℕ, _+_, _-_, _*_, _<_, _≤_}
 use native.Mathlib.Nat.{le-of-eq}
 use native.Mathlib.Omega.{arith}
-use mathlib.Core.Bool.{Bool, true, false, _&&_, _||_}
+use mathlib.Core.Bool.{Bool, true, false, _&&_}
 use mathlib.Core.List.{List}
 use lib.Dec.{eqb}
 use lib.ListN.{length, getD, set, take, drop, length-set, length-drop}
 use lib.Seq.{getD-set-same, getD-set-other, getD-take, getD-drop, length-take-le}
-use lib.Ieee.{Float, nan, le}
+use lib.Ieee.{Float, nan, binary64, le}
+use lib.Ieee.Fits.{mul-fits}
 use Rattle.numbers.specs.Arithmetic.{times, over, zero64}
 use Rattle.numbers.specs.Finite.{finite}
 use Rattle.numbers.specs.Magnitude.{magnitudeOf}
 use Rattle.numbers.specs.Root.{rootOf}
 use Rattle.answers.specs.declared.Stage.the-variants.{Whole}
-use Rattle.answers.specs.Outcome.{Made, stageOf}
-use Rattle.lists.specs.Lists.{pick, grid}
-use Rattle.lists.specs.Floats.{at, cell, allFinite, stored}
+use Rattle.answers.specs.Outcome.{stageOf}
+use Rattle.lists.specs.Lists.{pick}
+use Rattle.lists.specs.Floats.{at, cell, sumOn, sumTo, allFinite, stored}
 use Rattle.lists.proofs.Cells.{cell-lt, exact-end}
 use Rattle.lists.proofs.Floats.{finite-getD, stored-yes}
-use Rattle.lists.proofs.Sums.{sum-same}
+use Rattle.lists.proofs.Sums.{times-finite, sum-finite, sum-same}
 use Rattle.lists.proofs.Tables.{length-tab, getD-tab, length-grid, getD-grid, grid-is, tab-is}
 use Rattle.lists.proofs.Tests.{eqb-is, eqb-not, eqb-no, both}
 use Rattle.bond.specs.Rotation.{turnedAt}
@@ -101,16 +102,29 @@ module _ (m n p q : ℕ) (a : List Float) (long : length a ≡ n * m) (hp : p < 
       let t : row < length (part k) = rw (w, length-take-le m (drop (k * m) a) r) g in
       ap finite (sym z) ∙ finite-getD (part k) row nan t f
 
-  pub two-finite : (f g : Bool) → f ≡ allFinite (part p) → g ≡ allFinite (part q) → f && g ≡ true → Whole ≡ stageOf (stored a)
-  two-finite f g ef eg h = sym (ap stageOf (stored-yes a fine))
-    where
-      each : (col row : ℕ) → col < n → row < m → finite (cell m a col row) ≡ true
-      each col row l r = go (eqb col p) (eqb col q) refl refl
-        where
-          go : (b d : Bool) → eqb col p ≡ b → eqb col q ≡ d → finite (cell m a col row) ≡ true
-          go true d eb ed = let z = eqb-is col p eb in rw z (part-cell p row hp r (sym ef ∙ both f g h .0))
-          go false true eb ed = let z = eqb-is col q ed in rw z (part-cell q row hq r (sym eg ∙ both f g h .1))
-          go false false eb ed = rest col row l r (eqb-not col p eb) (eqb-not col q ed)
+  module _ (ours : (row : ℕ) → row < m → finite (cell m a p row) ≡ true) (theirs : (row : ℕ) → row < m → finite (cell m a q row) ≡ true) where
+    each : (col row : ℕ) → col < n → row < m → finite (cell m a col row) ≡ true
+    each col row l r = go (eqb col p) (eqb col q) refl refl
+      where
+        go : (b d : Bool) → eqb col p ≡ b → eqb col q ≡ d → finite (cell m a col row) ≡ true
+        go true d eb ed = let z = eqb-is col p eb in rw z (ours row r)
+        go false true eb ed = let z = eqb-is col q ed in rw z (theirs row r)
+        go false false eb ed = rest col row l r (eqb-not col p eb) (eqb-not col q ed)
 
-      fine : allFinite a ≡ true
-      fine = ap allFinite (grid-is n m (λ (col row : ℕ). cell m a col row) nan a long (λ col row l r. refl)) ∙ grid-finite n m (λ (col row : ℕ). cell m a col row) each
+    all-whole : Whole ≡ stageOf (stored a)
+    all-whole = sym (ap stageOf (stored-yes a (ap allFinite (grid-is n m (λ (col row : ℕ). cell m a col row) nan a long (λ col row l r. refl)) ∙ grid-finite n m (λ (col row : ℕ). cell m a col row) each)))
+
+  -- by a look at both
+  pub two-finite : (f g : Bool) → f ≡ allFinite (part p) → g ≡ allFinite (part q) → f && g ≡ true → Whole ≡ stageOf (stored a)
+  two-finite f g ef eg h = all-whole (λ row r. part-cell p row hp r (sym ef ∙ both f g h .0)) (λ row r. part-cell q row hq r (sym eg ∙ both f g h .1))
+
+  -- by their sums of squares: a finite sum has finite terms
+  squared-cell : (ss : List Float) → ss ≡ squares m n a → (k row : ℕ) → k < n → row < m → finite (at ss k) ≡ true → finite (cell m a k row) ≡ true
+  unfolding dot sumTo
+  squared-cell ss es k row h g f =
+      let t : ℕ → Float = λ i. times (cell m a k i) (cell m a k i) in
+      let d : finite (sumOn zero64 m t) ≡ true = ap finite (sym (squares-at m n a ss es k h)) ∙ f in
+      times-finite (cell m a k row) (cell m a k row) (sum-finite t (λ i. mul-fits binary64 (cell m a k i) (cell m a k i)) zero64 m d .1 row g)
+
+  pub two-squared : (ss : List Float) → ss ≡ squares m n a → (f g : Bool) → f ≡ finite (at ss p) → g ≡ finite (at ss q) → f && g ≡ true → Whole ≡ stageOf (stored a)
+  two-squared ss es f g ef eg h = all-whole (λ row r. squared-cell ss es p row hp r (sym ef ∙ both f g h .0)) (λ row r. squared-cell ss es q row hq r (sym eg ∙ both f g h .1))

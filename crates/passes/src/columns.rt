@@ -1,7 +1,7 @@
 // Columns stored one after another: made from a slab, multiplied, turned, and looked over.
 ghost use mathlib.Core.Path.{_≡_};
 ghost use mathlib.Core.Bool.{true};
-ghost use Prim.Native.Nat.{ℕ, _+_, _-_, _*_, _<_, _≤_};
+ghost use Prim.Native.Nat.{ℕ, _+_, _-_, _*_, _<_};
 ghost use lib.ListN.{length, take, drop};
 ghost use Rattle.answers.specs.Outcome.{stageOf};
 ghost use Rattle.lists.specs.Lists.{grid};
@@ -87,7 +87,27 @@ fn column_finite(a: &[f64], m: usize, n: usize, p: usize) -> bool
     lists::all_finite(&a[p * m..p * m + m])
 }
 
-// Whether the numbers can stay stored, where all but columns p and q are known to be finite.
+// Whether the numbers can stay stored, where all but columns p and q are known to be finite: two finite sums of squares say so.
+pub fn stored_squared(
+    a: &[f64],
+    m: usize,
+    n: usize,
+    p: usize,
+    q: usize,
+    ss: &[f64],
+) -> answers::Stage
+    requires { ⌜ (length (now a) ≡ n * m) × (p < n) × (q < n) × Elsewhere m n p q (now a) × (now ss ≡ squares m n (now a)) × (length (now ss) ≡ n) ⌝ }
+    ensures { λ r. ⌜ r ≡ stageOf (stored (now (a .entry))) ⌝ }
+{
+    let first = numbers::is_finite(ss[p]);
+    let second = numbers::is_finite(ss[q]);
+    if first & second {
+        return answers::Stage::Whole;
+    }
+    lists::stored(a)
+}
+
+// The same by a look at both columns.
 pub fn stored_but(a: &[f64], m: usize, n: usize, p: usize, q: usize) -> answers::Stage
     requires { ⌜ (length (now a) ≡ n * m) × (p < n) × (q < n) × Elsewhere m n p q (now a) ⌝ }
     ensures { λ r. ⌜ r ≡ stageOf (stored (now (a .entry))) ⌝ }

@@ -37,7 +37,7 @@ fn apply_jacobi_rotation(
     columns::turn(a, m, n, p, q, c, s);
     columns::turn(v, n, n, p, q, c, s);
     columns::square_again(a, m, n, p, q, ss);
-    let made = columns::stored_but(a, m, n, p, q);
+    let made = columns::stored_squared(a, m, n, p, q, ss);
     if let answers::Stage::Spilt(i) = made {
         return answers::Stage::Spilt(i);
     }

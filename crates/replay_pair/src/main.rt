@@ -84,6 +84,12 @@ fn ended(w: pair::Paired, lefts: &[f64], rights: &[f64], scratch: &[f64]) -> boo
     }
 }
 
+fn filled(lefts: &mut [f64], rights: &mut [f64], scratch: &mut [f64]) {
+    lists::fill(lefts, OUT);
+    lists::fill(rights, OUT);
+    lists::fill(scratch, USED);
+}
+
 fn called(
     left: &[f64],
     right: &[f64],
@@ -94,32 +100,28 @@ fn called(
     rights: &mut [f64],
     scratch: &mut [f64],
 ) -> bool {
-    lists::fill(lefts, OUT);
-    lists::fill(rights, OUT);
-    lists::fill(scratch, USED);
+    filled(lefts, rights, scratch);
     let w = pair::contract_and_split(l, r, eps, left, right, lefts, rights, scratch);
     ended(w, lefts, rights, scratch)
 }
 
-// One case: the sizes of both cores, eps, their numbers, the lengths of both outputs and of scratch, then what is answered.
-fn agrees(
-    left: &mut [f64],
-    right: &mut [f64],
+// The outputs and scratch are lent with the lengths of the list.
+fn lent(
+    left: &[f64],
+    right: &[f64],
+    l: pair::Sizes,
+    r: pair::Sizes,
+    eps: f64,
     lefts: &mut [f64],
     rights: &mut [f64],
     scratch: &mut [f64],
 ) -> bool {
-    let l = sizes();
-    let r = sizes();
-    let eps = replay::number(replay::word());
-    let a = replay::list(left);
-    let b = replay::list(right);
     let x = room(lefts.len());
     let y = room(rights.len());
     let z = room(scratch.len());
     called(
-        &left[0..a],
-        &right[0..b],
+        left,
+        right,
         l,
         r,
         eps,
@@ -129,16 +131,40 @@ fn agrees(
     )
 }
 
-// 1 for a case that agrees; there is more room than any list of them asks for.
+// There is more room than any list asks for.
+fn roomy(left: &[f64], right: &[f64], l: pair::Sizes, r: pair::Sizes, eps: f64) -> bool {
+    let mut lefts = [0.0; 600];
+    let mut rights = [0.0; 600];
+    let mut scratch = [0.0; 20500];
+    lent(
+        left,
+        right,
+        l,
+        r,
+        eps,
+        &mut lefts,
+        &mut rights,
+        &mut scratch,
+    )
+}
+
+// One case: the sizes of both cores, eps, their numbers, the lengths of both outputs and of scratch, then what is answered.
+fn agrees(left: &mut [f64], right: &mut [f64]) -> bool {
+    let l = sizes();
+    let r = sizes();
+    let eps = replay::number(replay::word());
+    let a = replay::list(left);
+    let b = replay::list(right);
+    roomy(&left[0..a], &right[0..b], l, r, eps)
+}
+
+// 1 for a case that agrees.
 fn score() -> u64
     ensures { λ r. ⌜ r ≤ 1 ⌝ }
 {
     let mut left = [0.0; 600];
     let mut right = [0.0; 600];
-    let mut lefts = [0.0; 600];
-    let mut rights = [0.0; 600];
-    let mut scratch = [0.0; 20500];
-    if agrees(&mut left, &mut right, &mut lefts, &mut rights, &mut scratch) {
+    if agrees(&mut left, &mut right) {
         return 1;
     }
     0
