@@ -52,13 +52,36 @@ pub fn square(a: &[f64], m: usize, n: usize, ss: &mut [f64])
     }
 }
 
+// Two sums.
+struct Sums {
+    first: f64,
+    second: f64,
+}
+
+// The sums of squares of columns p and q, in one loop: the two are independent, so they are compiled as one pair.
+fn squares_of(a: &[f64], m: usize, n: usize, p: usize, q: usize) -> Sums
+    requires { ⌜ (length (now a) ≡ n * m) × (p < n) × (q < n) ⌝ }
+    ensures { λ r. ⌜ (r .first ≡ dot m (now (a .entry)) p p) × (r .second ≡ dot m (now (a .entry)) q q) ⌝ }
+{
+    let mut first = 0.0;
+    let mut second = 0.0;
+    for row in 0..m {
+        let x = a[p * m + row];
+        let y = a[q * m + row];
+        first = first + x * x;
+        second = second + y * y;
+    }
+    Sums { first, second }
+}
+
 // Those of columns p and q; the others stand.
 pub fn square_again(a: &[f64], m: usize, n: usize, p: usize, q: usize, ss: &mut [f64])
     requires { ⌜ (length (now a) ≡ n * m) × (length (now ss) ≡ n) × (p < n) × (q < n) × ((k : ℕ) → k < n → ¬ (k ≡ p) → ¬ (k ≡ q) → at (now ss) k ≡ dot m (now a) k k) ⌝ }
     ensures { λ _. ⌜ now (ss .exit) ≡ squares m n (now (a .entry)) ⌝ }
 {
-    ss[p] = dot(a, m, n, p, p);
-    ss[q] = dot(a, m, n, q, q);
+    let both = squares_of(a, m, n, p, q);
+    ss[p] = both.first;
+    ss[q] = both.second;
 }
 
 // Whether a pair is so near a right angle, or so small, that it isn't turned.
