@@ -17,13 +17,13 @@ use Rattle.lists.specs.Floats.{zeros}
 use Rattle.lists.proofs.Slots.{fit-length, fit-used}
 use Rattle.shape.specs.Cores.{Core}
 use Rattle.rounding.specs.Call.{scratchAfter}
-use Rattle.pair.specs.Slabs.{slab}
+use Rattle.splitting.specs.Slabs.{slab}
 use Rattle.passes.specs.Passes.{Passes, mostPasses, start}
-use Rattle.pair.specs.Splits.{Halves, pairOf}
+use Rattle.splitting.specs.Splits.{Halves, pairOf}
 use Rattle.passes.specs.Claims.{Counted}
-use Rattle.pair.specs.Claims.{Formed}
+use Rattle.splitting.specs.Claims.{Formed}
 use Rattle.pair.specs.Call.{leftRoom, rightRoom, pairOk, PairEnded, pairBy, pairCall}
-use Rattle.pair.proofs.Splits.{pair-formed}
+use Rattle.splitting.proofs.Splits.{pair-formed}
 use Rattle.pair.proofs.Checked.{Checked, checked}
 
 -- ---- slices keep their lengths

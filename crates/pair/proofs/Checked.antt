@@ -15,7 +15,8 @@ use Rattle.lists.proofs.Tests.{leb-is, eqb-is, both}
 use Rattle.shape.specs.Limits.{mostPoints, mostRank, within}
 use Rattle.shape.specs.Cores.{Core}
 use Rattle.rounding.specs.Call.{notBelowZero}
-use Rattle.pair.specs.Call.{mostLines, pairScratch, sizesOk, coreNumbers, leftRoom, rightRoom, pairSized, pairLent, pairFinite, pairOk}
+use Rattle.splitting.specs.Splits.{mostLines}
+use Rattle.pair.specs.Call.{pairScratch, sizesOk, coreNumbers, leftRoom, rightRoom, pairSized, pairLent, pairFinite, pairOk}
 
 -- x is from 1 to the most
 pub record Within (most x : ℕ) : Type 0 where

@@ -28,13 +28,13 @@ use Rattle.rounding.specs.Call.{scratchAfter}
 use Rattle.bond.specs.Values.{order, sorted, keptRank}
 use Rattle.passes.specs.Passes.{Passes, orthogonalized, start}
 use Rattle.pair.specs.declared.Sizes as given
-use Rattle.pair.specs.declared.Paired.{Paired}
-use Rattle.pair.specs.Slabs.{slab}
-use Rattle.pair.specs.Splits.{values, leftNumbers, rightNumbers, Halves, formed, cut, split, pairOf}
+use Rattle.splitting.specs.declared.Paired.{Paired}
+use Rattle.splitting.specs.Slabs.{slab}
+use Rattle.splitting.specs.Splits.{values, leftNumbers, rightNumbers, Halves, formed, cut, split, pairOf}
 use Rattle.pair.specs.Call.{coreOf, coreNumbers, leftRoom, rightRoom, pairSized, pairLent, pairFinite, pairOk, PairEnded, pairBy, pairCall}
-use Rattle.pair.specs.Loops.{Lines}
+use Rattle.splitting.specs.Loops.{Lines}
 use Rattle.pair.proofs.Checked.{checked}
-use Rattle.pair.proofs.Splits.{pair-formed}
+use Rattle.splitting.proofs.Splits.{pair-formed}
 
 -- ---- what the checks say, for the work
 pub record Ready (l r : given.Sizes) (left right : List Float) (lefts rights scratch : ℕ) : Type 0 where

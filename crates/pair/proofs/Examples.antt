@@ -22,9 +22,9 @@ use Rattle.bond.specs.Rotation.{tangentOf, slopeOf, cosineOf, turnedAt}
 use Rattle.bond.specs.Sweeps.{eye}
 use Rattle.bond.specs.Values.{rankIn, indexAt, order, sorted, thresholdOf, keptRank}
 use Rattle.rounding.specs.Call.{notBelowZero, scratchAfter}
-use Rattle.pair.specs.Slabs.{plusProduct, slabEntry, slab}
+use Rattle.splitting.specs.Slabs.{plusProduct, slabEntry, slab}
 use Rattle.passes.specs.Passes.{turnStored, turned, dot, tolerance64, skipped, rotate, pass, passesFrom, orthogonalized, start}
-use Rattle.pair.specs.Splits.{values, inverse, leftNumbers, rightNumbers, formed, cut, split, pairOf}
+use Rattle.splitting.specs.Splits.{values, inverse, leftNumbers, rightNumbers, formed, cut, split, pairOf}
 use Rattle.pair.specs.Call.{sizesOk, coreNumbers, leftRoom, rightRoom, pairScratch, pairSized, pairLent, pairFinite, pairOk, PairEnded, pairBy, pairCall}
 
 -- the tolerance is the f64 nearest to 1e-14

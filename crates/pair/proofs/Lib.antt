@@ -1,10 +1,7 @@
--- the slab, the split, the call
-pub mod Slabs
-pub mod Splits
+-- the call
 pub mod Checked
 pub mod Calls
 pub mod Examples
--- for the code: checks, stages
+-- for the code: checks, the end
 pub mod Verdicts
-pub mod Formed
 pub mod Ended

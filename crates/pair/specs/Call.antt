@@ -16,12 +16,8 @@ use Rattle.shape.specs.Limits.{mostPoints, mostRank, within}
 use Rattle.shape.specs.Cores.{Core, coreWith}
 use Rattle.rounding.specs.Call.{notBelowZero, scratchAfter}
 use Rattle.pair.specs.declared.Sizes.{Sizes}
-use Rattle.pair.specs.declared.Paired.{Paired}
-use Rattle.pair.specs.Splits.{Halves, pairOf}
-
--- a slab's rows, and its columns
-abbrev pub mostLines : ℕ
-mostLines = 64
+use Rattle.splitting.specs.declared.Paired.{Paired}
+use Rattle.splitting.specs.Splits.{mostLines, Halves, pairOf}
 
 abbrev pub pairScratch : ℕ
 pairScratch = 20480

@@ -8,49 +8,17 @@ ghost use Rattle.answers.specs.Outcome.{done, answered};
 ghost use Rattle.lists.specs.Slots.{fit};
 ghost use Rattle.shape.specs.Limits.{mostRank};
 ghost use Rattle.shape.specs.Cores.{coreWith};
-ghost use Rattle.pair.specs.Splits.{pairOf};
-ghost use Rattle.pair.specs.Call.{mostLines, coreOf, pairOk, pairBy, pairCall};
-ghost use Rattle.pair.specs.Loops.{Lines};
+ghost use Rattle.splitting.specs.Splits.{mostLines, pairOf};
+ghost use Rattle.pair.specs.Call.{coreOf, pairOk, pairBy, pairCall};
+ghost use Rattle.splitting.specs.Loops.{Lines};
 
 mod checks;
-pub mod halves;
-pub mod slab;
-
-// The most rows of a slab, and the most columns.
-pub const MOST_LINES: usize = 64;
 
 // The sizes of one core.
 pub struct Sizes {
     pub rl: usize,
     pub n: usize,
     pub rr: usize,
-}
-
-// The kept rank and the passes made, the quiet one included; both are 0 after a refusal.
-pub struct Paired {
-    pub verdict: answers::Verdict,
-    pub rank: usize,
-    pub passes: usize,
-}
-
-fn refused_pair(r: answers::Refusal) -> Paired
-    ensures { λ w. ⌜ w ≡ record { verdict = Refused r; rank = 0; passes = 0 } ⌝ }
-{
-    Paired {
-        verdict: answers::Verdict::Refused(r),
-        rank: 0,
-        passes: 0,
-    }
-}
-
-fn paired_as(verdict: answers::Verdict, rank: usize, passes: usize) -> Paired
-    ensures { λ w. ⌜ w ≡ record { verdict = verdict; rank = rank; passes = passes } ⌝ }
-{
-    Paired {
-        verdict,
-        rank,
-        passes,
-    }
 }
 
 // The new cores' numbers, at the fronts of x and y.
@@ -63,15 +31,15 @@ fn pair_of(
     a: &mut [f64],
     x: &mut [f64],
     y: &mut [f64],
-) -> Paired
+) -> splitting::Paired
     requires { ⌜ Lines (l .rl) (l .n) (r .n) (r .rr) × (length (now left) ≡ l .rl * l .n * l .rr) × (length (now right) ≡ l .rr * (r .n * r .rr)) × (length (now a) ≡ r .n * r .rr * (l .rl * l .n)) × (mostLines * mostRank ≤ length (now x)) × (mostRank * mostLines ≤ length (now y)) ⌝ }
     ensures { λ w. ⌜ pairOf eps (coreOf l (now (left .entry))) (coreOf r (now (right .entry))) ≡ answered (w .verdict) (record { left = coreWith (l .rl) (l .n) (w .rank) (take (l .rl * l .n * w .rank) (now (x .exit))); right = coreWith (w .rank) (r .n) (r .rr) (take (w .rank * (r .n * r .rr)) (now (y .exit))); passes = w .passes }) ⌝ }
 {
-    let made = slab::columns(left, right, l.rl * l.n, l.rr, r.n * r.rr, a);
+    let made = splitting::slab::columns(left, right, l.rl * l.n, l.rr, r.n * r.rr, a);
     if let answers::Stage::Spilt(i) = made {
-        return refused_pair(answers::Refusal::Stored(answers::Part::Entry, 0, i));
+        return splitting::refused_pair(answers::Refusal::Stored(answers::Part::Entry, 0, i));
     }
-    halves::split(eps, l.rl, l.n, r.n, r.rr, a, x, y)
+    splitting::halves::split(eps, l.rl, l.n, r.n, r.rr, a, x, y)
 }
 
 // The first e numbers of x stand at the front of out, +0 behind them.
@@ -93,23 +61,23 @@ fn pair_within(
     lefts: &mut [f64],
     rights: &mut [f64],
     scratch: &mut [f64],
-) -> Paired
+) -> splitting::Paired
     requires { ⌜ pairOk (coreOf l (now left)) (coreOf r (now right)) eps (length (now lefts)) (length (now rights)) (length (now scratch)) ≡ done tt ⌝ }
     ensures { λ w. ⌜ (w ≡ pairBy (now (lefts .entry)) (now (rights .entry)) (now (scratch .entry)) (pairOf eps (coreOf l (now (left .entry))) (coreOf r (now (right .entry)))) .result) × (now (lefts .exit) ≡ pairBy (now (lefts .entry)) (now (rights .entry)) (now (scratch .entry)) (pairOf eps (coreOf l (now (left .entry))) (coreOf r (now (right .entry)))) .left) × (now (rights .exit) ≡ pairBy (now (lefts .entry)) (now (rights .entry)) (now (scratch .entry)) (pairOf eps (coreOf l (now (left .entry))) (coreOf r (now (right .entry)))) .right) ⌝ }
 {
-    let mut x = [0.0; MOST_LINES * shape::MOST_RANK];
-    let mut y = [0.0; shape::MOST_RANK * MOST_LINES];
+    let mut x = [0.0; splitting::MOST_LINES * shape::MOST_RANK];
+    let mut y = [0.0; shape::MOST_RANK * splitting::MOST_LINES];
     let m = l.rl * l.n;
     let n = r.n * r.rr;
     let e = n * m;
     let made = pair_of(l, r, eps, left, right, &mut scratch[0..e], &mut x, &mut y);
     let verdict = made.verdict;
     if let answers::Verdict::Refused(q) = verdict {
-        return refused_pair(q);
+        return splitting::refused_pair(q);
     }
     put(&x, m * made.rank, lefts);
     put(&y, made.rank * n, rights);
-    paired_as(answers::Verdict::Fits, made.rank, made.passes)
+    splitting::paired_as(answers::Verdict::Fits, made.rank, made.passes)
 }
 
 // Two neighbouring cores contracted and split again: the left one goes to lefts and the right one to rights, each at the
@@ -123,7 +91,7 @@ pub fn contract_and_split(
     lefts: &mut [f64],
     rights: &mut [f64],
     scratch: &mut [f64],
-) -> Paired
+) -> splitting::Paired
     ensures { λ w. ⌜ record { result = w; left = now (lefts .exit); right = now (rights .exit); scratch = now (scratch .exit) } ≡ pairCall (coreOf l (now (left .entry))) (coreOf r (now (right .entry))) eps (now (lefts .entry)) (now (rights .entry)) (now (scratch .entry)) ⌝ }
 {
     let ok = checks::pair_ok(
@@ -137,7 +105,7 @@ pub fn contract_and_split(
         scratch.len(),
     );
     if let answers::Verdict::Refused(q) = ok {
-        return refused_pair(q);
+        return splitting::refused_pair(q);
     }
     let made = pair_within(l, r, eps, left, right, lefts, rights, scratch);
     lists::fill(scratch, 0.0);

@@ -55,7 +55,7 @@ fn holds(s: &[f64]) -> bool {
 }
 
 // An accepted pair: rank, passes, both cores.
-fn accepted(w: pair::Paired, lefts: &[f64], rights: &[f64], scratch: &[f64]) -> bool {
+fn accepted(w: splitting::Paired, lefts: &[f64], rights: &[f64], scratch: &[f64]) -> bool {
     let rank = w.rank == replay::word() as usize;
     let passes = w.passes == replay::word() as usize;
     let left = holds(lefts);
@@ -64,7 +64,13 @@ fn accepted(w: pair::Paired, lefts: &[f64], rights: &[f64], scratch: &[f64]) -> 
 }
 
 // A refused one has written no output, and scratch only after the work began.
-fn refused(w: pair::Paired, number: u8, lefts: &[f64], rights: &[f64], scratch: &[f64]) -> bool {
+fn refused(
+    w: splitting::Paired,
+    number: u8,
+    lefts: &[f64],
+    rights: &[f64],
+    scratch: &[f64],
+) -> bool {
     let counts = (w.rank == 0) & (w.passes == 0);
     let outputs = all_are(lefts, OUT) & all_are(rights, OUT);
     if number <= 8 {
@@ -73,7 +79,7 @@ fn refused(w: pair::Paired, number: u8, lefts: &[f64], rights: &[f64], scratch: 
     counts & outputs & all_are(scratch, 0.0)
 }
 
-fn ended(w: pair::Paired, lefts: &[f64], rights: &[f64], scratch: &[f64]) -> bool {
+fn ended(w: splitting::Paired, lefts: &[f64], rights: &[f64], scratch: &[f64]) -> bool {
     let verdict = w.verdict;
     let told = replay::verdict(verdict);
     match verdict {

@@ -1,11 +1,5 @@
 -- `pair::contract_and_split` meets its contract. Assumes nothing.
 use borrow.Author.Needs.{needs}
-use Rattle.pair.proofs.contract_and_split.Reads as reads
-use Rattle.pair.proofs.contract_and_split.Lts as lts
-use Rattle.lists.proofs.fill.Reads as fill-reads
-use Rattle.pair.proofs.checks.pair_ok.Reads as pair-ok-reads
-use Rattle.pair.proofs.pair_within.Reads as pair-within-reads
-use Rattle.pair.proofs.refused_pair.Reads as refused-pair-reads
 use Prim.Native.Nat.{_-_}
 use Rattle.pair.proofs.Ended.{call-refused, call-ready, call-made}
 use Rattle.pair.proofs.contract_and_split.Statement.{statement}

@@ -1,12 +1,7 @@
 -- `pair::pair_of` meets its contract. Assumes nothing.
 use borrow.Author.Needs.{needs}
-use Rattle.pair.proofs.pair_of.Reads as reads
-use Rattle.pair.proofs.pair_of.Lts as lts
-use Rattle.pair.proofs.halves.split.Reads as split-reads
-use Rattle.pair.proofs.refused_pair.Reads as refused-pair-reads
-use Rattle.pair.proofs.slab.columns.Reads as columns-reads
 use Prim.Native.Nat.{_-_}
-use Rattle.pair.proofs.Formed.{columns-finite, pair-stop, pair-end}
+use Rattle.splitting.proofs.Formed.{columns-finite, pair-stop, pair-end}
 use Rattle.pair.proofs.pair_of.Statement.{statement}
 use Rattle.pair.proofs.pair_of.Tie as tie
 

@@ -1,11 +1,5 @@
 -- `pair::pair_within` meets its contract. Assumes nothing.
 use borrow.Author.Needs.{needs}
-use Rattle.pair.proofs.pair_within.Reads as reads
-use Rattle.pair.proofs.pair_within.Lts as lts
-use Rattle.pair.proofs.pair_of.Reads as pair-of-reads
-use Rattle.pair.proofs.paired_as.Reads as paired-as-reads
-use Rattle.pair.proofs.put.Reads as put-reads
-use Rattle.pair.proofs.refused_pair.Reads as refused-pair-reads
 use Prim.Native.Nat.{_-_, _*_}
 use native.Mathlib.Omega.{arith}
 use native.Mathlib.Nat.{mul-le-mul, mul-le-mul-right, mul-le-mul-left}

@@ -1,11 +1,7 @@
 -- `pair::put` meets its contract. Assumes nothing.
 use borrow.Author.Needs.{needs}
-use Rattle.pair.proofs.put.Reads as reads
-use Rattle.pair.proofs.put.Lts as lts
-use Rattle.lists.proofs.copy.Reads as copy-reads
-use Rattle.lists.proofs.fill.Reads as fill-reads
 use Prim.Native.Nat.{_-_}
-use Rattle.pair.proofs.Formed.{put-is}
+use Rattle.splitting.proofs.Formed.{put-is}
 use Rattle.pair.proofs.put.Statement.{statement}
 use Rattle.pair.proofs.put.Tie as tie
 

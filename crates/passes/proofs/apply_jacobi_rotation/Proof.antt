@@ -1,11 +1,5 @@
 -- `passes::apply_jacobi_rotation` meets its contract. Assumes nothing.
 use borrow.Author.Needs.{needs}
-use Rattle.passes.proofs.apply_jacobi_rotation.Reads as reads
-use Rattle.passes.proofs.apply_jacobi_rotation.Lts as lts
-use Rattle.passes.proofs.columns.square_again.Reads as square-again-reads
-use Rattle.passes.proofs.columns.stored_but.Reads as stored-but-reads
-use Rattle.passes.proofs.columns.stored_squared.Reads as stored-squared-reads
-use Rattle.passes.proofs.columns.turn.Reads as turn-reads
 use Prim.Native.Nat.{_-_}
 use native.Mathlib.Omega.{arith}
 use Rattle.passes.proofs.TwoColumns.{squares-length, turned-length, turned-elsewhere, turned-squares}

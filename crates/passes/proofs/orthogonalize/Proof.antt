@@ -1,8 +1,4 @@
 -- `passes::orthogonalize` meets its contract. Assumes nothing.
-use Rattle.passes.proofs.orthogonalize.Reads as reads
-use Rattle.passes.proofs.orthogonalize.Lts as lts
-use Rattle.passes.proofs.pass.Reads as pass-reads
-use Rattle.passes.proofs.passes_are.Reads as passes-are-reads
 use Rattle.lists.proofs.Turns.{turns}
 use Prim.Native.Nat.{_-_, _≤_}
 use mathlib.Core.Path.{_≡_, refl}

@@ -1,8 +1,4 @@
 -- `passes::pass` meets its contract. Assumes nothing.
-use Rattle.passes.proofs.pass.Reads as reads
-use Rattle.passes.proofs.pass.Lts as lts
-use Rattle.passes.proofs.pass_row.Reads as pass-row-reads
-use Rattle.passes.proofs.turn_is.Reads as turn-is-reads
 use Rattle.lists.proofs.Turns.{turns}
 use Prim.Native.Nat.{_-_, _≤_}
 use mathlib.Core.Path.{_≡_, refl}

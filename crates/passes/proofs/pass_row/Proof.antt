@@ -1,8 +1,4 @@
 -- `passes::pass_row` meets its contract. Assumes nothing.
-use Rattle.passes.proofs.pass_row.Reads as reads
-use Rattle.passes.proofs.pass_row.Lts as lts
-use Rattle.passes.proofs.rotate.Reads as rotate-reads
-use Rattle.passes.proofs.turn_is.Reads as turn-is-reads
 use Rattle.lists.proofs.Turns.{turns}
 use Prim.Native.Nat.{ℕ, _+_, _-_, _≤_}
 use mathlib.Core.Path.{_≡_, refl}

@@ -1,14 +1,5 @@
 -- `passes::rotate` meets its contract. Assumes nothing.
 use borrow.Author.Needs.{needs}
-use Rattle.passes.proofs.rotate.Reads as reads
-use Rattle.passes.proofs.rotate.Lts as lts
-use Rattle.bond.proofs.rotation.cosine.Reads as cosine-reads
-use Rattle.bond.proofs.rotation.slope.Reads as slope-reads
-use Rattle.bond.proofs.rotation.tangent.Reads as tangent-reads
-use Rattle.passes.proofs.apply_jacobi_rotation.Reads as apply-jacobi-rotation-reads
-use Rattle.passes.proofs.columns.dot.Reads as dot-reads
-use Rattle.passes.proofs.columns.skipped.Reads as skipped-reads
-use Rattle.passes.proofs.turn_is.Reads as turn-is-reads
 use Prim.Native.Nat.{_-_}
 use Rattle.passes.specs.Passes.{dot, skipped}
 use Rattle.passes.proofs.TwoColumns.{turn-is}

@@ -1,7 +1,4 @@
 -- `replay_pair::agreed` meets its contract. Assumes nothing.
-use Rattle.replay_pair.proofs.agreed.Reads as reads
-use Rattle.replay_pair.proofs.agreed.Lts as lts
-use Rattle.replay_pair.proofs.score.Reads as score-reads
 use borrow.Author.Needs.{needs}
 use Prim.Native.Nat.{_-_, _≤_}
 use Rattle.replay_pair.proofs.agreed.Statement.{statement}

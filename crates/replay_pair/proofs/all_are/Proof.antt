@@ -1,6 +1,4 @@
 -- `replay_pair::all_are` meets its contract. Assumes nothing.
-use Rattle.replay_pair.proofs.all_are.Reads as reads
-use Rattle.replay_pair.proofs.all_are.Lts as lts
 use borrow.Author.Needs.{needs}
 use Prim.Native.Nat.{_-_, _≤_}
 use lib.ListN.{length}

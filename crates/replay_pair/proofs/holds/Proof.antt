@@ -1,8 +1,4 @@
 -- `replay_pair::holds` meets its contract. Assumes nothing.
-use Rattle.replay_pair.proofs.holds.Reads as reads
-use Rattle.replay_pair.proofs.holds.Lts as lts
-use Rattle.replay.proofs.word.Reads as word-reads
-use Rattle.replay_pair.proofs.wanted.Reads as wanted-reads
 use borrow.Author.Needs.{needs}
 use Prim.Native.Nat.{_-_, _≤_}
 use lib.ListN.{length}

@@ -1,9 +1,5 @@
 -- `pair::checks::eps_and_left` meets its contract. Assumes nothing.
 use borrow.Author.Needs.{needs}
-use Rattle.pair.proofs.checks.eps_and_left.Reads as reads
-use Rattle.pair.proofs.checks.eps_and_left.Lts as lts
-use Rattle.lists.proofs.all_finite.Reads as all-finite-reads
-use Rattle.numbers.proofs.is_finite.Reads as is-finite-reads
 use Prim.Native.Nat.{_-_}
 use Rattle.pair.proofs.checks.eps_and_left.Statement.{statement}
 use Rattle.pair.proofs.checks.eps_and_left.Tie as tie

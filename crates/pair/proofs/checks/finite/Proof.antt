@@ -1,10 +1,5 @@
 -- `pair::checks::finite` meets its contract. Assumes nothing.
 use borrow.Author.Needs.{needs}
-use Rattle.pair.proofs.checks.finite.Reads as reads
-use Rattle.pair.proofs.checks.finite.Lts as lts
-use Rattle.lists.proofs.all_finite.Reads as all-finite-reads
-use Rattle.pair.proofs.checks.eps_and_left.Reads as eps-and-left-reads
-use Rattle.rounding.proofs.checks.not_below_zero.Reads as not-below-zero-reads
 use Prim.Native.Nat.{_-_}
 use Rattle.lists.proofs.Asked.{test-wrong, test-right}
 use Rattle.pair.specs.Call.{pairFinite}

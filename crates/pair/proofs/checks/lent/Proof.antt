@@ -1,6 +1,4 @@
 -- `pair::checks::lent` meets its contract. Assumes nothing.
-use Rattle.pair.proofs.checks.lent.Reads as reads
-use Rattle.pair.proofs.checks.lent.Lts as lts
 use borrow.Author.Needs.{needs}
 use Prim.Native.Nat.{_-_}
 use native.Mathlib.Omega.{arith}

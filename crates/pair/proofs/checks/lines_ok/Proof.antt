@@ -1,6 +1,4 @@
 -- `pair::checks::lines_ok` meets its contract. Assumes nothing.
-use Rattle.pair.proofs.checks.lines_ok.Reads as reads
-use Rattle.pair.proofs.checks.lines_ok.Lts as lts
 use borrow.Author.Needs.{needs}
 use Prim.Native.Nat.{_-_, _*_}
 use lib.Dec.{leb}

@@ -1,10 +1,5 @@
 -- `pair::checks::pair_ok` meets its contract. Assumes nothing.
 use borrow.Author.Needs.{needs}
-use Rattle.pair.proofs.checks.pair_ok.Reads as reads
-use Rattle.pair.proofs.checks.pair_ok.Lts as lts
-use Rattle.pair.proofs.checks.finite.Reads as finite-reads
-use Rattle.pair.proofs.checks.lent.Reads as lent-reads
-use Rattle.pair.proofs.checks.sized.Reads as sized-reads
 use Prim.Native.Nat.{_-_}
 use Rattle.answers.proofs.Checks.{verdict-passed}
 use Rattle.pair.proofs.Verdicts.{size-stops, length-stops, finite-ends}

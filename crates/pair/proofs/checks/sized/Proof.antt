@@ -1,9 +1,5 @@
 -- `pair::checks::sized` meets its contract. Assumes nothing.
 use borrow.Author.Needs.{needs}
-use Rattle.pair.proofs.checks.sized.Reads as reads
-use Rattle.pair.proofs.checks.sized.Lts as lts
-use Rattle.pair.proofs.checks.lines_ok.Reads as lines-ok-reads
-use Rattle.pair.proofs.checks.sizes_ok.Reads as sizes-ok-reads
 use Prim.Native.Nat.{_-_, _*_}
 use mathlib.Core.Path.{sym, ap, _∙_}
 use mathlib.Core.Bool.{Bool, _&&_}

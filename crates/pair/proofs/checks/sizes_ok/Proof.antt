@@ -1,8 +1,5 @@
 -- `pair::checks::sizes_ok` meets its contract. Assumes nothing.
 use borrow.Author.Needs.{needs}
-use Rattle.pair.proofs.checks.sizes_ok.Reads as reads
-use Rattle.pair.proofs.checks.sizes_ok.Lts as lts
-use Rattle.shape.proofs.within.Reads as within-reads
 use Prim.Native.Nat.{_-_}
 use Rattle.pair.specs.Call.{sizesOk}
 use Rattle.pair.proofs.checks.sizes_ok.Statement.{statement}

@@ -1,6 +1,4 @@
 -- `passes::columns::column` meets its contract. Assumes nothing.
-use Rattle.passes.proofs.columns.column.Reads as reads
-use Rattle.passes.proofs.columns.column.Lts as lts
 use Rattle.lists.proofs.Turns.{turns}
 use Prim.Native.Nat.{ℕ, _-_, _*_, _≤_}
 use mathlib.Core.Path.{_≡_}

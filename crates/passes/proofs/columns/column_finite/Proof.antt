@@ -1,7 +1,4 @@
 -- `passes::columns::column_finite` meets its contract. Assumes nothing.
-use Rattle.passes.proofs.columns.column_finite.Reads as reads
-use Rattle.passes.proofs.columns.column_finite.Lts as lts
-use Rattle.lists.proofs.all_finite.Reads as all-finite-reads
 use Rattle.lists.proofs.Turns.{turns}
 use Prim.Native.Nat.{_-_}
 use native.Mathlib.Omega.{arith}

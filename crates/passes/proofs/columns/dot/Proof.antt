@@ -1,6 +1,4 @@
 -- `passes::columns::dot` meets its contract. Assumes nothing.
-use Rattle.passes.proofs.columns.dot.Reads as reads
-use Rattle.passes.proofs.columns.dot.Lts as lts
 use Rattle.lists.proofs.Turns.{turns}
 use Prim.Native.Nat.{ℕ, _-_, _≤_}
 use mathlib.Core.Path.{_≡_}

@@ -1,9 +1,5 @@
 -- `passes::columns::skipped` meets its contract. Assumes nothing.
 use borrow.Author.Needs.{needs}
-use Rattle.passes.proofs.columns.skipped.Reads as reads
-use Rattle.passes.proofs.columns.skipped.Lts as lts
-use Rattle.numbers.proofs.magnitude.Reads as magnitude-reads
-use Rattle.numbers.proofs.root.Reads as root-reads
 use Prim.Native.Nat.{_-_}
 use Rattle.passes.proofs.TwoColumns.{skipped-small, skipped-near}
 use Rattle.passes.proofs.columns.skipped.Statement.{statement}

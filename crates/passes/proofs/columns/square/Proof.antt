@@ -1,7 +1,4 @@
 -- `passes::columns::square` meets its contract. Assumes nothing.
-use Rattle.passes.proofs.columns.square.Reads as reads
-use Rattle.passes.proofs.columns.square.Lts as lts
-use Rattle.passes.proofs.columns.dot.Reads as dot-reads
 use Rattle.lists.proofs.Turns.{turns}
 use Prim.Native.Nat.{ℕ, _-_, _≤_}
 use mathlib.Core.Path.{_≡_}

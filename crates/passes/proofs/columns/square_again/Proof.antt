@@ -1,8 +1,5 @@
 -- `passes::columns::square_again` meets its contract. Assumes nothing.
 use borrow.Author.Needs.{needs}
-use Rattle.passes.proofs.columns.square_again.Reads as reads
-use Rattle.passes.proofs.columns.square_again.Lts as lts
-use Rattle.passes.proofs.columns.squares_of.Reads as squares-of-reads
 use Prim.Native.Nat.{_-_}
 use Rattle.passes.proofs.TwoColumns.{squared-again}
 use Rattle.passes.proofs.columns.square_again.Statement.{statement}

@@ -1,6 +1,4 @@
 -- `passes::columns::squares_of` meets its contract. Assumes nothing.
-use Rattle.passes.proofs.columns.squares_of.Reads as reads
-use Rattle.passes.proofs.columns.squares_of.Lts as lts
 use Rattle.lists.proofs.Turns.{turns}
 use Prim.Native.Nat.{ℕ, _-_, _≤_}
 use mathlib.Core.Path.{_≡_}

@@ -1,9 +1,5 @@
 -- `passes::columns::stored_but` meets its contract. Assumes nothing.
 use borrow.Author.Needs.{needs}
-use Rattle.passes.proofs.columns.stored_but.Reads as reads
-use Rattle.passes.proofs.columns.stored_but.Lts as lts
-use Rattle.lists.proofs.stored.Reads as stored-reads
-use Rattle.passes.proofs.columns.column_finite.Reads as column-finite-reads
 use Prim.Native.Nat.{_-_}
 use Rattle.passes.proofs.TwoColumns.{two-finite}
 use Rattle.passes.proofs.columns.stored_but.Statement.{statement}

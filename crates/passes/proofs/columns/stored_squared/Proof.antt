@@ -1,9 +1,5 @@
 -- `passes::columns::stored_squared` meets its contract. Assumes nothing.
 use borrow.Author.Needs.{needs}
-use Rattle.passes.proofs.columns.stored_squared.Reads as reads
-use Rattle.passes.proofs.columns.stored_squared.Lts as lts
-use Rattle.lists.proofs.stored.Reads as stored-reads
-use Rattle.numbers.proofs.is_finite.Reads as is-finite-reads
 use Prim.Native.Nat.{_-_}
 use Rattle.passes.proofs.TwoColumns.{two-squared}
 use Rattle.passes.proofs.columns.stored_squared.Statement.{statement}

@@ -1,7 +1,4 @@
 -- `passes::columns::transpose` meets its contract. Assumes nothing.
-use Rattle.passes.proofs.columns.transpose.Reads as reads
-use Rattle.passes.proofs.columns.transpose.Lts as lts
-use Rattle.passes.proofs.columns.column.Reads as column-reads
 use Rattle.lists.proofs.Turns.{turns}
 use Prim.Native.Nat.{ℕ, _-_, _*_, _≤_}
 use mathlib.Core.Path.{_≡_}

@@ -1,8 +1,5 @@
 -- `passes::columns::turn` meets its contract. Assumes nothing.
 use borrow.Author.Needs.{needs}
-use Rattle.passes.proofs.columns.turn.Reads as reads
-use Rattle.passes.proofs.columns.turn.Lts as lts
-use Rattle.bond.proofs.rotation.turn_pairs.Reads as turn-pairs-reads
 use Prim.Native.Nat.{_-_}
 use native.Mathlib.Omega.{arith}
 use native.Mathlib.Nat.{mul-le-mul-right}

@@ -1,0 +1,5 @@
+-- the slab, the split
+pub mod Slabs
+pub mod Splits
+-- for the code: stages
+pub mod Formed
