@@ -17,13 +17,14 @@ use Rattle.lists.specs.Floats.{zeros}
 use Rattle.lists.proofs.Slots.{fit-length, fit-used}
 use Rattle.shape.specs.Cores.{Core}
 use Rattle.rounding.specs.Call.{scratchAfter}
-use Rattle.pair.specs.Slabs.{slab}
-use Rattle.pair.specs.Passes.{Passes, mostPasses, start}
-use Rattle.pair.specs.Splits.{Halves, pairOf}
-use Rattle.pair.specs.Claims.{Counted, Formed}
+use Rattle.splitting.specs.Slabs.{slab}
+use Rattle.passes.specs.Passes.{Passes, mostPasses, start}
+use Rattle.splitting.specs.Splits.{Halves, pairOf}
+use Rattle.passes.specs.Claims.{Counted}
+use Rattle.splitting.specs.Claims.{Formed}
 use Rattle.pair.specs.Call.{leftRoom, rightRoom, pairOk, PairEnded, pairBy, pairCall}
-use Rattle.pair.proofs.Splits.{pair-formed}
-use Rattle.pair.proofs.Checks.{Checked, checked}
+use Rattle.splitting.proofs.Splits.{pair-formed}
+use Rattle.pair.proofs.Checked.{Checked, checked}
 
 -- ---- slices keep their lengths
 pub record SameLengths (leftOut rightOut scratch : List Float) (e : PairEnded) : Type 0 where
@@ -46,7 +47,7 @@ by-lengths leftOut rightOut scratch (refused r) = record { leftLength = refl; ri
 
 -- ---- an accepted pair
 pub record Accepted (l r : Core) (eps : Float) (leftOut rightOut scratch : List Float) (e : PairEnded) : Type 0 where
-  pub checks : Checked l r eps leftOut rightOut scratch
+  pub checks : Checked l r eps (length leftOut) (length rightOut) (length scratch)
   pub halves : Halves
   pub made : pairOf eps l r ≡ done halves
   pub formed : Formed (l .rl) (l .n) (r .n) (r .rr) halves
@@ -60,21 +61,21 @@ pub record Accepted (l r : Core) (eps : Float) (leftOut rightOut scratch : List 
 module _ (l r : Core) (eps : Float) (leftOut rightOut scratch : List Float) where
   pub lengths-kept : SameLengths leftOut rightOut scratch (pairCall l r eps leftOut rightOut scratch)
   unfolding pairCall
-  lengths-kept = by-lengths leftOut rightOut scratch (pairOk l r eps leftOut rightOut scratch then pairOf eps l r)
+  lengths-kept = by-lengths leftOut rightOut scratch (pairOk l r eps (length leftOut) (length rightOut) (length scratch) then pairOf eps l r)
 
   -- a core of a kept rank has room in its output
-  roomy : Checked l r eps leftOut rightOut scratch → (h : Halves) → Formed (l .rl) (l .n) (r .n) (r .rr) h → (length (h .left .entries) ≤ length leftOut) × (length (h .right .entries) ≤ length rightOut)
+  roomy : Checked l r eps (length leftOut) (length rightOut) (length scratch) → (h : Halves) → Formed (l .rl) (l .n) (r .n) (r .rr) h → (length (h .left .entries) ≤ length leftOut) × (length (h .right .entries) ≤ length rightOut)
   unfolding leftRoom rightRoom
   roomy c h f = (
     rw (f .leftLength, c .leftRoomy) (mul-le-mul-left (l .rl * l .n) (f .within-limit)),
     rw (f .rightLength, c .rightRoomy) (mul-le-mul-right (r .rr) (mul-le-mul-right (r .n) (f .within-limit))),
   )
 
-  by-accepted : (h : Halves) → (pairOk l r eps leftOut rightOut scratch then pairOf eps l r) ≡ done h → Accepted l r eps leftOut rightOut scratch (pairBy leftOut rightOut scratch (done h))
+  by-accepted : (h : Halves) → (pairOk l r eps (length leftOut) (length rightOut) (length scratch) then pairOf eps l r) ≡ done h → Accepted l r eps leftOut rightOut scratch (pairBy leftOut rightOut scratch (done h))
   unfolding pairBy
   by-accepted h e =
-      let (ok, made) = then-is (pairOk l r eps leftOut rightOut scratch) (pairOf eps l r) h e in
-      let c = checked l r eps leftOut rightOut scratch ok in
+      let (ok, made) = then-is (pairOk l r eps (length leftOut) (length rightOut) (length scratch)) (pairOf eps l r) h e in
+      let c = checked l r eps (length leftOut) (length rightOut) (length scratch) ok in
       let (f, (w, t, k)) = pair-formed eps l r h (mul-le-mul (c .right .n .least) (c .right .rr .least)) made in
       let (a, b) = roomy c h f in
       record {
@@ -92,8 +93,8 @@ module _ (l r : Core) (eps : Float) (leftOut rightOut scratch : List Float) wher
 
   pub accepted : pairCall l r eps leftOut rightOut scratch .result .verdict ≡ Fits → Accepted l r eps leftOut rightOut scratch (pairCall l r eps leftOut rightOut scratch)
   unfolding pairCall pairBy
-  accepted v = go (pairOk l r eps leftOut rightOut scratch then pairOf eps l r) refl v
+  accepted v = go (pairOk l r eps (length leftOut) (length rightOut) (length scratch) then pairOf eps l r) refl v
     where
-      go : (o : Answer Halves) → (pairOk l r eps leftOut rightOut scratch then pairOf eps l r) ≡ o → pairBy leftOut rightOut scratch o .result .verdict ≡ Fits → Accepted l r eps leftOut rightOut scratch (pairBy leftOut rightOut scratch o)
+      go : (o : Answer Halves) → (pairOk l r eps (length leftOut) (length rightOut) (length scratch) then pairOf eps l r) ≡ o → pairBy leftOut rightOut scratch o .result .verdict ≡ Fits → Accepted l r eps leftOut rightOut scratch (pairBy leftOut rightOut scratch o)
       go (done h) e v = by-accepted h e
       go (refused q) e v = let z : _≡_ {A = ℕ} 0 1 = cc in let n : ⊥ = omega arith in absurd n

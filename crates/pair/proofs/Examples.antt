@@ -21,10 +21,10 @@ use Rattle.shape.specs.Cores.{Core, coreWith, place, entry, block}
 use Rattle.rotation.specs.Rotation.{tangentOf, slopeOf, cosineOf, turnedAt, eye}
 use Rattle.values.specs.Values.{rankIn, indexAt, order, sorted, thresholdOf, keptRank}
 use Rattle.rounding.specs.Call.{notBelowZero, scratchAfter}
-use Rattle.pair.specs.Slabs.{plusProduct, slabEntry, slab}
-use Rattle.pair.specs.Passes.{turnStored, turned, dot, tolerance64, skipped, rotate, pass, passesFrom, orthogonalized, start}
-use Rattle.pair.specs.Splits.{values, inverse, leftNumbers, rightNumbers, formed, cut, split, pairOf}
-use Rattle.pair.specs.Call.{sizesOk, coreNumbers, leftRoom, rightRoom, pairScratch, pairOk, PairEnded, pairBy, pairCall}
+use Rattle.splitting.specs.Slabs.{plusProduct, slabEntry, slab}
+use Rattle.passes.specs.Passes.{turnStored, turned, dot, tolerance64, skipped, rotate, pass, passesFrom, orthogonalized, start}
+use Rattle.splitting.specs.Splits.{values, inverse, leftNumbers, rightNumbers, formed, cut, split, pairOf}
+use Rattle.pair.specs.Call.{sizesOk, coreNumbers, leftRoom, rightRoom, pairScratch, pairSized, pairLent, pairFinite, pairOk, PairEnded, pairBy, pairCall}
 
 -- the tolerance is the f64 nearest to 1e-14
 tolerance-nearest : tolerance64 ≡ round binary64 false 1 (10 ^ 14)
@@ -93,5 +93,5 @@ AllRight [] = Unit {0}
 AllRight (c ∷ cs) = (c .0 ≡ c .1) × AllRight cs
 
 by-hand : AllRight cases
-unfolding cases add sub mul div lt le eq ofBits toBits magnitudeOf rootIn wholeRoot rootOfUnits rootOf demand pick listed flat first count pairs fit along sumOn sumTo allFinite firstNotFinite stored place entry block tangentOf slopeOf cosineOf turnedAt eye rankIn indexAt order sorted thresholdOf keptRank notBelowZero scratchAfter plusProduct slabEntry slab turnStored turned dot skipped rotate pass passesFrom orthogonalized start values inverse leftNumbers rightNumbers formed cut split pairOf sizesOk coreNumbers leftRoom rightRoom pairOk pairBy pairCall
+unfolding cases add sub mul div lt le eq ofBits toBits magnitudeOf rootIn wholeRoot rootOfUnits rootOf demand pick listed flat first count pairs fit along sumOn sumTo allFinite firstNotFinite stored place entry block tangentOf slopeOf cosineOf turnedAt eye rankIn indexAt order sorted thresholdOf keptRank notBelowZero scratchAfter plusProduct slabEntry slab turnStored turned dot skipped rotate pass passesFrom orthogonalized start values inverse leftNumbers rightNumbers formed cut split pairOf sizesOk coreNumbers leftRoom rightRoom pairSized pairLent pairFinite pairOk pairBy pairCall
 by-hand = (refl, (refl, (refl, (refl, (refl, (refl, (refl, (refl, (refl, (refl, (refl, (refl, (refl, (refl, tt))))))))))))))

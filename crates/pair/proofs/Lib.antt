@@ -1,9 +1,7 @@
-pub mod Laws
--- the slab, the passes and their count, the split, the call
-pub mod Slabs
-pub mod Wholes
-pub mod Counts
-pub mod Splits
-pub mod Checks
+-- the call
+pub mod Checked
 pub mod Calls
 pub mod Examples
+-- for the code: checks, the end
+pub mod Verdicts
+pub mod Ended

@@ -13,17 +13,18 @@ use Rattle.answers.specs.Outcome.{Answer, done, refused, Check, _then_, demand}
 use Rattle.lists.specs.Slots.{fit}
 use Rattle.lists.specs.Floats.{allFinite}
 use Rattle.shape.specs.Limits.{mostPoints, mostRank, within}
-use Rattle.shape.specs.Cores.{Core}
+use Rattle.shape.specs.Cores.{Core, coreWith}
 use Rattle.rounding.specs.Call.{notBelowZero, scratchAfter}
-use Rattle.pair.specs.declared.Paired.{Paired}
-use Rattle.pair.specs.Splits.{Halves, pairOf}
-
--- a slab's rows, and its columns
-abbrev pub mostLines : ℕ
-mostLines = 64
+use Rattle.pair.specs.declared.Sizes.{Sizes}
+use Rattle.splitting.specs.declared.Paired.{Paired}
+use Rattle.splitting.specs.Splits.{mostLines, Halves, pairOf}
 
 abbrev pub pairScratch : ℕ
 pairScratch = 20480
+
+-- a core of these sizes
+abbrev pub coreOf : Sizes → List Float → Core
+coreOf s l = coreWith (s .rl) (s .n) (s .rr) l
 
 -- the outer ranks needn't be 1
 unfoldable pub sizesOk : Core → Bool
@@ -39,19 +40,31 @@ leftRoom l = l .rl * l .n * mostRank
 unfoldable pub rightRoom : Core → ℕ
 rightRoom r = mostRank * r .n * r .rr
 
-unfoldable pub pairOk : Core → Core → Float → List Float → List Float → List Float → Check
-pairOk l r eps leftOut rightOut scratch =
+-- 2 and 3: a slab's rows, its columns, the middle ranks
+unfoldable pub pairSized : Core → Core → Check
+pairSized l r =
     demand (sizesOk l && leb (l .rl * l .n) mostLines) (Size 0)
     then demand (sizesOk r && leb (r .n * r .rr) mostLines) (Size 1)
     then demand (eqb (l .rr) (r .rl)) (Bond 0)
-    then demand (eqb (length (l .entries)) (coreNumbers l)) (Length 0)
+
+-- 5; the outputs and scratch by their lengths alone
+unfoldable pub pairLent : Core → Core → ℕ → ℕ → ℕ → Check
+pairLent l r leftOut rightOut scratch =
+    demand (eqb (length (l .entries)) (coreNumbers l)) (Length 0)
     then demand (eqb (length (r .entries)) (coreNumbers r)) (Length 1)
-    then demand (eqb (length leftOut) (leftRoom l)) (Length 2)
-    then demand (eqb (length rightOut) (rightRoom r)) (Length 3)
-    then demand (eqb (length scratch) pairScratch) (Length 4)
-    then demand (finite eps && allFinite (l .entries)) (Number 0)
-    then demand (allFinite (r .entries)) (Number 1)
+    then demand (eqb leftOut (leftRoom l)) (Length 2)
+    then demand (eqb rightOut (rightRoom r)) (Length 3)
+    then demand (eqb scratch pairScratch) (Length 4)
+
+-- 6 and 7, of both cores' numbers
+unfoldable pub pairFinite : Float → List Float → List Float → Check
+pairFinite eps left right =
+    demand (finite eps && allFinite left) (Number 0)
+    then demand (allFinite right) (Number 1)
     then demand (notBelowZero eps) (Setting 0)
+
+unfoldable pub pairOk : Core → Core → Float → ℕ → ℕ → ℕ → Check
+pairOk l r eps leftOut rightOut scratch = pairSized l r then pairLent l r leftOut rightOut scratch then pairFinite eps (l .entries) (r .entries)
 
 -- what the call answers and leaves: each core packed at the front of its output, the rest +0
 pub record PairEnded : Type 0 where
@@ -75,4 +88,4 @@ pairBy leftOut rightOut scratch (refused r) = record {
 }
 
 unfoldable pub pairCall : Core → Core → Float → List Float → List Float → List Float → PairEnded
-pairCall l r eps leftOut rightOut scratch = pairBy leftOut rightOut scratch (pairOk l r eps leftOut rightOut scratch then pairOf eps l r)
+pairCall l r eps leftOut rightOut scratch = pairBy leftOut rightOut scratch (pairOk l r eps (length leftOut) (length rightOut) (length scratch) then pairOf eps l r)

@@ -1,5 +1,1 @@
-pub mod Slabs
-pub mod Passes
-pub mod Splits
 pub mod Call
-pub mod Claims

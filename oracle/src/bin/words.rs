@@ -20,12 +20,41 @@ fn numbers(out: &mut Vec<u8>, words: &[&str]) {
     words.iter().filter_map(|w| number(w)).for_each(|w| word(out, w));
 }
 
-/// What is answered: values after 0 and 0, or a refusal, after which a figure of +0 stands.
-fn answer(out: &mut Vec<u8>, words: &[&str]) {
+/// A pair as it is lent: the sizes of both cores, eps, each core's numbers, and the lengths of both outputs and scratch. A line
+/// of the oracle has one chain and says nothing of the lengths, which then are those that the call asks for.
+fn pair(out: &mut Vec<u8>, words: &[&str]) {
+    let all: Vec<u64> = words.iter().filter_map(|w| number(w)).collect();
+    let (sizes, rest) = all[1..].split_at(6);
+    sizes.iter().chain(&rest[..1]).for_each(|w| word(out, *w));
+    if !words.contains(&"chain") {
+        rest[1..].iter().for_each(|w| word(out, *w));
+        return;
+    }
+    let (rows, columns) = (sizes[0] * sizes[1], sizes[4] * sizes[5]);
+    let (left, right) = rest[2..].split_at((rows * sizes[2]) as usize);
+    for core in [left, right] {
+        word(out, core.len() as u64);
+        core.iter().for_each(|w| word(out, *w));
+    }
+    [rows * 8, 8 * columns, 20480].iter().for_each(|w| word(out, *w));
+}
+
+/// A chain as it is lent, and the length of scratch: a line of the oracle doesn't say it, and then it is what the call asks for.
+fn rounded(out: &mut Vec<u8>, words: &[&str]) {
+    numbers(out, words);
+    if !words.contains(&"scratch") {
+        let chain = words.iter().position(|w| *w == "chain").expect("a chain");
+        word(out, 4 * number(words[chain + 1]).expect("a length") + 2048);
+    }
+}
+
+/// What is answered: values after 0 and 0, or a refusal, after which a figure of +0 stands where the call has one.
+fn answer(out: &mut Vec<u8>, kind: &str, words: &[&str]) {
     let place = || number(words[1]).expect("a place");
     let (number, place) = match words[0] {
         "nonfinite" => (9, place()),
         "far" => (8, place()),
+        "wide" => (10, 0),
         "refused" => (place(), number(words[2]).expect("a place")),
         _ => (0, 0),
     };
@@ -33,7 +62,7 @@ fn answer(out: &mut Vec<u8>, words: &[&str]) {
     word(out, place);
     if number == 0 {
         numbers(out, words);
-    } else {
+    } else if kind == "inner" {
         word(out, 0);
     }
 }
@@ -46,8 +75,12 @@ fn main() {
     for line in text.lines() {
         let words: Vec<&str> = line.split_whitespace().collect();
         let given = words.iter().position(|w| *w == "=").expect("an answer");
-        numbers(&mut out, &words[2..given]);
-        answer(&mut out, &words[given + 1..]);
+        match words[0] {
+            "pair" => pair(&mut out, &words[2..given]),
+            "round" => rounded(&mut out, &words[2..given]),
+            _ => numbers(&mut out, &words[2..given]),
+        }
+        answer(&mut out, words[0], &words[given + 1..]);
     }
     BufWriter::new(std::io::stdout().lock())
         .write_all(&out)

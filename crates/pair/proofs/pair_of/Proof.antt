@@ -1,0 +1,34 @@
+-- `pair::pair_of` meets its contract. Assumes nothing.
+use borrow.Author.Needs.{needs}
+use Prim.Native.Nat.{_-_}
+use Rattle.splitting.proofs.Formed.{columns-finite, pair-stop, pair-end}
+use Rattle.pair.proofs.pair_of.Statement.{statement}
+use Rattle.pair.proofs.pair_of.Tie as tie
+
+columns-requires : tie.Need-columns-requires
+columns-requires c κs = (c .before .before .before .before .before .before .before .before .pre .1, c .before .before .before .before .before .before .before .before .pre .2, c .before .before .before .before .before .before .before .before .pre .3, c .before .before .before .before .before .before .before .before .pre .0 .rows, c .before .before .before .before .before .before .before .before .pre .0 .columns)
+
+returns : tie.Need-returns
+returns c = rw (c .refused-pair .ensures) (pair-stop _ _ _ _ _ (c .before .before .before .before .before .before .columns .ensures) _ _ (c .before .before .made .given .1))
+
+split-requires : tie.Need-split-requires
+split-requires c κs = (c .before .before .before .before .before .before .before .before .before .before .before .before .before .before .before .before .pre .0, search needs, columns-finite _ _ _ _ _ _ _ (c .before .before .before .before .before .before .before .columns .ensures) (c .before .before .before .enum-told .given .1), c .before .before .before .before .before .before .before .before .before .before .before .before .before .before .before .before .pre .4, c .before .before .before .before .before .before .before .before .before .before .before .before .before .before .before .before .pre .5)
+
+returns-2 : tie.Need-returns-2
+returns-2 c = pair-end _ _ _ _ _ (c .before .before .before .before .before .before .before .before .before .before .before .before .before .before .columns .ensures) (c .before .before .before .before .before .before .before .before .before .before .enum-told .given .1) _ (c .before .before .before .before .before .before .split .ensures)
+
+pub pair-of-spec : {M : Type 1} → statement M
+pair-of-spec = tie.close (tie.spec
+    (λ c. search needs)
+    (λ c. search needs)
+    columns-requires
+    (λ c. search needs)
+    (λ c κs. search needs)
+    (λ c. search needs)
+    returns
+    (λ c. search needs)
+    split-requires
+    (λ c. search needs)
+    (λ c. search needs)
+    (λ c. search needs)
+    returns-2)

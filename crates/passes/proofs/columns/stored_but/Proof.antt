@@ -1,0 +1,16 @@
+-- `passes::columns::stored_but` meets its contract. Assumes nothing.
+use borrow.Author.Needs.{needs}
+use Prim.Native.Nat.{_-_}
+use Rattle.passes.proofs.TwoColumns.{two-finite}
+use Rattle.passes.proofs.columns.stored_but.Statement.{statement}
+use Rattle.passes.proofs.columns.stored_but.Tie as tie
+
+ruleset ways = (needs, two-finite)
+
+pub stored-but-spec : {M : Type 1} → statement M
+stored-but-spec = tie.close (tie.spec
+    (λ c κs. search ways)
+    (λ c κs. search ways)
+    (λ c. search ways)
+    (λ c κs. search ways)
+    (λ c. search ways))

@@ -1,0 +1,3 @@
+pub mod Passes
+pub mod Claims
+pub mod Loops

@@ -1,0 +1,14 @@
+-- `splitting::halves::rescaled` meets its contract. Assumes nothing.
+use borrow.Author.Needs.{needs}
+use Prim.Native.Nat.{_-_}
+use Rattle.splitting.specs.Splits.{inverse}
+use Rattle.splitting.proofs.halves.rescaled.Statement.{statement}
+use Rattle.splitting.proofs.halves.rescaled.Tie as tie
+
+returns : tie.Need-returns
+returns c = rw (c .inverse .ensures)
+
+pub rescaled-spec : {M : Type 1} → statement M
+rescaled-spec = tie.close (tie.spec
+    (λ c κs. search needs)
+    returns)

@@ -1,0 +1,38 @@
+-- `splitting::halves::right_numbers` meets its contract. Assumes nothing.
+use Rattle.lists.proofs.Turns.{turns}
+use Prim.Native.Nat.{ℕ, _-_, _*_, _≤_}
+use mathlib.Core.Path.{_≡_}
+use native.Mathlib.Omega.{arith}
+use lib.ListN.{length, getD}
+use Rattle.lists.specs.Lists.{iter}
+use Rattle.lists.specs.Floats.{cell}
+use Rattle.lists.specs.Strips.{storedFrom}
+use Rattle.lists.proofs.Strips.{rows-whole}
+use Rattle.splitting.proofs.halves.right_numbers.Statement.{statement}
+use Rattle.splitting.proofs.halves.right_numbers.Tie as tie
+
+abbrev Inv-loop : tie.InvT-loop
+Inv-loop v n js r out₀ k₀ out k = (k ≤ r) × (length out ≡ length out₀) × (out ≡ iter k (λ (j : ℕ). storedFrom (j * n) n (λ (i : ℕ). cell n v (getD js j 0) i)) out₀)
+
+abbrev μ-loop : tie.MeasureT-loop
+μ-loop v n js r out₀ k₀ out k = r - k
+
+right-row-requires : tie.Need-right-row-requires Inv-loop μ-loop
+right-row-requires c κs = (c .before .before .before .before .before .before .before .pre .0, c .before .before .before .before .before .before .before .pre .2 _ (c .before .before .loop-test .taken), c .before .before .loop-test .taken, omega (arith, c .before .before .before .loop .inv .1, c .before .before .before .before .before .before .before .pre .3))
+
+returns : tie.Need-returns Inv-loop μ-loop
+returns c = rows-whole _ _ _ _ _ _ (c .before .loop .inv .2) (c .before .loop .inv .0) (c .loop-test .left) (c .before .before .before .before .before .pre .3)
+
+pub right-numbers-spec : {M : Type 1} → statement M
+right-numbers-spec = tie.close (tie.spec
+    Inv-loop
+    μ-loop
+    (λ c. search turns)
+    (λ c. search turns)
+    (λ c. search turns)
+    right-row-requires
+    (λ c. search turns)
+    (λ c. search turns)
+    (λ c. search turns)
+    (λ c. search turns)
+    returns)

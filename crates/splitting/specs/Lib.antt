@@ -1,0 +1,4 @@
+pub mod Slabs
+pub mod Splits
+pub mod Claims
+pub mod Loops
