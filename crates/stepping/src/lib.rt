@@ -1,3 +1,6 @@
+// A step of a plan, and many one after another.
+pub mod checks;
+
 // One step of a plan: its lone settings.
 pub struct Settings {
     pub tau: f64,

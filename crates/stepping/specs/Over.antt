@@ -1,0 +1,48 @@
+-- What the inner functions cite: the checks over records by value, of which there is room for as many as a chain can have axes, with the number of those that were lent. Definitions for code only.
+use mathlib.Core.Path.{_≡_}
+use Prim.Native.Nat.{ℕ, _<_}
+use mathlib.Core.Bool.{Bool, _&&_}
+use mathlib.Core.List.{List}
+use lib.Dec.{eqb}
+use lib.ListN.{length, take}
+use lib.Ieee.{Float}
+use Rattle.answers.specs.declared.Refusal.the-variants.{Length, Number, Setting, Reach}
+use Rattle.answers.specs.Outcome.{Check, _then_, demand, demandEach}
+use Rattle.lists.specs.Slots.{offset, slot}
+use Rattle.shape.specs.declared.Shape.{Shape}
+use Rattle.shape.specs.Shapes.{pointsOf, chainOk, coreSize}
+use Rattle.axes.specs.declared.Axis.{Axis}
+use Rattle.axes.specs.Axes.{axisFinite, axisOk, axisAt}
+use Rattle.shift.specs.Shifts.{shiftOf, reaches}
+use Rattle.rounding.specs.Call.{lengthsOk, coreFinite}
+use Rattle.stepping.specs.declared.Settings.{Settings}
+
+-- 8 spares axis k
+unfoldable pub axisReaches : Settings → Shape → List Axis → ℕ → Bool
+axisReaches t s xs k = reaches (shiftOf (axisAt xs k) (t .tau) (pointsOf s k))
+
+-- 6 of cores and axes
+unfoldable pub zonesFinite : Shape → List Axis → List Float → Check
+zonesFinite s xs chain = demandEach Number (λ (k : ℕ). coreFinite s chain k && axisFinite (axisAt xs k)) (s .d) 0
+
+-- 7 and 8
+unfoldable pub settingsOk : Bool → Settings → Shape → List Axis → Check
+settingsOk mild t s xs =
+    demand mild (Setting 0)
+    then demandEach Setting (λ (k : ℕ). axisOk (axisAt xs k)) (s .d) 0
+    then demandEach Reach (axisReaches t s xs) (s .d) 0
+
+-- all checks: `count` records were lent, and scratch is as long as said
+unfoldable pub overOk : Bool → Bool → Settings → Shape → ℕ → List Axis → List Float → ℕ → Check
+overOk lone mild t s count xs chain scratch =
+    chainOk s
+    then demand (eqb count (s .d)) (Length 0)
+    then lengthsOk s 1 (length chain) 2 scratch
+    then demand lone (Number 0)
+    then zonesFinite s xs chain
+    then settingsOk mild t s xs
+
+-- v is w but for slot k
+pub record Elsewhere (s : Shape) (k : ℕ) (w v : List Float) : Type 0 where
+  pub front : take (offset (coreSize s) k) v ≡ take (offset (coreSize s) k) w
+  pub others : (j : ℕ) → j < s .d → ¬ (j ≡ k) → slot (coreSize s) j v ≡ slot (coreSize s) j w
