@@ -1,3 +1,7 @@
 pub mod Restart
 pub mod Rounds
 pub mod Verdicts
+pub mod Fronts
+pub mod Everys
+pub mod Standings
+pub mod Passes

@@ -1,6 +1,6 @@
 -- What the inner functions cite: the checks over records by value, of which there is room for as many as a chain can have axes, with the number of those that were lent. Definitions for code only.
 use mathlib.Core.Path.{_≡_}
-use Prim.Native.Nat.{ℕ, _<_}
+use Prim.Native.Nat.{ℕ, _+_, _*_, _-_, _≤_, _<_}
 use mathlib.Core.Bool.{Bool, _&&_}
 use mathlib.Core.List.{List}
 use lib.Dec.{eqb}
@@ -8,14 +8,19 @@ use lib.ListN.{length, take}
 use lib.Ieee.{Float}
 use Rattle.answers.specs.declared.Refusal.the-variants.{Length, Number, Setting, Reach}
 use Rattle.answers.specs.Outcome.{Check, _then_, demand, demandEach}
+use Rattle.lists.specs.Lists.{listed}
 use Rattle.lists.specs.Slots.{offset, slot}
 use Rattle.shape.specs.declared.Shape.{Shape}
-use Rattle.shape.specs.Shapes.{pointsOf, chainOk, coreSize}
+use Rattle.shape.specs.Limits.{mostPoints, mostRank}
+use Rattle.shape.specs.Shapes.{pointsOf, chainOk, coreSize, entriesOf}
+use Rattle.shape.specs.Sizes.{SizesWithin, Inside}
+use Rattle.shape.specs.Cores.{Core, standing}
 use Rattle.axes.specs.declared.Axis.{Axis}
 use Rattle.axes.specs.Axes.{axisFinite, axisOk, axisAt}
 use Rattle.shift.specs.Shifts.{shiftOf, reaches}
 use Rattle.rounding.specs.Call.{lengthsOk, coreFinite}
 use Rattle.stepping.specs.declared.Settings.{Settings}
+use Rattle.stepping.specs.Zones.{Zone, zone}
 
 -- 8 spares axis k
 unfoldable pub axisReaches : Settings → Shape → List Axis → ℕ → Bool
@@ -46,3 +51,22 @@ overOk lone mild t s count xs chain scratch =
 pub record Elsewhere (s : Shape) (k : ℕ) (w v : List Float) : Type 0 where
   pub front : take (offset (coreSize s) k) v ≡ take (offset (coreSize s) k) w
   pub others : (j : ℕ) → j < s .d → ¬ (j ≡ k) → slot (coreSize s) j v ≡ slot (coreSize s) j w
+
+-- ---- the zones from z on, in place
+-- core k where it stands, with the record of its axis
+abbrev pub zoneIn : Shape → Shape → List Axis → List Float → ℕ → Zone
+zoneIn s t xs w k = zone (standing s t w k) (axisAt xs k)
+
+abbrev pub standFrom : Shape → Shape → ℕ → List Float → List Core
+standFrom s t z w = listed (s .d - z) z (standing s t w)
+
+-- what work in place asks: core k of t stands where core k of s begins
+pub record Stands (s t : Shape) (w : List Float) : Type 0 where
+  pub inside : Inside s t
+  pub within : SizesWithin s
+  pub long : entriesOf s ≤ length w
+
+-- and a shift: room for one core, and for one of its blocks twice
+pub record Rooms (room block : List Float) : Type 0 where
+  pub core : mostRank * mostPoints * mostRank ≤ length room
+  pub twice : mostPoints * mostRank + mostPoints * mostRank ≤ length block

@@ -55,11 +55,7 @@ fn axis_reaches(
 }
 
 // The first axis whose shift is too far, or d.
-fn first_too_far(
-    set: super::Settings,
-    s: shape::Shape,
-    xs: [axes::Axis; shape::MOST_AXES],
-) -> usize
+fn first_too_far(set: super::Settings, s: shape::Shape, xs: [axes::Axis; shape::MOST_AXES]) -> usize
     requires { ⌜ PointsWithin s ⌝ }
     ensures { λ r. ⌜ r ≡ firstNot (axisReaches set s xs) (s .d) ⌝ }
 {
