@@ -5,3 +5,4 @@ pub mod Fronts
 pub mod Everys
 pub mod Standings
 pub mod Passes
+pub mod Gathers

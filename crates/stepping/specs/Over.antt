@@ -11,16 +11,19 @@ use Rattle.answers.specs.Outcome.{Check, _then_, demand, demandEach}
 use Rattle.lists.specs.Lists.{listed}
 use Rattle.lists.specs.Slots.{offset, slot}
 use Rattle.shape.specs.declared.Shape.{Shape}
-use Rattle.shape.specs.Limits.{mostPoints, mostRank}
+use Rattle.shape.specs.Limits.{mostPoints, mostRank, within}
 use Rattle.shape.specs.Shapes.{pointsOf, chainOk, coreSize, entriesOf}
 use Rattle.shape.specs.Sizes.{SizesWithin, Inside}
-use Rattle.shape.specs.Cores.{Core, standing}
+use Rattle.shape.specs.Cores.{Core, coresOf, standing}
 use Rattle.axes.specs.declared.Axis.{Axis}
 use Rattle.axes.specs.Axes.{axisFinite, axisOk, axisAt}
 use Rattle.shift.specs.Shifts.{shiftOf, reaches}
-use Rattle.rounding.specs.Call.{lengthsOk, coreFinite}
+use Rattle.numbers.specs.Finite.{finite}
+use Rattle.rounding.specs.Call.{lengthsOk, coreFinite, notBelowZero, Ended, endedBy}
 use Rattle.stepping.specs.declared.Settings.{Settings}
 use Rattle.stepping.specs.Zones.{Zone, zone}
+use Rattle.stepping.specs.Steps.{step, stepsAndOne}
+use Rattle.stepping.specs.Call.{mostSteps, settingsFor}
 
 -- 8 spares axis k
 unfoldable pub axisReaches : Settings → Shape → List Axis → ℕ → Bool
@@ -70,3 +73,17 @@ pub record Stands (s t : Shape) (w : List Float) : Type 0 where
 pub record Rooms (room block : List Float) : Type 0 where
   pub core : mostRank * mostPoints * mostRank ≤ length room
   pub twice : mostPoints * mostRank + mostPoints * mostRank ≤ length block
+
+-- ---- the calls
+unfoldable pub stepOver : Settings → Shape → ℕ → List Axis → List Float → List Float → Ended
+stepOver t s count xs chain scratch =
+    endedBy s chain scratch
+    (overOk (finite (t .tau) && (finite (t .c) && finite (t .eps))) (notBelowZero (t .tau) && notBelowZero (t .eps)) t s count xs chain (length scratch)
+    then step t xs (coresOf s chain))
+
+unfoldable pub evolveOver : Float → ℕ → Float → Float → Shape → ℕ → List Axis → List Float → List Float → Ended
+evolveOver final steps c eps s count xs chain scratch =
+    let t = settingsFor final steps c eps in
+    endedBy s chain scratch
+    (overOk (finite final && (finite c && finite eps)) (notBelowZero final && (within mostSteps steps && notBelowZero eps)) t s count xs chain (length scratch)
+    then stepsAndOne (steps - 1) t xs (coresOf s chain))
