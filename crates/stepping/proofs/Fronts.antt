@@ -7,7 +7,7 @@ use mathlib.Core.List.{List, _++_, append-assoc}
 use lib.ListN.{length, take, drop, length-append, length-drop, take-append-drop}
 use lib.Seq.{length-take-le, take-at, drop-at, drop-drop, drop-append-le}
 use Rattle.lists.specs.Slots.{offset, slot, put}
-use Rattle.lists.proofs.Slots.{offset-suc, slot-length, put-take}
+use Rattle.lists.proofs.Slots.{offset-suc, slot-length, put-take, put-drop}
 use Rattle.lists.proofs.Written.{slot-put-other}
 
 -- ---- a part that was lent from `at` to at + size, and came back as y
@@ -74,3 +74,13 @@ module _ {A : Type 0} (size : ℕ → ℕ) (k at z : ℕ) (x l : List A) (start 
 
   pub anew-before : take (offset size k) anew ≡ take (offset size k) l
   anew-before = ap (take (offset size k)) anew-put ∙ put-take size k whole l whole-length room
+
+  pub anew-behind : drop (offset size (suc k)) anew ≡ drop (offset size (suc k)) l
+  anew-behind = ap (drop (offset size (suc k))) anew-put ∙ put-drop size k whole l whole-length room
+
+-- what is alike from a on is alike further on
+pub drop-further : {A : Type 0} (a b : ℕ) (v w : List A) → a ≤ b → drop a v ≡ drop a w → drop b v ≡ drop b w
+drop-further {A} a b v w h e =
+    let g : a + (b - a) ≡ b = omega arith in
+    let at : (l : List A) → drop b l ≡ drop (b - a) (drop a l) = λ l. sym (drop-drop (b - a) a l ∙ ap (λ (n : ℕ). drop n l) g) in
+    at v ∙ ap (drop (b - a)) e ∙ sym (at w)

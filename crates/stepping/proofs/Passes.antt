@@ -27,7 +27,7 @@ use Rattle.shift.specs.Shifts.{shiftOf, reaches}
 use Rattle.stepping.specs.declared.Settings.{Settings}
 use Rattle.stepping.specs.Zones.{Zone, zone, rules}
 use Rattle.stepping.specs.Steps.{shiftZone, scaleZone}
-use Rattle.stepping.specs.Over.{axisReaches, Elsewhere, zoneIn, standFrom, Stands, Rooms}
+use Rattle.stepping.specs.Over.{axisReaches, Onward, Elsewhere, zoneIn, standFrom, Stands, Rooms}
 use Rattle.stepping.proofs.Everys.{Left, left-none, left-done, left-stop, left-more, every-kept}
 
 -- a core stands as its slot does
@@ -45,6 +45,12 @@ rooms-on room block room' block' R e f = record { core = omega (arith, R .core);
 pub reach-of : (set : Settings) (s : Shape) (xs : List Axis) (k : ℕ) (x : Axis) → x ≡ axisAt xs k → axisReaches set s xs k ≡ true → reaches (shiftOf x (set .tau) (pointsOf s k)) ≡ true
 unfolding axisReaches
 reach-of set s xs k x e h = ap (λ (y : Axis). reaches (shiftOf y (set .tau) (pointsOf s k))) e ∙ h
+
+pub onward-none : (s : Shape) (z : ℕ) (w : List Float) → Onward s z w w
+onward-none s z w = record { front = refl; behind = refl }
+
+pub onward-both : (s : Shape) (z : ℕ) (w v u : List Float) → Onward s z w v → Onward s z v u → Onward s z w u
+onward-both s z w v u P Q = record { front = Q .front ∙ P .front; behind = Q .behind ∙ P .behind }
 
 -- ---- one phase after another: r is the verdict of the first, a what it leaves
 module _ {A B : Type 0} (o : Answer A) (f : A → Answer B) (r : Verdict) (a : A) (e : o ≡ answered r a) where
@@ -65,20 +71,23 @@ module _ (s t : Shape) (set : Settings) (xs : List Axis) (z : ℕ) (w : List Flo
     pub low : z ≤ k
     pub most : k ≤ s .d
     pub long : length v ≡ length w
-    pub front : take (offset (coreSize s) z) v ≡ take (offset (coreSize s) z) w
+    pub onward : Onward s z w v
     pub rest : shifts ≡ Left (shiftZone rules set) (s .d) z k (zoneIn s t xs v) (standing s t v)
 
   pub shifting-none : z ≤ s .d → Shifting z w
-  shifting-none h = record { low = le-refl z; most = h; long = refl; front = refl; rest = left-none (shiftZone rules set) (s .d) z (zoneIn s t xs w) (standing s t w) }
+  shifting-none h = record { low = le-refl z; most = h; long = refl; onward = record { front = refl; behind = refl }; rest = left-none (shiftZone rules set) (s .d) z (zoneIn s t xs w) (standing s t w) }
 
   module _ (k : ℕ) (v : List Float) (S : Shifting k v) where
     pub shifting-done : s .d ≤ k → shifts ≡ answered Fits (standFrom s t z v)
     shifting-done l = left-done (shiftZone rules set) (s .d) z shifts k (zoneIn s t xs v) (standing s t v) (S .rest) (S .low) l (S .most) ∙ sym (answered-fits (standFrom s t z v))
 
-    pub front-on : (u : List Float) → Elsewhere s k v u → take (offset (coreSize s) z) u ≡ take (offset (coreSize s) z) w
-    front-on u E =
+    pub onward-on : (u : List Float) → Elsewhere s k v u → Onward s z w u
+    onward-on u E =
         let m = offset-mono (coreSize s) z k (S .low) in
-        sym (take-take (offset (coreSize s) z) (offset (coreSize s) k) u m) ∙ ap (take (offset (coreSize s) z)) (E .front) ∙ take-take (offset (coreSize s) z) (offset (coreSize s) k) v m ∙ S .front
+        record {
+          front = sym (take-take (offset (coreSize s) z) (offset (coreSize s) k) u m) ∙ ap (take (offset (coreSize s) z)) (E .onward .front) ∙ take-take (offset (coreSize s) z) (offset (coreSize s) k) v m ∙ S .onward .front;
+          behind = E .onward .behind ∙ S .onward .behind;
+        }
 
     -- zone k, whose record is x, has made u of v
     module _ (l : k < s .d) (x : Axis) (a : x ≡ axisAt xs k) (u : List Float) (r : Verdict) (e : shiftZone rules set k (zone (standing s t v k) x) ≡ answered r (standing s t u k)) where
@@ -96,7 +105,7 @@ module _ (s t : Shape) (set : Settings) (xs : List Axis) (z : ℕ) (w : List Flo
             low = omega (arith, S .low);
             most = omega arith;
             long = same ∙ S .long;
-            front = front-on u E;
+            onward = onward-on u E;
             rest = left-more (shiftZone rules set) (s .d) z shifts k (zoneIn s t xs v) (standing s t v) (S .rest) l (S .low) (zoneIn s t xs u) (standing s t u)
                 (here ∙ ap (λ (o : Verdict). answered o (standing s t u k)) h ∙ answered-fits (standing s t u k))
                 (λ j p q. ap (λ (c : Core). zone c (axisAt xs j)) (still j q (λ n. omega arith)))

@@ -15,7 +15,7 @@ use Rattle.lists.specs.Slots.{offset, slot}
 use Rattle.lists.proofs.Slots.{offset-suc, offset-mono}
 use Rattle.shape.specs.declared.Shape.{Shape}
 use Rattle.shape.specs.Limits.{mostPoints, mostRank}
-use Rattle.shape.specs.Shapes.{leftOf, pointsOf, rightOf, coreSize}
+use Rattle.shape.specs.Shapes.{leftOf, pointsOf, rightOf, coreSize, entriesOf}
 use Rattle.shape.specs.Cores.{Core, coreWith, standing}
 use Rattle.shape.proofs.Offsets.{core-most}
 use Rattle.shape.proofs.Insides.{inside-size}
@@ -27,7 +27,7 @@ use Rattle.stepping.specs.declared.Settings.{Settings}
 use Rattle.stepping.specs.Zones.{zone, rules}
 use Rattle.stepping.specs.Steps.{holding, shiftZone, scaleZone}
 use Rattle.stepping.specs.Over.{Elsewhere, Stands, Rooms}
-use Rattle.stepping.proofs.Fronts.{part-length, anew-other, anew-before}
+use Rattle.stepping.proofs.Fronts.{part-length, anew-other, anew-before, anew-behind, drop-further}
 
 -- a core made of what a call answers
 bind-held : (r : Verdict) (l : List Float) (f : List Float → Core) → bind (answered r l) (λ x. done (f x)) ≡ answered r (f l)
@@ -81,7 +81,10 @@ module _ (s t : Shape) (w : List Float) (S : Stands s t w) (k : ℕ) (l : k < s 
     stand-others b =
         let c = part-length at size v (omega (arith, stand-end)) in
         record {
-          front = ap (take (offset (coreSize s) k)) b ∙ anew-before (coreSize s) k at size (take size (drop at v)) w a fits c last;
+          onward = record {
+            front = ap (take (offset (coreSize s) k)) b ∙ anew-before (coreSize s) k at size (take size (drop at v)) w a fits c last;
+            behind = drop-further (offset (coreSize s) (suc k)) (entriesOf s) v w (offset-mono (coreSize s) (suc k) (s .d) l) (ap (drop (offset (coreSize s) (suc k))) b ∙ anew-behind (coreSize s) k at size (take size (drop at v)) w a fits c last);
+          };
           others = λ j m n. ap (slot (coreSize s) j) b ∙ anew-other (coreSize s) k at size (take size (drop at v)) w a fits c last j n;
         }
 

@@ -4,7 +4,7 @@ use Prim.Native.Nat.{ℕ, _+_, _*_, _-_, _≤_, _<_}
 use mathlib.Core.Bool.{Bool, _&&_}
 use mathlib.Core.List.{List}
 use lib.Dec.{eqb}
-use lib.ListN.{length, take}
+use lib.ListN.{length, take, drop}
 use lib.Ieee.{Float}
 use Rattle.answers.specs.declared.Refusal.the-variants.{Length, Number, Setting, Reach}
 use Rattle.answers.specs.Outcome.{Check, _then_, demand, demandEach}
@@ -50,9 +50,14 @@ overOk lone mild t s count xs chain scratch =
     then zonesFinite s xs chain
     then settingsOk mild t s xs
 
+-- v is w but for the slots from z on
+pub record Onward (s : Shape) (z : ℕ) (w v : List Float) : Type 0 where
+  pub front : take (offset (coreSize s) z) v ≡ take (offset (coreSize s) z) w
+  pub behind : drop (entriesOf s) v ≡ drop (entriesOf s) w
+
 -- v is w but for slot k
 pub record Elsewhere (s : Shape) (k : ℕ) (w v : List Float) : Type 0 where
-  pub front : take (offset (coreSize s) k) v ≡ take (offset (coreSize s) k) w
+  pub onward : Onward s k w v
   pub others : (j : ℕ) → j < s .d → ¬ (j ≡ k) → slot (coreSize s) j v ≡ slot (coreSize s) j w
 
 -- ---- the zones from z on, in place

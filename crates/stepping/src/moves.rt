@@ -6,16 +6,15 @@ ghost use Prim.Native.Nat.{ℕ, _+_, _-_, _≤_, _<_};
 ghost use lib.ListN.{length, take, drop};
 ghost use Rattle.answers.specs.Outcome.{bind, answered};
 ghost use Rattle.lists.specs.Lists.{listed};
-ghost use Rattle.lists.specs.Slots.{offset};
 ghost use Rattle.lists.specs.Walks.{every};
-ghost use Rattle.shape.specs.Shapes.{pointsOf, coreSize};
+ghost use Rattle.shape.specs.Shapes.{pointsOf};
 ghost use Rattle.shape.specs.Cores.{coreWith, standing};
 ghost use Rattle.axes.specs.Axes.{axisAt};
 ghost use Rattle.shift.specs.Shifts.{shiftOf, reaches, moveCore, scaled};
 ghost use Rattle.shift.specs.Doubled.{Lent};
 ghost use Rattle.stepping.specs.Zones.{zone, rules};
 ghost use Rattle.stepping.specs.Steps.{shiftZone, scaleZone};
-ghost use Rattle.stepping.specs.Over.{axisReaches, Elsewhere, zoneIn, standFrom, Stands, Rooms};
+ghost use Rattle.stepping.specs.Over.{axisReaches, Onward, Elsewhere, zoneIn, standFrom, Stands, Rooms};
 
 // The numbers from `at` on go to the front of room.
 fn hold(work: &[f64], at: usize, size: usize, room: &mut [f64])
@@ -97,7 +96,7 @@ pub fn shift_from(
     requires { ⌜ (Stands s t (now work)) × (Rooms (now room) (now block)) ⌝ }
     requires { ⌜ (z ≤ s .d) × ((k : ℕ) → z ≤ k → k < s .d → axisReaches set s xs k ≡ true) ⌝ }
     ensures { λ r. ⌜ every (shiftZone rules set) z (listed (s .d - z) z (zoneIn s t xs (now (work .entry)))) ≡ answered r (standFrom s t z (now (work .exit))) ⌝ }
-    ensures { λ _. ⌜ take (offset (coreSize s) z) (now (work .exit)) ≡ take (offset (coreSize s) z) (now (work .entry)) ⌝ }
+    ensures { λ _. ⌜ Onward s z (now (work .entry)) (now (work .exit)) ⌝ }
 {
     let mut k = z;
     while k < s.d {
@@ -130,7 +129,7 @@ pub fn scale_from(
 ) -> answers::Verdict
     requires { ⌜ Stands s t (now work) ⌝ }
     ensures { λ r. ⌜ every (scaleZone rules set) z (standFrom s t z (now (work .entry))) ≡ answered r (standFrom s t z (now (work .exit))) ⌝ }
-    ensures { λ _. ⌜ take (offset (coreSize s) z) (now (work .exit)) ≡ take (offset (coreSize s) z) (now (work .entry)) ⌝ }
+    ensures { λ _. ⌜ Onward s z (now (work .entry)) (now (work .exit)) ⌝ }
 {
     if z != 0 {
         return answers::Verdict::Fits;
@@ -154,7 +153,7 @@ pub fn move_from(
     requires { ⌜ (Stands s t (now work)) × (Rooms (now room) (now block)) ⌝ }
     requires { ⌜ (z ≤ s .d) × ((k : ℕ) → z ≤ k → k < s .d → axisReaches set s xs k ≡ true) ⌝ }
     ensures { λ r. ⌜ bind (every (shiftZone rules set) z (listed (s .d - z) z (zoneIn s t xs (now (work .entry))))) (λ a. every (scaleZone rules set) z a) ≡ answered r (standFrom s t z (now (work .exit))) ⌝ }
-    ensures { λ _. ⌜ take (offset (coreSize s) z) (now (work .exit)) ≡ take (offset (coreSize s) z) (now (work .entry)) ⌝ }
+    ensures { λ _. ⌜ Onward s z (now (work .entry)) (now (work .exit)) ⌝ }
 {
     let moved = shift_from(z, s, t, set, xs, work, room, block);
     if let answers::Verdict::Refused(r) = moved {

@@ -1,7 +1,6 @@
 -- `stepping::moves::move_from` meets its contract. Assumes nothing.
 use borrow.Author.Needs.{needs}
-use mathlib.Core.Path.{_∙_}
-use Rattle.stepping.proofs.Passes.{phase-stops, phase-goes, stands-on}
+use Rattle.stepping.proofs.Passes.{phase-stops, phase-goes, stands-on, onward-both}
 use Rattle.stepping.proofs.moves.move_from.Statement.{statement}
 use Rattle.stepping.proofs.moves.move_from.Tie as tie
 
@@ -12,7 +11,7 @@ scale-from-requires : tie.Need-scale-from-requires
 scale-from-requires c κs = stands-on _ _ _ _ (c .before .before .before .before .before .before .before .before .before .before .before .before .before .before .before .before .pre .0 .0) (c .before .before .before .before .before .before .before .before .before .shift-from .kept .1 .1 .1 .1 .1 .0)
 
 returns-2 : tie.Need-returns-2
-returns-2 c = (phase-goes _ _ _ _ (c .before .before .before .before .before .before .before .before .before .before .before .before .shift-from .ensures .0) (c .before .before .before .before .enum-told .given .1) _ (c .before .before .scale-from .ensures .0), c .before .before .scale-from .ensures .1 ∙ c .before .before .before .before .before .before .before .before .before .before .before .before .shift-from .ensures .1)
+returns-2 c = (phase-goes _ _ _ _ (c .before .before .before .before .before .before .before .before .before .before .before .before .shift-from .ensures .0) (c .before .before .before .before .enum-told .given .1) _ (c .before .before .scale-from .ensures .0), onward-both _ _ _ _ _ (c .before .before .before .before .before .before .before .before .before .before .before .before .shift-from .ensures .1) (c .before .before .scale-from .ensures .1))
 
 pub move-from-spec : {M : Type 1} → statement M
 move-from-spec = tie.close (tie.spec
