@@ -1,2 +1,9 @@
+-- the checks, and the chain packed
 pub mod Verdicts
 pub mod Chains
+-- one core
+pub mod Cuts
+pub mod Zoned
+-- zone after zone
+pub mod Bonds
+pub mod From

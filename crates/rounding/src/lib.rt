@@ -12,6 +12,7 @@ ghost use Rattle.shape.specs.Shapes.{coreSize, entriesOf};
 ghost use Rattle.shape.specs.Sizes.{SizesWithin};
 
 pub mod checks;
+pub mod zones;
 
 // The chain's shape at the end; for each bond the sweeps made, and whether the sum is below 1e-30 at the end.
 pub struct Rounded {

@@ -24,11 +24,11 @@ use Rattle.shape.specs.Cores.{Core, coreWith}
 use Rattle.shape.proofs.Shaped.{shape-same}
 use Rattle.rounding.specs.Rounding.{Carry, Cut}
 use Rattle.stepping.specs.Zones.{Rules}
-use Rattle.runs.specs.Kept.{Inputs, Stepped, Summed, Kept, running, bondSize, carrySize, rankAt, leftRank, rightRank, keptCore, keptCarry, keptSums}
-use Rattle.runs.specs.Work.{rankIn, numbersIn, keepStep}
+use Rattle.runs.specs.Kept.{Inputs, Summed, Kept, running, leftRank, rightRank, keptCore, keptCarry, keptSums}
+use Rattle.rounding.specs.Keeping.{Stepped, bondSize, carrySize, rankAt, rankIn, numbersIn, keepStep}
 use Rattle.runs.specs.Checks.{rankOk, inputsLent, keptLent, loneFinite, zoneFinite, keptFinite}
 use Rattle.runs.specs.Requests.{Request, zoneOf, partFits, partFinite, numbersOk, replaceOk}
-use Rattle.runs.proofs.Held.{bond-at}
+use Rattle.rounding.proofs.Bonds.{bond-at}
 use Rattle.runs.proofs.Before.{Roomy, rank-before, core-before, carry-before}
 
 -- ---- two runs that agree in used room, their slices as long
@@ -114,9 +114,9 @@ module _ (s : Shape) (t t' : Stepped) (M : Roomy s t) (M' : Roomy s t') (E : Ali
   unfolding keepStep
   rank-after k ge lt =
       let f : Carry × Cut → List ℕ = λ x. rankIn (x .0) in
-      sym (bond-at s k lt (new .ranks) 0)
+      sym (bond-at s k (new .ranks) lt 0)
       ∙ ap (λ (l : List ℕ). getD l 0 0) (write-alike (bondSize s) 0 (s .d) z (map f c) (mapped f) (t .ranks) (t' .ranks) (M .ranks) (M' .ranks) k ge (omega arith))
-      ∙ bond-at s k lt (new' .ranks) 0
+      ∙ bond-at s k (new' .ranks) lt 0
 
   ranks-alike : (k : ℕ) → suc k < s .d → rankAt new k ≡ rankAt new' k
   ranks-alike k lt = below-or-not k z (λ b. rank-before s t M z inside c k b ∙ E .ranks k lt ∙ sym (rank-before s t' M' z inside c k b)) (λ ge. rank-after k ge lt)

@@ -17,9 +17,9 @@ use Rattle.shape.specs.declared.Shape.{Shape}
 use Rattle.shape.specs.Shapes.{pointsOf, rightOf, coreSize}
 use Rattle.shape.specs.Cores.{Core, coreWith}
 use Rattle.rounding.specs.Rounding.{Carry, Cut}
-use Rattle.runs.specs.Kept.{Stepped, bondSize, carrySize, rankAt, leftRank, rightRank, keptCore, keptCarry}
-use Rattle.runs.specs.Work.{rankIn, numbersIn, keepStep}
-use Rattle.runs.proofs.Held.{bond-offset}
+use Rattle.runs.specs.Kept.{leftRank, rightRank, keptCore, keptCarry}
+use Rattle.rounding.specs.Keeping.{Stepped, bondSize, carrySize, rankAt, rankIn, numbersIn, keepStep}
+use Rattle.rounding.proofs.Bonds.{bond-offset}
 
 -- d zones have d - 1 bonds
 pub bond-count : (s : Shape) → 1 ≤ s .d → offset (bondSize s) (s .d) ≡ s .d - 1

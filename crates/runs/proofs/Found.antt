@@ -22,8 +22,9 @@ use Rattle.shape.proofs.Shaped.{shape-same}
 use Rattle.axes.specs.Axes.{axisOk}
 use Rattle.rounding.specs.Rounding.{Carry, Cut}
 use Rattle.stepping.specs.Zones.{axisAt, Rules}
-use Rattle.runs.specs.Kept.{Inputs, Stepped, Summed, carrySize, sumSize, allCarries, allSums, bare, blank, rankAt, keptCarry}
-use Rattle.runs.specs.Work.{numbersIn, keepStep, keepSums}
+use Rattle.runs.specs.Kept.{Inputs, Summed, sumSize, allCarries, allSums, bare, blank, keptCarry}
+use Rattle.rounding.specs.Keeping.{Stepped, carrySize, rankAt, numbersIn, keepStep}
+use Rattle.runs.specs.Work.{keepSums}
 use Rattle.runs.specs.Checks.{rankOk, keptLent, loneFinite, zoneFinite, keptFinite, loneOk}
 use Rattle.runs.specs.Requests.{Request, zoneOf, present, partFits, partFinite, partOk, shiftsOk, numbersOk, replaceOk}
 use Rattle.runs.proofs.Sound.{Sound}

@@ -28,34 +28,17 @@ use Rattle.shape.specs.Cores.{Core, coreWith, coreAt}
 use Rattle.shape.proofs.Shaped.{Shaped, shaped}
 use Rattle.rounding.specs.Rounding.{Carry, none, some, Cut}
 use Rattle.rounding.specs.Call.{coreFinite}
+use Rattle.rounding.proofs.Bonds.{bond-one, bond-at}
 use Rattle.product.specs.Product.{startSums}
 use Rattle.stepping.specs.Zones.{Zone, Rules}
 use Rattle.stepping.specs.Steps.{holding, shiftZone, scaleZone, roundZone, stepFrom}
 use Rattle.stepping.proofs.Restart.{step-length}
-use Rattle.runs.specs.Kept.{Inputs, bondSize, carrySize, sumSize, blank, zoneAt, zonesFrom, rankAt, leftRank, rightRank, keptCore, keptCarry, carryAt, keptSums, sumsAt, weighedAt, weighedFrom}
-use Rattle.runs.specs.Work.{rankIn, numbersIn, keepStep, keepSums, sumZone}
-use Rattle.runs.proofs.Sound.{Carried, Sound}
+use Rattle.runs.specs.Kept.{Inputs, sumSize, blank, zoneAt, zonesFrom, leftRank, rightRank, keptCore, keptCarry, carryAt, keptSums, sumsAt, weighedAt, weighedFrom}
+use Rattle.rounding.specs.Keeping.{bondSize, carrySize, rankAt, rankIn, numbersIn, keepStep}
+use Rattle.runs.specs.Work.{keepSums, sumZone}
+use Rattle.runs.proofs.Sound.{Sound}
+use Rattle.rounding.proofs.Cuts.{Carried}
 use Rattle.runs.proofs.Trace.{StepTrace, Trace, fine-zone, steppedBy, summedBy}
-
--- bond k's place in the arrays of the record is k
-pub bond-offset : (s : Shape) (k : ℕ) → k < s .d → offset (bondSize s) k ≡ k
-unfolding offset bondSize
-bond-offset s zero lt = refl
-bond-offset s (suc k) lt =
-    let ih = bond-offset s k (omega arith) in
-    let e : _≡_ {A = ℕ} (cond (ltb (suc k) (s .d)) 1 0) 1 = ap (λ (b : Bool). cond {A = ℕ} b 1 0) (ltb-yes (suc k) (s .d) lt) in
-    omega arith
-
--- a bond has one place there
-pub bond-one : (s : Shape) (k : ℕ) → suc k < s .d → bondSize s k ≡ 1
-unfolding bondSize
-bond-one s k lt = ap (λ (b : Bool). cond {A = ℕ} b 1 0) (ltb-yes (suc k) (s .d) lt)
-
--- so bond k's value is read at k
-pub bond-at : {A : Type 0} (s : Shape) (k : ℕ) → suc k < s .d → (l : List A) (o : A) → getD (slot (bondSize s) k l) 0 o ≡ getD l k o
-bond-at s k lt l o =
-    let one = bond-one s k lt in
-    getD-slot (bondSize s) k l 0 o (omega arith) ∙ ap (λ (j : ℕ). getD l j o) (add-zero (offset (bondSize s) k) ∙ bond-offset s k (omega arith))
 
 -- a zone of which nothing is kept
 abbrev pub no-cut : Carry × Cut
@@ -125,7 +108,7 @@ module _ (R : Rules) (S : Sound R) (i : Inputs) (P : StepTrace R i) where
   unfolding keepStep fit
   rank-held k lt =
       let C = carried-at k lt in
-      sym (bond-at (i .shape) k lt (steppedBy i (P .cuts) .ranks) 0)
+      sym (bond-at (i .shape) k (steppedBy i (P .cuts) .ranks) lt 0)
       ∙ ap (λ (l : List ℕ). getD l 0 0) (written-slot (bondSize (i .shape)) 0 (i .shape .d) (λ (r : Carry × Cut). rankIn (r .0)) no-cut refl (P .cuts) (blank i .stepped .ranks) k cuts-length (omega arith)
       ∙ ap (λ (n : ℕ). fit 0 n (rankIn (getD (P .cuts) k no-cut .0))) (bond-one (i .shape) k lt)
       ∙ ap (λ (c : Carry). fit 0 1 (rankIn c)) (C .«is»))

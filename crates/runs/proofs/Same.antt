@@ -26,8 +26,9 @@ use Rattle.product.specs.Product.{startSums}
 use Rattle.stepping.specs.Zones.{Zone, Rules}
 use Rattle.stepping.specs.Steps.{stepFrom}
 use Rattle.stepping.proofs.Restart.{step-restart}
-use Rattle.runs.specs.Kept.{Inputs, Stepped, Summed, Kept, running, bondSize, carrySize, sumSize, bare, blank, zoneAt, zonesFrom, keptCore, carryAt, sumsAt, weighedAt, weighedFrom}
-use Rattle.runs.specs.Work.{rankIn, numbersIn, keepStep, keepSums, sumZone, restep, resum, sumFrom, workFrom}
+use Rattle.runs.specs.Kept.{Inputs, Summed, Kept, running, sumSize, bare, blank, zoneAt, zonesFrom, keptCore, carryAt, sumsAt, weighedAt, weighedFrom}
+use Rattle.rounding.specs.Keeping.{Stepped, bondSize, carrySize, rankIn, numbersIn, keepStep}
+use Rattle.runs.specs.Work.{keepSums, sumZone, restep, resum, sumFrom, workFrom}
 use Rattle.runs.proofs.Sound.{Sound}
 use Rattle.runs.proofs.Trace.{StepTrace, Trace, steppedBy, summedBy}
 use Rattle.runs.proofs.Held.{sizes, cuts-length, sums-length, carry-read, sums-read}

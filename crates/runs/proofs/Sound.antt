@@ -8,19 +8,10 @@ use lib.Ieee.{Float}
 use Rattle.answers.specs.Outcome.{done}
 use Rattle.lists.specs.Floats.{allFinite}
 use Rattle.shape.specs.Cores.{Core}
-use Rattle.rounding.specs.Rounding.{Carry, none, some, Cut}
+use Rattle.rounding.specs.Rounding.{Carry, Cut}
+use Rattle.rounding.proofs.Cuts.{Carried, volume, CutOf}
 use Rattle.stepping.specs.declared.Settings.{Settings}
 use Rattle.stepping.specs.Zones.{Zone, Rules}
-
--- a carry out of a core with right rank rr
-pub record Carried (rr : ℕ) (s : Carry) : Type 0 where
-  pub rank : ℕ
-  pub numbers : List Float
-  pub «is» : s ≡ some rank numbers
-  pub least : 1 ≤ rank
-  pub most : rank ≤ rr
-  pub long : length numbers ≡ rank * rr
-  pub fine : allFinite numbers ≡ true
 
 -- what is stored is finite; a bond's rank lies in 1 to r_right, and its carry has rank*r_right numbers; there is a sum for each right index
 pub record Sound (R : Rules) : Type 0 where
@@ -31,21 +22,6 @@ pub record Sound (R : Rules) : Type 0 where
   pub weighed : (k : ℕ) (c : Core) (f e m : List Float) → R .weigh k c f e ≡ done m → (length m ≡ c .rr) × (allFinite m ≡ true)
 
 -- ---- how many numbers are made: not needed for a replacement to equal a fresh run, but for what a run holds to be the step's own cores
-abbrev pub volume : Core → ℕ
-volume c = c .rl * c .n * c .rr
-
--- the rank that a carry brings, or l where none comes
-abbrev pub rankOn : Carry → ℕ → ℕ
-rankOn none l = l
-rankOn (some r b) l = r
-
--- what rounding leaves of the core c, from the carry s on its left
-pub record CutOf (more : Bool) (s : Carry) (c : Core) (r : Carry × Cut) : Type 0 where
-  pub left : r .1 .core .rl ≡ rankOn s (c .rl)
-  pub points : r .1 .core .n ≡ c .n
-  pub right : r .1 .core .rr ≡ cond more (rankOn (r .0) 0) (c .rr)
-  pub long : length (r .1 .core .entries) ≡ volume (r .1 .core)
-
 pub record Sized (R : Rules) : Type 0 where
   pub shifted : (t : Settings) (k : ℕ) (z : Zone) (l : List Float) → length (z .core .entries) ≡ volume (z .core) → R .shift t k z ≡ done l → length l ≡ volume (z .core)
   pub scaled : (t : Settings) (l m : List Float) → R .scale t l ≡ done m → length m ≡ length l

@@ -24,8 +24,9 @@ use Rattle.rounding.specs.Rounding.{Carry, Cut}
 use Rattle.stepping.specs.Zones.{Rules}
 use Rattle.stepping.specs.Steps.{stepFrom}
 use Rattle.stepping.proofs.Restart.{step-length}
-use Rattle.runs.specs.Kept.{Inputs, Stepped, Summed, Kept, running, sumSize, allSums, zoneAt, zonesFrom, rankAt, rightRank, carryAt, keptSums, sumsAt, weighedAt, weighedFrom}
-use Rattle.runs.specs.Work.{keepStep, keepSums, sumZone, restep, resum, sumFrom, workFrom}
+use Rattle.runs.specs.Kept.{Inputs, Summed, Kept, running, sumSize, allSums, zoneAt, zonesFrom, rightRank, carryAt, keptSums, sumsAt, weighedAt, weighedFrom}
+use Rattle.rounding.specs.Keeping.{Stepped, rankAt, keepStep}
+use Rattle.runs.specs.Work.{keepSums, sumZone, restep, resum, sumFrom, workFrom}
 use Rattle.runs.proofs.Before.{Roomy, right-before}
 use Rattle.answers.specs.declared.Verdict.the-variants.{Refused}
 use Rattle.runs.specs.Checks.{rankOk, scratchLent}

@@ -18,7 +18,8 @@ use Rattle.rounding.specs.Call.{coreFinite, notBelowZero}
 use Rattle.stepping.specs.declared.Settings.{Settings}
 use Rattle.stepping.specs.Zones.{axisAt, Rules}
 use Rattle.stepping.specs.Call.{reachesAt}
-use Rattle.runs.specs.Kept.{Inputs, Stepped, Summed, Kept, allCarries, allSums, blank, rankAt, keptCore, keptCarry, keptSums}
+use Rattle.runs.specs.Kept.{Inputs, Summed, Kept, allCarries, allSums, blank, keptCore, keptCarry, keptSums}
+use Rattle.rounding.specs.Keeping.{Stepped, rankAt}
 use Rattle.runs.specs.Work.{workFrom}
 
 -- ---- 3: a kept rank is at least 1 and at most its source's

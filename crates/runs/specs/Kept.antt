@@ -14,6 +14,7 @@ use Rattle.shape.specs.Shapes.{pointsOf, rightOf, atBond, coreSize, entriesOf}
 use Rattle.shape.specs.Cores.{Core, coreWith, coreAt, pointsAt}
 use Rattle.axes.specs.declared.Axis.{Axis}
 use Rattle.rounding.specs.Rounding.{Carry, none, some}
+use Rattle.rounding.specs.Keeping.{Stepped, carrySize, rankAt}
 use Rattle.product.specs.Product.{startSums}
 use Rattle.stepping.specs.declared.Settings.{Settings}
 use Rattle.stepping.specs.Zones.{Zone, zone, axisAt}
@@ -27,15 +28,7 @@ pub record Inputs : Type 0 where
   pub source : List Float
   pub weights : List Float
 
--- what it keeps of the step: arrays with bond k's value at k, the cores each at its source offset, the carries
-pub record Stepped : Type 0 where
-  pub ranks : List ℕ
-  pub sweeps : List ℕ
-  pub settled : List Bool
-  pub chain : List Float
-  pub carries : List Float
-
--- and of the inner product
+-- what it keeps of the inner product; of the step it keeps what `Stepped` has
 pub record Summed : Type 0 where
   pub sums : List Float
   pub figure : Float
@@ -67,13 +60,7 @@ recordOf k = record {
   figure = k .summed .figure;
 }
 
--- ---- the slots: how many places zone k has. A bond's carry has r_right*r_right, an axis' sums r_right
-unfoldable pub bondSize : Shape → ℕ → ℕ
-bondSize s k = atBond s k 1 0
-
-unfoldable pub carrySize : Shape → ℕ → ℕ
-carrySize s k = atBond s k (rightOf s k * rightOf s k) 0
-
+-- ---- the slots: an axis' sums have r_right places
 unfoldable pub sumSize : Shape → ℕ → ℕ
 sumSize s k = rightOf s k
 
@@ -104,10 +91,7 @@ abbrev pub zonesFrom : Inputs → ℕ → List Zone
 zonesFrom i z = listed (i .shape .d - z) z (zoneAt i)
 
 -- ---- what it holds, zone by zone: the used room of each slot
--- the kept rank of bond k; left and right of core k
-abbrev pub rankAt : Stepped → ℕ → ℕ
-rankAt t k = getD (t .ranks) k 0
-
+-- the kept ranks left and right of core k
 abbrev pub leftRank : Stepped → ℕ → ℕ
 leftRank t zero = 1
 leftRank t (suc k) = rankAt t k

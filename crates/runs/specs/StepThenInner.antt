@@ -9,7 +9,8 @@ use Rattle.rounding.specs.Rounding.{coresIn}
 use Rattle.product.specs.Product.{sums, inner}
 use Rattle.stepping.specs.Steps.{step}
 use Rattle.runs.specs.Kept.{Inputs, Kept, running, blank}
-use Rattle.runs.specs.Work.{keepStep, keepSums}
+use Rattle.runs.specs.Work.{keepSums}
+use Rattle.rounding.specs.Keeping.{keepStep}
 
 -- each core with its axis' weights, the first being number k
 unfoldable pub paired : Shape → List Float → ℕ → List Core → List (Core × List Float)

@@ -11,29 +11,10 @@ use Rattle.lists.specs.Floats.{at}
 use Rattle.shape.specs.declared.Shape.{Shape}
 use Rattle.shape.specs.Shapes.{coreSize}
 use Rattle.shape.specs.Cores.{Core}
-use Rattle.rounding.specs.Rounding.{Carry, none, some, Cut}
+use Rattle.rounding.specs.Keeping.{Stepped, keepStep, Stepped, bondSize, carrySize}
 use Rattle.stepping.specs.Zones.{Rules}
 use Rattle.stepping.specs.Steps.{stepFrom}
-use Rattle.runs.specs.Kept.{Inputs, Stepped, Summed, Kept, running, bondSize, carrySize, sumSize, zonesFrom, carryAt, sumsAt, weighedFrom}
-
--- ---- what the walks leave, into the slots from z on; unused room of a slot is +0
--- what a bond hands on: one rank and its numbers, right of the last core nothing
-abbrev pub rankIn : Carry → List ℕ
-rankIn none = []
-rankIn (some r b) = r ∷ []
-
-abbrev pub numbersIn : Carry → List Float
-numbersIn none = []
-numbersIn (some r b) = b
-
-unfoldable pub keepStep : Shape → ℕ → List (Carry × Cut) → Stepped → Stepped
-keepStep s z tr t = record {
-  ranks = write (bondSize s) 0 (s .d) z (map (λ (r : Carry × Cut). rankIn (r .0)) tr) (t .ranks);
-  sweeps = write (bondSize s) 0 (s .d) z (map (λ (r : Carry × Cut). r .1 .counts) tr) (t .sweeps);
-  settled = write (bondSize s) false (s .d) z (map (λ (r : Carry × Cut). r .1 .flags) tr) (t .settled);
-  chain = write (coreSize s) zero64 (s .d) z (map (λ (r : Carry × Cut). r .1 .core .entries) tr) (t .chain);
-  carries = write (carrySize s) zero64 (s .d) z (map (λ (r : Carry × Cut). numbersIn (r .0)) tr) (t .carries);
-}
+use Rattle.runs.specs.Kept.{Inputs, Summed, Kept, running, sumSize, zonesFrom, carryAt, sumsAt, weighedFrom}
 
 -- the figure is the first number of the last axis' sums
 unfoldable pub keepSums : Shape → ℕ → List (List Float × Unit {0}) → Summed → Summed
