@@ -11,13 +11,17 @@ use lib.ListN.{length, take, getD, length-set}
 use lib.Seq.{length-take-le, getD-set-same}
 use lib.Ieee.{Float}
 use Rattle.numbers.specs.Arithmetic.{zero64}
-use Rattle.answers.specs.Outcome.{Answer, done, bind}
+use Rattle.answers.specs.declared.Refusal.{Refusal}
+use Rattle.answers.specs.declared.Verdict.{Verdict}
+use Rattle.answers.specs.declared.Verdict.the-variants.{Fits, Refused}
+use Rattle.answers.specs.Outcome.{Answer, done, bind, answered}
 use Rattle.answers.proofs.Outcomes.{bind-assoc, bind-cong, bind-done, done-inj}
 use Rattle.lists.specs.Lists.{listed}
 use Rattle.lists.specs.Slots.{offset, slot, put, fit, write}
 use Rattle.lists.specs.Walks.{walk, turning}
 use Rattle.lists.proofs.Tests.{ltb-yes, ltb-no, ltb-is, eqb-is, eqb-not}
 use Rattle.lists.proofs.Tables.{listed-same}
+use Rattle.lists.proofs.Stages.{answer-more, answer-stop, answer-done}
 use Rattle.lists.proofs.Slots.{offset-suc, offset-mono, slot-length, fit-length, fit-used, put-length, slot-put-same, write-none, write-one}
 use Rattle.lists.proofs.Written.{slot-put-other}
 use Rattle.shape.specs.declared.Shape.{Shape}
@@ -26,7 +30,6 @@ use Rattle.shape.specs.Shapes.{leftOf, pointsOf, rightOf, coreSize, entriesOf}
 use Rattle.shape.specs.Sizes.{SizesWithin, Inside}
 use Rattle.shape.specs.Cores.{Core, coreWith, standing, withCore, reshaped}
 use Rattle.shape.proofs.Ranks.{left-other, right-other, size-other, left-here, right-here, still-within}
-
 use Rattle.rounding.specs.Rounding.{Carry, none, some, Cut, roundCore, coresIn}
 use Rattle.rounding.specs.Keeping.{bondSize, carrySize, Stepped, rankAt, rankIn, numbersIn, keepStep, carryLeft, roundFrom}
 use Rattle.rounding.specs.Slots.{turned, zoneTurn, rankLeft, AtZone}
@@ -61,27 +64,27 @@ module _ (eps : Float) (s : Shape) where
     abbrev carry : Carry
     carry = carryLeft s t h k
 
-    size-inside : coreSize t k ≤ coreSize s k
+    pub size-inside : coreSize t k ≤ coreSize s k
     unfolding coreSize
     size-inside =
         let n : pointsOf t k ≡ pointsOf s k = ap (λ (x : List ℕ). getD x k 0) (A .points) in
         mul-le-mul (mul-le-mul (A .left k lt) (subst (λ (x : ℕ). pointsOf t k ≤ x) n (le-refl (pointsOf t k)))) (A .right k lt)
 
-    chain-room : offset (coreSize s) (suc k) ≤ length (h .chain)
+    pub chain-room : offset (coreSize s) (suc k) ≤ length (h .chain)
     chain-room = omega (arith, offset-mono (coreSize s) (suc k) (s .d) lt, A .chain)
 
-    carries-room : offset (carrySize s) (suc k) ≤ length (h .carries)
+    pub carries-room : offset (carrySize s) (suc k) ≤ length (h .carries)
     carries-room = omega (arith, offset-mono (carrySize s) (suc k) (s .d) lt, A .carries)
 
     core-long : length (core .entries) ≡ volume core
     unfolding standing coreSize
     core-long = length-take-le (coreSize t k) (slot (coreSize s) k (h .chain)) (omega (arith, size-inside, slot-length (coreSize s) k (h .chain) chain-room))
 
-    rank-on : rankOn carry (leftOf t k) ≡ rankLeft k t h
+    rank-on : rankOn carry (leftOf t k) ≡ rankLeft k t (h .ranks)
     unfolding carryLeft rankLeft
     rank-on = go k refl
       where
-        go : (j : ℕ) → j ≡ k → rankOn (carryLeft s t h j) (leftOf t j) ≡ rankLeft j t h
+        go : (j : ℕ) → j ≡ k → rankOn (carryLeft s t h j) (leftOf t j) ≡ rankLeft j t (h .ranks)
         go zero e = refl
         go (suc j) e = refl
 
@@ -92,7 +95,7 @@ module _ (eps : Float) (s : Shape) where
       cut : CutOf (more k) carry core r
       cut = round-of eps k carry core r (more k) core-long e
 
-      new-left : new .rl ≡ rankLeft k t h
+      new-left : new .rl ≡ rankLeft k t (h .ranks)
       unfolding standing
       new-left = cut .left ∙ rank-on
 
@@ -158,6 +161,7 @@ module _ (eps : Float) (s : Shape) where
           let lo = A .sizes .left k (omega (arith, A .axes)) in
           let ro = A .sizes .right k (omega (arith, A .axes)) in
           record {
+            source = A .source;
             sizes = still-within t k new kl kr (subst (λ (x : ℕ). (1 ≤ x) × (x ≤ mostRank)) (sym new-left) (L .0, omega (arith, L .1, lo .1))) (R .0, omega (arith, R .1, ro .1)) (A .sizes);
             axes = A .axes;
             points = A .points;
@@ -178,13 +182,13 @@ module _ (eps : Float) (s : Shape) where
             carries = subst (λ (n : ℕ). offset (carrySize s) (s .d) ≤ n) (sym (put-length (carrySize s) k (fit zero64 (carrySize s k) (numbersIn (r .0))) (h .carries) (fit-length zero64 (carrySize s k) (numbersIn (r .0))) carries-room)) (A .carries);
           }
         where
-          first-left : 0 ≡ k → rankLeft k t h ≡ 1
-          first-left q = subst (λ (i : ℕ). rankLeft i t h ≡ 1) q (A .first)
+          first-left : 0 ≡ k → rankLeft k t (h .ranks) ≡ 1
+          first-left q = subst (λ (i : ℕ). rankLeft i t (h .ranks) ≡ 1) q (A .first)
 
           -- the ranks behind meet, and at zone k they meet by what it takes in
           meets : z ≡ 0 → (j : ℕ) → suc j ≤ k → rightOf t j ≡ leftOf (withCore t k new) (suc j)
           meets o j l = by-case (suc j) k
-              (λ q. A .seam o j q lt ∙ ap (λ (i : ℕ). rankLeft i t h) q ∙ sym new-left ∙ sym (left-here t k new (omega (arith, A .lefts, A .sizes .axes .most, A .axes))) ∙ ap (leftOf (withCore t k new)) (sym q))
+              (λ q. A .seam o j q lt ∙ ap (λ (i : ℕ). rankLeft i t (h .ranks)) q ∙ sym new-left ∙ sym (left-here t k new (omega (arith, A .lefts, A .sizes .axes .most, A .axes))) ∙ ap (leftOf (withCore t k new)) (sym q))
               (λ q. A .behind o j (omega arith) ∙ sym (left-other t k new (suc j) q))
 
           array-room : {n : ℕ} → n ≡ mostAxes → offset (bondSize s) (suc k) ≤ n
@@ -285,10 +289,11 @@ module _ (eps : Float) (s : Shape) where
   }
 
 -- a chain that stands in the room of its source, before any turn
-pub at-start : (s t : Shape) (h : Stepped) → Inside s t → 1 ≤ s .d → length (t .left) ≡ mostAxes → length (t .right) ≡ mostAxes → length (h .ranks) ≡ mostAxes → length (h .sweeps) ≡ mostAxes → length (h .settled) ≡ mostAxes
+pub at-start : (s t : Shape) (h : Stepped) → ((j : ℕ) → suc j < s .d → rightOf s j ≡ leftOf s (suc j)) → Inside s t → 1 ≤ s .d → length (t .left) ≡ mostAxes → length (t .right) ≡ mostAxes → length (h .ranks) ≡ mostAxes → length (h .sweeps) ≡ mostAxes → length (h .settled) ≡ mostAxes
     → entriesOf s ≤ length (h .chain) → offset (carrySize s) (s .d) ≤ length (h .carries) → AtZone s 0 0 t h
 unfolding rankLeft
-at-start s t h I one a b c d e f g = record {
+at-start s t h source I one a b c d e f g = record {
+  source = source;
   sizes = I .sizes;
   axes = I .axes;
   points = I .points;
@@ -308,3 +313,49 @@ at-start s t h I one a b c d e f g = record {
   chain = f;
   carries = g;
 }
+
+-- whatever zone it began at
+pub at-any : (s : Shape) (z k : ℕ) (t : Shape) (h : Stepped) → AtZone s z k t h → AtZone s 1 k t h
+at-any s z k t h A = record {
+  source = A .source;
+  sizes = A .sizes;
+  axes = A .axes;
+  points = A .points;
+  left = A .left;
+  right = A .right;
+  joins = A .joins;
+  first = A .first;
+  last = A .last;
+  rank = A .rank;
+  behind = λ o j l. let z : ⊥ = omega arith in absurd z;
+  seam = λ o j l m. let z : ⊥ = omega arith in absurd z;
+  lefts = A .lefts;
+  rights = A .rights;
+  ranks = A .ranks;
+  sweeps = A .sweeps;
+  settled = A .settled;
+  chain = A .chain;
+  carries = A .carries;
+}
+
+-- ---- the loop over zones: T is the whole
+module _ (eps : Float) (s : Shape) (T : Answer (Shape × Stepped)) (z k : ℕ) (t : Shape) (h : Stepped) (e : T ≡ turning (s .d - k) k (zoneTurn eps s) (t, h)) where
+  module _ (lt : k < s .d) (v : Verdict) (t' : Shape) (h' : Stepped) (f : zoneTurn eps s k (t, h) ≡ answered v (t', h')) where
+    pub loop-more : v ≡ Fits → T ≡ turning (s .d - (k + 1)) (k + 1) (zoneTurn eps s) (t', h')
+    loop-more g = answer-more T (s .d) k (zoneTurn eps s) (t, h) e lt v (t', h') f g
+
+    pub loop-stop : (q : Refusal) → v ≡ Refused q → T ≡ answered v (t', h')
+    loop-stop q g = answer-stop T (s .d) k (zoneTurn eps s) (t, h) e lt v (t', h') f q (t', h') g ∙ ap (λ (w : Verdict). answered w (t', h')) (sym g)
+
+    pub loop-next : AtZone s z k t h → v ≡ Fits → AtZone s z (k + 1) t' h'
+    unfolding answered
+    loop-next A g = turn-next eps s z k t h A lt t' h' (f ∙ rw g)
+
+  pub loop-end : s .d ≤ k → (v : Verdict) → v ≡ Fits → T ≡ answered v (t, h)
+  loop-end l v g = answer-done T (s .d) k (zoneTurn eps s) (t, h) e l ∙ ap (λ (w : Verdict). answered w (t, h)) (sym g)
+
+pub end-inside : (s : Shape) (z k : ℕ) (t : Shape) (h : Stepped) → AtZone s z k t h → s .d ≤ k → z ≡ 0 → Inside s t
+end-inside s z k t h A l o = at-end-inside zero64 s t h k (subst (λ (j : ℕ). AtZone s j k t h) o A) l
+
+pub refused-fits : {P : Type 0} (v : Verdict) (q : Refusal) → v ≡ Refused q → v ≡ Fits → P
+refused-fits v q e f = let z : _≡_ {A = ℕ} 0 1 = cc in let n : ⊥ = omega arith in absurd n

@@ -7,3 +7,4 @@ pub mod Zoned
 -- zone after zone
 pub mod Bonds
 pub mod From
+pub mod Stands

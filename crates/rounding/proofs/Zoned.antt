@@ -170,7 +170,7 @@ module _ (k : ℕ) (eps : Float) (c : Core) (x y : ℕ) (more : Bool) where
   pub if-last : more ≡ false → (v : Verdict) (r n : ℕ) (b : Bool) (core carry : List Float) → v ≡ Fits → r ≡ c .rr → core ≡ fit zero64 x (c .entries) → length carry ≡ y → y ≡ 0
       → bind (cutIf more k eps c) (λ p. done (laidCut x y p)) ≡ answered v (laidAs more (c .rl) r n b core carry)
   unfolding answered fit
-  if-last h v r n b core carry f g i j z = rw (h, f, g, i) (ap (λ (l : List Float). done (record { left = c .rl; right = c .rr; counts = []; flags = []; core = fit zero64 x (c .entries); carry = l })) (go carry (omega arith)))
+  if-last h v r n b core carry f g i j z = rw (h, f, g, i) (ap (λ (l : List Float). done (record { left = c .rl; right = c .rr; ranks = []; counts = []; flags = []; core = fit zero64 x (c .entries); carry = l })) (go carry (omega arith)))
     where
       go : (l : List Float) → length l ≡ 0 → fit zero64 y [] ≡ l
       go [] e = ap (λ (m : ℕ). fit zero64 m []) z
