@@ -4,3 +4,5 @@ pub mod Traces
 pub mod Steps
 pub mod Evolves
 pub mod Asked
+pub mod Ends
+pub mod Calls

@@ -3,22 +3,26 @@ use mathlib.Core.Path.{_≡_}
 use Prim.Native.Nat.{ℕ, _*_, _-_, _≤_, _<_}
 use mathlib.Core.Bool.{Bool, true, false}
 use mathlib.Core.List.{List}
-use lib.ListN.{length, replicate}
+use lib.ListN.{length, take, replicate}
 use lib.Ieee.{Float}
 use Rattle.answers.specs.declared.Verdict.{Verdict}
-use Rattle.answers.specs.declared.Verdict.the-variants.{Fits}
+use Rattle.answers.specs.declared.Verdict.the-variants.{Fits, Refused}
 use Rattle.answers.specs.declared.Refusal.{Refusal}
 use Rattle.answers.specs.Outcome.{Answer, done, refused, bind, verdictOf}
 use Rattle.answers.specs.Table.{beforeWork}
-use Rattle.lists.specs.Lists.{listed, tab}
-use Rattle.lists.specs.Slots.{fit}
+use Rattle.numbers.specs.Arithmetic.{zero64}
+use Rattle.lists.specs.Lists.{listed, tab, joined}
+use Rattle.lists.specs.Slots.{slot, fit}
+use Rattle.lists.specs.Floats.{zeros}
 use Rattle.shape.specs.declared.Shape.{Shape}
 use Rattle.shape.specs.Limits.{mostAxes, mostRank}
-use Rattle.shape.specs.Shapes.{chainOk, entriesOf}
+use Rattle.shape.specs.Shapes.{chainOk, coreSize, entriesOf}
 use Rattle.shape.specs.Sizes.{Inside}
 use Rattle.shape.specs.Cores.{standing, reshaped}
 use Rattle.axes.specs.declared.Axis.{Axis}
 use Rattle.rounding.specs.declared.zones.Walked.{Walked}
+use Rattle.rounding.specs.declared.Rounded.{Rounded}
+use Rattle.rounding.specs.Call.{Ended}
 use Rattle.rounding.specs.Rounding.{Carry, Cut, coresIn, countsIn, flagsIn}
 use Rattle.rounding.specs.Keeping.{Stepped, keepStep, carryLeft}
 use Rattle.stepping.specs.declared.Settings.{Settings}
@@ -67,3 +71,15 @@ pub record Ready (set : Settings) (s : Shape) (xs : List Axis) (carries room blo
 -- what is held of a chain of shape t before its step: no rank, no count
 abbrev pub noneHeld : Shape → Walked
 noneHeld t = record { verdict = Fits; shape = t; ranks = replicate mostAxes 0; sweeps = replicate mostAxes 0; settled = replicate mostAxes false }
+
+-- ---- the end of a call: the steps came to w, the chain was l and scratch held v
+pub record Finished (s : Shape) (w : Walked) (l v : List Float) (r : Rounded) (l' v' : List Float) : Type 0 where
+  pub cleared : v' ≡ zeros (length v)
+  pub refused : (q : Refusal) → w .verdict ≡ Refused q → (r ≡ record { verdict = Refused q; shape = s; sweeps = replicate mostAxes 0; settled = replicate mostAxes false }) × (l' ≡ l)
+  pub made : w .verdict ≡ Fits → (r ≡ record { verdict = Fits; shape = w .shape; sweeps = w .sweeps; settled = w .settled }) × (l' ≡ fit zero64 (length l) (joined (s .d) (λ (k : ℕ). take (coreSize (w .shape) k) (slot (coreSize s) k v))))
+
+-- a call answered r and left l' and v'
+pub record Answers (e : Ended) (r : Rounded) (l' v' : List Float) : Type 0 where
+  pub result : r ≡ e .result
+  pub chain : l' ≡ e .chain
+  pub scratch : v' ≡ e .scratch
