@@ -1,7 +1,7 @@
 -- A core's numbers as the rows of a matrix: the Gram matrix and the absorbed core are products. Assumes nothing.
 use mathlib.Core.Path.{_≡_, sym, ap, _∙_}
 use Prim.Native.Nat.{ℕ, _+_, _*_, _≤_}
-use native.Mathlib.Nat.{mul-one, mul-assoc, mul-pos, le-of-eq, le-refl, mul-le-mul-right, mul-le-mul-left}
+use native.Mathlib.Nat.{mul-one, mul-assoc, mul-pos, le-of-eq, le-refl, mul-le-mul-right}
 use native.Mathlib.Omega.{arith}
 use mathlib.Core.List.{List, _++_, append-nil}
 use lib.ListN.{length, take, drop, drop-of-length-le}
@@ -14,13 +14,10 @@ use Rattle.lists.proofs.Tables.{grid-same}
 use Rattle.lists.proofs.Sums.{sum-same, sum-rows}
 use Rattle.shape.specs.Cores.{coreWith, entry}
 use Rattle.shape.proofs.Places.{entry-row, entry-line, block-lines}
-use Rattle.bond.specs.Products.{dotAt, productOf}
+use Rattle.strips.specs.Products.{dotAt, productOf}
 use Rattle.bond.specs.Bonds.{gram, absorb}
 
--- ---- sizes: the number of rows, a row and a line are at most all
-pub rows-most : (m rr l : ℕ) → l ≡ m * rr → 1 ≤ rr → m ≤ l
-rows-most m rr l e c = omega (arith, mul-le-mul-left m c)
-
+-- ---- sizes: a row and a line are at most all
 pub row-most : (rl n rr l : ℕ) → l ≡ rl * n * rr → 1 ≤ rl → 1 ≤ n → rr ≤ l
 row-most rl n rr l e a b = omega (arith, mul-le-mul-right rr (mul-pos a b))
 

@@ -12,10 +12,11 @@ use Rattle.lists.specs.Lists.{pick, listed, flat, first, count, pairs, folded}
 use Rattle.lists.specs.Walks.{along}
 use Rattle.lists.specs.Floats.{sumOn, sumTo, sumRows, allFinite, firstNotFinite, stored}
 use Rattle.shape.specs.Cores.{Core, coreWith, place, entry, block}
-use Rattle.bond.specs.Rotation.{tangentOf, slopeOf, cosineOf, turnedAt}
-use Rattle.bond.specs.Sweeps.{eye, turnColumns, turnRows, cleared, turned, skipped, rotate, sweep, offSum, settled, sweepsFrom, diagonalized}
-use Rattle.bond.specs.Values.{singularOf, singulars, rankIn, indexAt, order, sorted, thresholdOf, keptRank}
-use Rattle.bond.specs.Bonds.{gram, divided, leftFactor, carryOf, Bond, cutBond, absorb}
+use Rattle.rotation.specs.Rotation.{tangentOf, slopeOf, cosineOf, turnedAt, eye}
+use Rattle.sweeps.specs.Sweeps.{turnColumns, turnRows, cleared, turned, skipped, rotate, sweep, offSum, settled, sweepsFrom, diagonalized}
+use Rattle.values.specs.Values.{singularOf, singulars, rankIn, indexAt, order, sorted, thresholdOf, keptRank}
+use Rattle.bond.specs.Bonds.{gram, Bond, cutBond}
+use Rattle.factors.specs.Factors.{divided, leftFactor, carryOf}
 
 -- what a bond came to, each float by its bits
 pub record Seen : Type 0 where

@@ -1,11 +1,4 @@
-pub mod Counted
 pub mod Made
 pub mod Examples
-pub mod Strips
 pub mod Cores
-pub mod Turned
-pub mod Rotations
-pub mod Swept
-pub mod Ranked
-pub mod Finished
 pub mod Staged

@@ -1,31 +1,23 @@
 -- What a cut leaves: how many numbers, all finite, and a rank of at least 1 and at most the core's. Assumes nothing.
 use mathlib.Core.Path.{_≡_, refl, sym, ap, _∙_, subst}
 use Prim.Native.Nat.{ℕ, _*_, _≤_}
-use native.Mathlib.Omega.{arith}
 use mathlib.Core.Bool.{true}
-use mathlib.Core.List.{List}
 use lib.ListN.{length}
-use lib.Ieee.{Float, lt}
+use lib.Ieee.{Float}
 use Rattle.answers.specs.declared.Part.the-variants.{Spectrum, Factor}
 use Rattle.answers.specs.Outcome.{done, making}
 use Rattle.answers.proofs.Outcomes.{bind-done, done-inj}
-use Rattle.lists.specs.Floats.{at, allFinite, stored}
-use Rattle.lists.proofs.Counts.{count-most}
+use Rattle.lists.specs.Floats.{allFinite, stored}
 use Rattle.lists.proofs.Tables.{length-grid}
 use Rattle.lists.proofs.Floats.{making-stored}
 use Rattle.shape.specs.Cores.{Core, coreWith}
 use Rattle.shape.proofs.Places.{block-length}
-use Rattle.bond.specs.Sweeps.{eig, eye, diagonalized}
-use Rattle.bond.specs.Values.{singulars, order, sorted, thresholdOf, keptRank}
-use Rattle.bond.specs.Bonds.{gram, leftFactor, carryOf, Bond, cutBond}
-
-pub rank-least : (eps : Float) (n : ℕ) (ss : List Float) → 1 ≤ keptRank eps n ss
-unfolding keptRank
-rank-least eps n ss = omega arith
-
-pub rank-most : (eps : Float) (n : ℕ) (ss : List Float) → 1 ≤ n → keptRank eps n ss ≤ n
-unfolding keptRank
-rank-most eps n ss one = let m = count-most (λ (r : ℕ). lt (thresholdOf eps (at ss 0)) (at ss r)) n in omega arith
+use Rattle.sweeps.specs.Sweeps.{eig, diagonalized}
+use Rattle.rotation.specs.Rotation.{eye}
+use Rattle.values.specs.Values.{singulars, order, sorted, keptRank}
+use Rattle.values.proofs.Ranked.{rank-least, rank-most}
+use Rattle.bond.specs.Bonds.{gram, Bond, cutBond}
+use Rattle.factors.specs.Factors.{leftFactor, carryOf}
 
 -- the core c cut
 pub record CutFrom (c : Core) (b : Bond) : Type 0 where

@@ -1,9 +1,7 @@
 -- A cut stage by stage, in the form that proofs of code cite. Assumes nothing.
 use mathlib.Core.Path.{_≡_, refl, sym, ap, _∙_}
-use Prim.Native.Nat.{ℕ, _-_, _*_, _≤_}
-use native.Mathlib.Nat.{mul-comm}
-use native.Mathlib.Omega.{arith}
-use mathlib.Core.Bool.{Bool, true}
+use Prim.Native.Nat.{ℕ}
+use mathlib.Core.Bool.{Bool}
 use mathlib.Core.List.{List, _++_}
 use lib.ListN.{length, take}
 use lib.Ieee.{Float}
@@ -14,18 +12,19 @@ use Rattle.answers.specs.declared.Verdict.the-variants.{Fits, Refused}
 use Rattle.answers.specs.declared.Stage.{Stage}
 use Rattle.answers.specs.declared.Stage.the-variants.{Whole, Spilt}
 use Rattle.answers.specs.Outcome.{Made, Answer, done, refused, bind, making, staged, stageOf, answered}
-use Rattle.answers.proofs.Outcomes.{bind-done, bind-cong, done-inj}
-use Rattle.lists.specs.Floats.{allFinite, stored}
-use Rattle.lists.proofs.Floats.{stored-is}
-use Rattle.lists.proofs.Parts.{part-again, span-length}
-use Rattle.lists.proofs.Stages.{stored-staged, staged-on, staged-stop, staged-last}
+use Rattle.answers.proofs.Outcomes.{bind-cong}
+use Rattle.lists.specs.Floats.{stored}
+use Rattle.lists.proofs.Parts.{part-again}
+use Rattle.lists.proofs.Stages.{stored-staged, staged-on, staged-stop}
 use Rattle.shape.specs.Cores.{Core, coreWith}
-use Rattle.bond.specs.Sweeps.{Eig, eig, eye, Swept, swept, diagonalized}
-use Rattle.bond.specs.Values.{singulars, order, sorted, keptRank}
-use Rattle.bond.specs.Bonds.{gram, leftFactor, carryOf, Bond, cutBond}
-use Rattle.bond.specs.Stages.{Diagonal, sweptOf, diagonalOf, Factors, factorsOf, Columns}
-use Rattle.bond.proofs.Made.{rank-most}
-use Rattle.bond.proofs.Ranked.{order-lt}
+use Rattle.sweeps.specs.Sweeps.{eig, Swept, swept, diagonalized}
+use Rattle.rotation.specs.Rotation.{eye}
+use Rattle.values.specs.Values.{singulars, order, sorted, keptRank}
+use Rattle.bond.specs.Bonds.{gram, Bond, cutBond}
+use Rattle.factors.specs.Factors.{leftFactor, carryOf}
+use Rattle.bond.specs.Stages.{sweptOf, restOf}
+use Rattle.factors.specs.Rows.{Factors, factorsOf}
+use Rattle.values.specs.Chosen.{Chosen, chosenOf}
 
 -- ---- the sweeps of a core's Gram matrix
 module _ (c : Core) (g : List Float) (r : Stage) (eg : g ≡ gram c) (er : r ≡ stageOf (stored g)) where
@@ -41,104 +40,68 @@ module _ (c : Core) (g : List Float) (r : Stage) (eg : g ≡ gram c) (er : r ≡
       gram-opened ∙ staged-on r g (λ x. diagonalized (c .rr) (eig x (eye (c .rr)))) h
       ∙ ap (λ (y : List Float). diagonalized (c .rr) (eig g y)) (sym ev) ∙ d
 
--- ---- and its values
-module _ (c : Core) (r : Stage) (w : Swept) (ew : sweptOf c ≡ staged r w) where
-  swept-opened : diagonalOf c ≡ bind (staged r w) (λ x. bind (stored (singulars (c .rr) (x .eig .g))) (λ sv. done (record { swept = x; values = sv })))
-  unfolding diagonalOf
-  swept-opened = ap (λ (o : Made Swept). bind o (λ x. bind (stored (singulars (c .rr) (x .eig .g))) (λ sv. done (record { swept = x; values = sv })))) ew
-
-  pub diagonal-stop : (i : ℕ) (d : Diagonal) → r ≡ Spilt i → diagonalOf c ≡ staged (Spilt i) d
-  diagonal-stop i d h = swept-opened ∙ staged-stop r w (λ x. bind (stored (singulars (c .rr) (x .eig .g))) (λ sv. done (record { swept = x; values = sv }))) i d h
-
-  pub diagonal-end : r ≡ Whole → (sv : List Float) (t : Stage) → sv ≡ singulars (c .rr) (w .eig .g) → t ≡ stageOf (stored sv) → diagonalOf c ≡ staged t (record { swept = w; values = sv })
-  diagonal-end h sv t es et =
-      swept-opened ∙ staged-on r w (λ x. bind (stored (singulars (c .rr) (x .eig .g))) (λ y. done (record { swept = x; values = y }))) h
-      ∙ ap (λ (o : Made (List Float)). bind o (λ y. done (record { swept = w; values = y }))) (ap stored (sym es) ∙ stored-staged sv t et)
-      ∙ staged-last t sv (λ y. record { swept = w; values = y })
-
--- values that were stored are finite
-pub diagonal-finite : (c : Core) (d : Diagonal) → diagonalOf c ≡ done d → allFinite (d .values) ≡ true
-unfolding diagonalOf
-diagonal-finite c d h =
-    let A = bind-done (sweptOf c) _ d h in
-    let B = bind-done (stored (singulars (c .rr) (A .0 .eig .g))) _ d (A .2) in
-    ap (λ (x : Diagonal). allFinite (x .values)) (sym (done-inj (B .2))) ∙ stored-is (singulars (c .rr) (A .0 .eig .g)) (B .0) (B .1) .1
-
 -- ---- stages that make one part, one after another, are one stage
 module _ (part : Part) (k : ℕ) where
-  last-two : {Y Z D R : Type 0} (b : Made Y) (f : Y → Made Z) (both : Y → Z → D) (K : D → Answer R) → bind (making part k b) (λ y. bind (making part k (f y)) (λ z. K (both y z))) ≡ bind (making part k (bind b (λ y. bind (f y) (λ z. done (both y z))))) K
-  last-two {Y} {Z} {D} {R} (done y) f both K = last (f y)
-    where
-      last : (o : Made Z) → bind (making part k o) (λ z. K (both y z)) ≡ bind (making part k (bind o (λ z. done (both y z)))) K
-      last (done z) = refl
-      last (refused i) = refl
-  last-two (refused i) f both K = refl
+  two : {X Y R : Type 0} (a : Made X) (f : X → Made Y) (K : Y → Answer R) → bind (making part k a) (λ x. bind (making part k (f x)) K) ≡ bind (making part k (bind a f)) K
+  two (done x) f K = refl
+  two (refused i) f K = refl
 
-  all-three : {X Y Z D R : Type 0} (a : Made X) (e : X → Made Y) (f : Y → Made Z) (both : Y → Z → D) (K : D → Answer R)
-      → bind (making part k a) (λ x. bind (making part k (e x)) (λ y. bind (making part k (f y)) (λ z. K (both y z)))) ≡ bind (making part k (bind (bind a e) (λ y. bind (f y) (λ z. done (both y z))))) K
-  all-three (done x) e f both K = last-two (e x) f both K
-  all-three (refused i) e f both K = refl
+  both : {X Y D R : Type 0} (a : Made X) (b : Made Y) (of : X → Y → D) (K : D → Answer R) → bind (making part k a) (λ x. bind (making part k b) (λ y. K (of x y))) ≡ bind (making part k (bind a (λ x. bind b (λ y. done (of x y))))) K
+  both (done x) b of K = two b (λ y. done (of x y)) K
+  both (refused i) b of K = refl
 
 -- ---- the cut
 module _ (k : ℕ) (eps : Float) (c : Core) where
-  -- what follows the first stage, and what follows the second
-  bondOf : ℕ → Swept → Factors → Bond
-  bondOf r w f = record { core = coreWith (c .rl) (c .n) r (f .left); sweeps = w .count; settles = w .settles; carry = f .carry }
-
   abbrev pair : List Float → List Float → Factors
   pair u x = record { left = u; carry = x }
 
-  abbrev told : Swept → List Float → Diagonal
-  told w sv = record { swept = w; values = sv }
+  abbrev chosen : List Float → Chosen
+  chosen sv = let ss = sorted (c .rr) sv in record { rank = keptRank eps (c .rr) ss; order = order (c .rr) sv; values = ss }
 
-  second : Diagonal → Answer Bond
-  second d =
-      let js = order (c .rr) (d .values) in
-      let ss = sorted (c .rr) (d .values) in
-      let r = keptRank eps (c .rr) ss in
-      bind (making Factor k (factorsOf c r ss js (d .swept .eig .v))) (λ f. done (bondOf r (d .swept) f))
+  made : Swept → Chosen → Factors → Answer Bond
+  made w q f = done (record { core = coreWith (c .rl) (c .n) (q .rank) (f .left); sweeps = w .count; settles = w .settles; carry = f .carry })
 
-  cut-stages : cutBond k eps c ≡ bind (making Spectrum k (diagonalOf c)) second
-  unfolding cutBond diagonalOf sweptOf second factorsOf bondOf
+  last : Swept → Chosen → Answer Bond
+  last w q = bind (making Factor k (factorsOf c (q .rank) (q .values) (q .order) (w .eig .v))) (made w q)
+
+  cut-stages : cutBond k eps c ≡ bind (making Spectrum k (sweptOf c)) (restOf k eps c)
+  unfolding cutBond sweptOf restOf chosenOf factorsOf made last
   cut-stages =
-      bind-cong (making Spectrum k (stored (gram c))) _ _ (λ g a. bind-cong (making Spectrum k (diagonalized (c .rr) (eig g (eye (c .rr))))) _ _ (λ w b. bind-cong (making Spectrum k (stored (singulars (c .rr) (w .eig .g)))) _ _
-      (λ sv e. let js = order (c .rr) sv in
-      let ss = sorted (c .rr) sv in
-      let r = keptRank eps (c .rr) ss in
-      last-two Factor k (stored (leftFactor c r ss js (w .eig .v))) (λ u. stored (carryOf (c .rr) r ss js (w .eig .v))) (λ u x. pair u x) (λ f. done (bondOf r w f)))))
-      ∙ all-three Spectrum k (stored (gram c)) (λ g. diagonalized (c .rr) (eig g (eye (c .rr)))) (λ w. stored (singulars (c .rr) (w .eig .g))) (λ w sv. told w sv) second
+      bind-cong (making Spectrum k (stored (gram c))) _ _
+      (λ g a. bind-cong (making Spectrum k (diagonalized (c .rr) (eig g (eye (c .rr))))) _ (restOf k eps c)
+      (λ w b. bind-cong (making Spectrum k (stored (singulars (c .rr) (w .eig .g)))) _ (λ sv. last w (chosen sv))
+      (λ sv e. let q = chosen sv in both Factor k (stored (leftFactor c (q .rank) (q .values) (q .order) (w .eig .v))) (stored (carryOf (c .rr) (q .rank) (q .values) (q .order) (w .eig .v))) pair (made w q))
+      ∙ two Spectrum k (stored (singulars (c .rr) (w .eig .g))) (λ sv. done (chosen sv)) (last w)))
+      ∙ two Spectrum k (stored (gram c)) (λ g. diagonalized (c .rr) (eig g (eye (c .rr)))) (restOf k eps c)
 
-  module _ (s : Stage) (d : Diagonal) (ed : diagonalOf c ≡ staged s d) where
-    pub cut-first : (i : ℕ) (b : Bond) → s ≡ Spilt i → cutBond k eps c ≡ answered (Refused (Stored Spectrum k i)) b
+  module _ (s : Stage) (w : Swept) (ew : sweptOf c ≡ staged s w) where
+    pub cut-stop : (i : ℕ) (b : Bond) → s ≡ Spilt i → cutBond k eps c ≡ answered (Refused (Stored Spectrum k i)) b
     unfolding staged answered
-    cut-first i b h = cut-stages ∙ rw (ed, h)
+    cut-stop i b h = cut-stages ∙ rw (ew, h)
 
-    module _ (h : s ≡ Whole) (js : List ℕ) (ss : List Float) (r : ℕ) (ej : js ≡ order (c .rr) (d .values)) (es : ss ≡ sorted (c .rr) (d .values)) (er : r ≡ keptRank eps (c .rr) ss)
-        (t : Stage) (f : Factors) (ef : factorsOf c r ss js (d .swept .eig .v) ≡ staged t f) where
-      second-opened : cutBond k eps c ≡ bind (making Factor k (staged t f)) (λ x. done (bondOf r (d .swept) x))
-      unfolding staged second
-      second-opened = cut-stages ∙ rw (ed, h, ← es, ← ej, ← er, ef)
+    pub cut-on : s ≡ Whole → (o : Answer Bond) → restOf k eps c w ≡ o → cutBond k eps c ≡ o
+    unfolding staged
+    cut-on h o e = cut-stages ∙ rw (ew, h) e
 
-      pub cut-second : (i : ℕ) (b : Bond) → t ≡ Spilt i → cutBond k eps c ≡ answered (Refused (Stored Factor k i)) b
+  -- ---- what follows the sweeps
+  module _ (w : Swept) (s : Stage) (q : Chosen) (eq : chosenOf eps (c .rr) (w .eig .g) ≡ staged s q) where
+    pub rest-first : (i : ℕ) (b : Bond) → s ≡ Spilt i → restOf k eps c w ≡ answered (Refused (Stored Spectrum k i)) b
+    unfolding restOf staged answered
+    rest-first i b h = rw (eq, h)
+
+    module _ (h : s ≡ Whole) (t : Stage) (f : Factors) (ef : factorsOf c (q .rank) (q .values) (q .order) (w .eig .v) ≡ staged t f) where
+      opened : restOf k eps c w ≡ bind (making Factor k (staged t f)) (made w q)
+      unfolding restOf staged made
+      opened = rw (eq, h, ef)
+
+      pub rest-second : (i : ℕ) (b : Bond) → t ≡ Spilt i → restOf k eps c w ≡ answered (Refused (Stored Factor k i)) b
       unfolding staged answered
-      cut-second i b e = second-opened ∙ rw e
+      rest-second i b e = opened ∙ rw e
 
-      pub cut-whole : t ≡ Whole → cutBond k eps c ≡ answered Fits (record { core = coreWith (c .rl) (c .n) r (f .left); sweeps = d .swept .count; settles = d .swept .settles; carry = f .carry })
-      unfolding staged answered bondOf
-      cut-whole e = second-opened ∙ rw e
+      pub rest-whole : t ≡ Whole → restOf k eps c w ≡ answered Fits (record { core = coreWith (c .rl) (c .n) (q .rank) (f .left); sweeps = w .count; settles = w .settles; carry = f .carry })
+      unfolding staged answered made
+      rest-whole e = opened ∙ rw e
 
--- the carry stands at the front of the slice of which a part was lent
-pub factor-front : (T : Made Factors) (s : Stage) (left q rest carry : List Float) (r rr : ℕ) → T ≡ staged s (record { left = left; carry = q }) → length q ≡ length (take (rr * r - 0) carry) → rr * r ≤ length carry → T ≡ staged s (record { left = left; carry = take (r * rr) (q ++ rest) })
-factor-front T s left q rest carry r rr e l b =
-    e ∙ ap (λ (x : List Float). staged s (record { left = left; carry = x })) (sym (part-again (r * rr) q rest (l ∙ span-length (rr * r) carry b ∙ mul-comm rr r)))
-
--- ---- what the second stage may ask of the first
-pub values-finite : (c : Core) (s : Stage) (d : Diagonal) → diagonalOf c ≡ staged s d → s ≡ Whole → allFinite (d .values) ≡ true
-unfolding staged
-values-finite c s d e h = diagonal-finite c d (e ∙ rw h)
-
-pub rank-within : (eps : Float) (n r : ℕ) (ss : List Float) → r ≡ keptRank eps n ss → 1 ≤ n → r ≤ n
-rank-within eps n r ss e h = let m = rank-most eps n ss h in omega arith
-
-pub kept-columns : (n : ℕ) (sv : List Float) → length sv ≡ n → allFinite sv ≡ true → (js : List ℕ) → js ≡ order n sv → (r : ℕ) → r ≤ n → Columns n js r
-kept-columns n sv long fine js e r h j l = order-lt n sv long fine js e j (omega arith)
+-- the matrices stand at the front of slices of which parts were lent
+pub swept-front : (T : Made Swept) (m : ℕ) (s : Stage) (k : ℕ) (b : Bool) (g g′ v v′ : List Float) → T ≡ staged s (swept k b (eig g v)) → length g ≡ m → length v ≡ m → T ≡ staged s (swept k b (eig (take m (g ++ g′)) (take m (v ++ v′))))
+swept-front T m s k b g g′ v v′ e l n = e ∙ rw (part-again m g g′ l, part-again m v v′ n)

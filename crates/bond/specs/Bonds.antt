@@ -1,35 +1,22 @@
--- One bond: the Gram matrix of its left core, the cut, the left factor, the carry, and the carry absorbed (000: `tt_round`). Definitions only.
-use Prim.Native.Nat.{ℕ, _+_, _*_}
+-- One bond: the Gram matrix of its left core, the cut, and a carry absorbed (000: `tt_round`). Definitions only.
+use Prim.Native.Nat.{ℕ}
 use mathlib.Core.Bool.{Bool}
 use mathlib.Core.List.{List}
-use lib.ListN.{getD}
-use lib.Ieee.{Float, lt}
-use Rattle.numbers.specs.Arithmetic.{times, over, zero64, tiny64}
+use lib.Ieee.{Float}
+use Rattle.numbers.specs.Arithmetic.{times}
 use Rattle.answers.specs.declared.Part.the-variants.{Spectrum, Factor}
 use Rattle.answers.specs.Outcome.{Answer, done, bind, making}
-use Rattle.lists.specs.Lists.{pick, grid}
-use Rattle.lists.specs.Floats.{at, cell, sumTo, sumRows, stored}
+use Rattle.lists.specs.Lists.{grid}
+use Rattle.lists.specs.Floats.{cell, sumTo, sumRows, stored}
 use Rattle.shape.specs.Cores.{Core, coreWith, entry, block}
-use Rattle.bond.specs.Sweeps.{eig, eye, diagonalized}
-use Rattle.bond.specs.Values.{singulars, order, sorted, keptRank}
+use Rattle.factors.specs.Factors.{leftFactor, carryOf}
+use Rattle.sweeps.specs.Sweeps.{eig, diagonalized}
+use Rattle.rotation.specs.Rotation.{eye}
+use Rattle.values.specs.Values.{singulars, order, sorted, keptRank}
 
 -- entry (i, j) is the sum over the rows (il, im), ascending
 unfoldable pub gram : Core → List Float
 gram c = grid (c .rr) (c .rr) (λ (i j : ℕ). sumRows (c .rl) (c .n) (λ (il im : ℕ). times (entry c il im i) (entry c il im j)))
-
--- a column is divided by its value where that is above 1e-30
-unfoldable pub divided : Float → Bool
-divided value = lt tiny64 value
-
--- (row times basis column) / value, or 0; r columns, column j the basis' at `js` j
-unfoldable pub leftFactor : Core → ℕ → List Float → List ℕ → List Float → List Float
-leftFactor c r ss js v =
-    block (c .rl) (c .n) r (λ (il im j : ℕ).
-    pick (divided (at ss j)) (over (sumTo (c .rr) (λ (k : ℕ). times (entry c il im k) (cell (c .rr) v k (getD js j 0)))) (at ss j)) zero64)
-
--- value times basis column: r rows of n
-unfoldable pub carryOf : ℕ → ℕ → List Float → List ℕ → List Float → List Float
-carryOf n r ss js v = grid r n (λ (i j : ℕ). times (at ss i) (cell n v j (getD js i 0)))
 
 -- what a bond makes of its left core
 pub record Bond : Type 0 where

@@ -1,32 +1,24 @@
 // One bond of a chain: its left core cut to a left factor and a carry, and a carry absorbed.
 ghost use mathlib.Core.Path.{_≡_};
-ghost use mathlib.Core.Bool.{true, false};
+ghost use mathlib.Core.Bool.{false};
 ghost use mathlib.Core.List.{_++_};
 ghost use Prim.Native.Nat.{_*_, _≤_};
 ghost use lib.ListN.{length, take, drop};
 ghost use Rattle.answers.specs.declared.Refusal.the-variants.{Stored};
 ghost use Rattle.answers.specs.declared.Verdict.the-variants.{Fits, Refused};
 ghost use Rattle.answers.specs.Outcome.{staged, answered};
-ghost use Rattle.lists.specs.Floats.{allFinite};
 ghost use Rattle.shape.specs.Limits.{mostRank};
 ghost use Rattle.shape.specs.Cores.{coreWith};
-ghost use Rattle.bond.specs.Sweeps.{eig, swept};
-ghost use Rattle.bond.specs.Values.{order, sorted};
+ghost use Rattle.sweeps.specs.Sweeps.{eig, swept};
 ghost use Rattle.bond.specs.Bonds.{gram, cutBond, absorb};
-ghost use Rattle.bond.specs.Stages.{sweptOf, diagonalOf, factorsOf, Columns};
-
-pub mod factors;
-pub mod products;
-pub mod rotation;
-pub mod sweeps;
-pub mod values;
+ghost use Rattle.bond.specs.Stages.{sweptOf, restOf};
 
 // The Gram matrix of a core's rows.
 pub fn gram(core: &[f64], rl: usize, n: usize, rr: usize, g: &mut [f64])
     requires { ⌜ (length (now core) ≡ rl * n * rr) × (1 ≤ rl) × (1 ≤ n) × (1 ≤ rr) × (length (now g) ≡ rr * rr) ⌝ }
     ensures { λ _. ⌜ now (g .exit) ≡ gram (coreWith rl n rr (now (core .entry))) ⌝ }
 {
-    products::product(core, 1, rr, core, rr, rl * n, rr, g);
+    strips::product(core, 1, rr, core, rr, rl * n, rr, g);
 }
 
 // The Gram matrix made diagonal, with its basis.
@@ -46,73 +38,24 @@ fn swept_gram(
     if let answers::Stage::Spilt(i) = made {
         return sweeps::sweeps_are(answers::Stage::Spilt(i), 0, false);
     }
-    sweeps::eye(v, rr);
+    rotation::eye(v, rr);
     sweeps::diagonalize(g, v, rr)
 }
 
-// And its values.
-fn diagonal(
+// The same at the front of g and v.
+fn swept_within(
     core: &[f64],
     rl: usize,
     n: usize,
     rr: usize,
     g: &mut [f64],
     v: &mut [f64],
-    sv: &mut [f64],
 ) -> sweeps::Sweeps
-    requires { ⌜ (length (now core) ≡ rl * n * rr) × (1 ≤ rl) × (1 ≤ n) × (1 ≤ rr) × (length (now g) ≡ rr * rr) × (length (now v) ≡ rr * rr) × (length (now sv) ≡ rr) ⌝ }
-    ensures { λ r. ⌜ diagonalOf (coreWith rl n rr (now (core .entry))) ≡ staged (r .stage) (record { swept = swept (r .count) (r .settles) (eig (now (g .exit)) (now (v .exit))); values = now (sv .exit) }) ⌝ }
+    requires { ⌜ (length (now core) ≡ rl * n * rr) × (1 ≤ rl) × (1 ≤ n) × (1 ≤ rr) × (rr * rr ≤ length (now g)) × (rr * rr ≤ length (now v)) ⌝ }
+    ensures { λ r. ⌜ sweptOf (coreWith rl n rr (now (core .entry))) ≡ staged (r .stage) (swept (r .count) (r .settles) (eig (take (rr * rr) (now (g .exit))) (take (rr * rr) (now (v .exit))))) ⌝ }
 {
-    let s = swept_gram(core, rl, n, rr, g, v);
-    let stage = s.stage;
-    if let answers::Stage::Spilt(i) = stage {
-        return sweeps::sweeps_are(answers::Stage::Spilt(i), 0, false);
-    }
-    values::singular_values(g, rr, sv);
-    let kept = lists::stored(sv);
-    sweeps::sweeps_are(kept, s.count, s.settles)
-}
-
-// The values' order, and the values in it.
-fn arrange(sv: &[f64], n: usize, js: &mut [usize], ss: &mut [f64])
-    requires { ⌜ (length (now sv) ≡ n) × (length (now js) ≡ n) × (length (now ss) ≡ n) × (allFinite (now sv) ≡ true) ⌝ }
-    ensures { λ _. ⌜ (now (js .exit) ≡ order n (now (sv .entry))) × (now (ss .exit) ≡ sorted n (now (sv .entry))) ⌝ }
-{
-    values::order(sv, n, js);
-    values::sorted(sv, n, js, ss);
-}
-
-// The left factor and the carry, each at the front of its slice; g has room for the basis' columns.
-fn factor(
-    core: &mut [f64],
-    rl: usize,
-    n: usize,
-    rr: usize,
-    v: &[f64],
-    js: &[usize],
-    ss: &[f64],
-    r: usize,
-    g: &mut [f64],
-    carry: &mut [f64],
-    room: &mut [f64],
-) -> answers::Stage
-    requires { ⌜ (length (now core) ≡ rl * n * rr) × (1 ≤ rr) × (length (now v) ≡ rr * rr) × (r ≤ length (now js)) × Columns rr (now js) r × (r ≤ length (now ss)) × (r ≤ rr) × (length (now g) ≡ rr * rr) × (rr * rr ≤ length (now carry)) × (length (now core) ≤ length (now room)) ⌝ }
-    ensures { λ s. ⌜ factorsOf (coreWith rl n rr (now (core .entry))) r (now (ss .entry)) (now (js .entry)) (now (v .entry)) ≡ staged s (record { left = take (rl * n * r) (now (core .exit)); carry = take (r * rr) (now (carry .exit)) }) ⌝ }
-{
-    let e = rr * r;
-    factors::left_and_carry(
-        core,
-        rl,
-        n,
-        rr,
-        v,
-        js,
-        ss,
-        r,
-        &mut g[0..e],
-        &mut carry[0..e],
-        room,
-    )
+    let e = rr * rr;
+    swept_gram(core, rl, n, rr, &mut g[0..e], &mut v[0..e])
 }
 
 // What a cut came to: where it fits, the rank kept, the sweeps made, and whether the sum was small at their end.
@@ -145,7 +88,40 @@ fn cut_made(rank: usize, sweeps: usize, settles: bool) -> BondCut
     }
 }
 
-// The cut, with all the room it needs: g and v for matrices, sv and ss for values, js for their order.
+// What follows the sweeps: the values, and the left factor and the carry of those that are kept. g is room for the basis' columns.
+fn finish(
+    core: &mut [f64],
+    k: usize,
+    rl: usize,
+    n: usize,
+    rr: usize,
+    eps: f64,
+    count: usize,
+    settles: bool,
+    v: &[f64],
+    g: &mut [f64],
+    carry: &mut [f64],
+    room: &mut [f64],
+) -> BondCut
+    requires { ⌜ (length (now core) ≡ rl * n * rr) × (1 ≤ rr) × (rr ≤ mostRank) × (rr * rr ≤ length (now v)) × (rr * rr ≤ length (now g)) × (rr * rr ≤ length (now carry)) × (length (now core) ≤ length (now room)) ⌝ }
+    ensures { λ r. ⌜ restOf k eps (coreWith rl n rr (now (core .entry))) (swept count settles (eig (take (rr * rr) (now (g .entry))) (take (rr * rr) (now (v .entry))))) ≡ answered (r .verdict) (record { core = coreWith rl n (r .rank) (take (rl * n * r .rank) (now (core .exit))); sweeps = r .sweeps; settles = r .settles; carry = take (r .rank * rr) (now (carry .exit)) }) ⌝ }
+{
+    let mut ss = [0.0; shape::MOST_RANK];
+    let mut js = [0; shape::MOST_RANK];
+    let kept = values::keep(g, rr, eps, &mut ss, &mut js);
+    let stage = kept.stage;
+    if let answers::Stage::Spilt(i) = stage {
+        return cut_refused(answers::Part::Spectrum, k, i);
+    }
+    let r = kept.rank;
+    let made = factors::factor(core, rl, n, rr, v, &js, &ss, r, g, carry, room);
+    if let answers::Stage::Spilt(i) = made {
+        return cut_refused(answers::Part::Factor, k, i);
+    }
+    cut_made(r, count, settles)
+}
+
+// The cut, with room for two matrices.
 fn cut(
     core: &mut [f64],
     k: usize,
@@ -157,61 +133,28 @@ fn cut(
     room: &mut [f64],
     g: &mut [f64],
     v: &mut [f64],
-    sv: &mut [f64],
-    ss: &mut [f64],
-    js: &mut [usize],
 ) -> BondCut
-    requires { ⌜ (length (now core) ≡ rl * n * rr) × (1 ≤ rl) × (1 ≤ n) × (1 ≤ rr) × (length (now g) ≡ rr * rr) × (length (now v) ≡ rr * rr) × (length (now sv) ≡ rr) × (length (now ss) ≡ rr) × (length (now js) ≡ rr) × (rr * rr ≤ length (now carry)) × (length (now core) ≤ length (now room)) ⌝ }
+    requires { ⌜ (length (now core) ≡ rl * n * rr) × (1 ≤ rl) × (1 ≤ n) × (1 ≤ rr) × (rr ≤ mostRank) × (rr * rr ≤ length (now g)) × (rr * rr ≤ length (now v)) × (rr * rr ≤ length (now carry)) × (length (now core) ≤ length (now room)) ⌝ }
     ensures { λ r. ⌜ cutBond k eps (coreWith rl n rr (now (core .entry))) ≡ answered (r .verdict) (record { core = coreWith rl n (r .rank) (take (rl * n * r .rank) (now (core .exit))); sweeps = r .sweeps; settles = r .settles; carry = take (r .rank * rr) (now (carry .exit)) }) ⌝ }
 {
-    let d = diagonal(core, rl, n, rr, g, v, sv);
-    let stage = d.stage;
+    let s = swept_within(core, rl, n, rr, g, v);
+    let stage = s.stage;
     if let answers::Stage::Spilt(i) = stage {
         return cut_refused(answers::Part::Spectrum, k, i);
     }
-    arrange(sv, rr, js, ss);
-    let r = values::kept_rank(eps, rr, ss);
-    let made = factor(core, rl, n, rr, v, js, ss, r, g, carry, room);
-    if let answers::Stage::Spilt(i) = made {
-        return cut_refused(answers::Part::Factor, k, i);
-    }
-    cut_made(r, d.count, d.settles)
-}
-
-// The room in parts of just the size.
-fn cut_within(
-    core: &mut [f64],
-    k: usize,
-    rl: usize,
-    n: usize,
-    rr: usize,
-    eps: f64,
-    carry: &mut [f64],
-    room: &mut [f64],
-    g: &mut [f64],
-    v: &mut [f64],
-    sv: &mut [f64],
-    ss: &mut [f64],
-    js: &mut [usize],
-) -> BondCut
-    requires { ⌜ (length (now core) ≡ rl * n * rr) × (1 ≤ rl) × (1 ≤ n) × (1 ≤ rr) × (rr * rr ≤ length (now g)) × (rr * rr ≤ length (now v)) × (rr ≤ length (now sv)) × (rr ≤ length (now ss)) × (rr ≤ length (now js)) × (rr * rr ≤ length (now carry)) × (length (now core) ≤ length (now room)) ⌝ }
-    ensures { λ r. ⌜ cutBond k eps (coreWith rl n rr (now (core .entry))) ≡ answered (r .verdict) (record { core = coreWith rl n (r .rank) (take (rl * n * r .rank) (now (core .exit))); sweeps = r .sweeps; settles = r .settles; carry = take (r .rank * rr) (now (carry .exit)) }) ⌝ }
-{
-    let e = rr * rr;
-    cut(
+    finish(
         core,
         k,
         rl,
         n,
         rr,
         eps,
+        s.count,
+        s.settles,
+        v,
+        g,
         carry,
         room,
-        &mut g[0..e],
-        &mut v[0..e],
-        &mut sv[0..rr],
-        &mut ss[0..rr],
-        &mut js[0..rr],
     )
 }
 
@@ -232,24 +175,7 @@ pub fn cut_bond(
 {
     let mut g = [0.0; shape::MOST_RANK * shape::MOST_RANK];
     let mut v = [0.0; shape::MOST_RANK * shape::MOST_RANK];
-    let mut sv = [0.0; shape::MOST_RANK];
-    let mut ss = [0.0; shape::MOST_RANK];
-    let mut js = [0; shape::MOST_RANK];
-    cut_within(
-        core,
-        k,
-        rl,
-        n,
-        rr,
-        eps,
-        carry,
-        room,
-        &mut g,
-        &mut v,
-        &mut sv,
-        &mut ss,
-        &mut js,
-    )
+    cut(core, k, rl, n, rr, eps, carry, room, &mut g, &mut v)
 }
 
 // A carry of r rows taken into a core from the left, at the front of out.
@@ -265,5 +191,5 @@ pub fn absorb(
     requires { ⌜ (length (now core) ≡ rl * n * rr) × (1 ≤ rl) × (r * rl ≤ length (now carry)) × (r * n * rr ≤ length (now out)) ⌝ }
     ensures { λ _. ⌜ now (out .exit) ≡ absorb r (take (r * rl) (now (carry .entry))) (coreWith rl n rr (now (core .entry))) ++ drop (r * n * rr) (now (out .entry)) ⌝ }
 {
-    products::product(carry, rl, 1, core, n * rr, rl, r, out);
+    strips::product(carry, rl, 1, core, n * rr, rl, r, out);
 }

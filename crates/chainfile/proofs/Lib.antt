@@ -1,13 +1,7 @@
--- parts of a list, slots, turns that check, shapes
-pub mod Cuts
-pub mod Slots
-pub mod Turning
-pub mod Shapes
--- numbers in bytes, the file field by field, what writing and reading accept
-pub mod Bytes
-pub mod Fields
-pub mod Writers
-pub mod Readers
--- the theorems, and worked examples
-pub mod Theorems
-pub mod Examples
+-- header and table
+pub mod Headers
+pub mod Tables
+-- the numbers, and the two calls
+pub mod Bodies
+pub mod Accepts
+pub mod Makes

@@ -29,6 +29,7 @@ use Rattle.rounding.specs.declared.Rounded.{Rounded}
 use Rattle.rounding.specs.declared.zones.Walked.{Walked}
 use Rattle.rounding.specs.Rounding.{Carry, Cut}
 use Rattle.rounding.specs.Call.{notBelowZero, Ended, endedBy}
+use Rattle.rounding.proofs.Ends.{inside-entries}
 use Rattle.stepping.specs.declared.Settings.{Settings}
 use Rattle.stepping.specs.Steps.{step, stepsAndOne}
 use Rattle.stepping.specs.Call.{mostSteps, settingsFor}
@@ -36,7 +37,7 @@ use Rattle.stepping.specs.Over.{settingsOk, overOk, stepOver, evolveOver}
 use Rattle.evolving.specs.Held.{Came, Placed, Finished, Answers}
 use Rattle.evolving.proofs.Asked.{not-fits}
 use Rattle.evolving.proofs.Late.{late-steps}
-use Rattle.evolving.proofs.Ends.{taken-over, inside-entries, finished-is, over-stops, over-goes, over-passed}
+use Rattle.evolving.proofs.Ends.{taken-over, finished-is, over-stops, over-goes, over-passed}
 
 -- ---- the steps over the chain in scratch
 pub placed-own : (s : Shape) (l x r : List Float) → chainOk s ≡ done tt → x ≡ l → length l ≡ entriesOf s → length (s .left) ≡ mostAxes → length (s .right) ≡ mostAxes → Placed s s (x ++ r)

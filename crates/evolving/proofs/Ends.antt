@@ -1,9 +1,8 @@
 -- A call by its parts: the checks, the chain taken into scratch, the steps, and the end. Assumes nothing.
 use mathlib.Core.Path.{_≡_, refl, sym, ap, _∙_, subst}
-use Prim.Native.Nat.{ℕ, zero, suc, _+_, _-_, _*_, _≤_, _<_}
-use native.Mathlib.Nat.{sub-zero}
+use Prim.Native.Nat.{ℕ, zero, suc, _≤_, _<_}
 use native.Mathlib.Omega.{arith}
-use mathlib.Core.Bool.{Bool, true, false, _&&_}
+use mathlib.Core.Bool.{Bool, true, false}
 use mathlib.Core.List.{List, _++_, map}
 use lib.Dec.{eqb}
 use lib.ListN.{length, take, drop, replicate}
@@ -11,12 +10,11 @@ use lib.Seq.{take-at, take-take, take-length}
 use lib.Ieee.{Float}
 use Rattle.numbers.specs.Arithmetic.{zero64}
 use Rattle.answers.specs.declared.Refusal.{Refusal}
-use Rattle.answers.specs.declared.Refusal.the-variants.{Axes, Size, Bond, Length, Number, Setting, Reach}
+use Rattle.answers.specs.declared.Refusal.the-variants.{Length, Number, Setting, Reach}
 use Rattle.answers.specs.declared.Verdict.{Verdict}
 use Rattle.answers.specs.declared.Verdict.the-variants.{Fits, Refused}
 use Rattle.answers.specs.Outcome.{Answer, done, refused, bind, Check, _then_, demand, demandEach, verdictOf}
 use Rattle.answers.specs.Table.{beforeWork}
-use Rattle.answers.proofs.Outcomes.{done-refused, refused-inj, fits-done}
 use Rattle.answers.proofs.Checks.{demand-is, then-is, each-is, verdict-passed, verdict-refused}
 use Rattle.lists.specs.Lists.{tab, joined, flat, pick}
 use Rattle.lists.specs.Slots.{offset, slot, fit}
@@ -27,15 +25,15 @@ use Rattle.lists.proofs.Asked.{lengths-say}
 use Rattle.lists.proofs.Picks.{pick-true, pick-false}
 use Rattle.shape.specs.declared.Shape.{Shape}
 use Rattle.shape.specs.Limits.{mostAxes, scratchFor}
-use Rattle.shape.specs.Shapes.{leftOf, pointsOf, rightOf, chainOk, shapeOk, coreSize, entriesOf}
-use Rattle.shape.specs.Sizes.{Inside}
+use Rattle.shape.specs.Shapes.{leftOf, pointsOf, rightOf, chainOk, coreSize, entriesOf}
 use Rattle.shape.specs.Cores.{Core, coreWith, coreAt, coresOf, standing, reshaped}
-use Rattle.shape.proofs.Insides.{inside-size}
 use Rattle.axes.specs.declared.Axis.{Axis}
 use Rattle.rounding.specs.declared.Rounded.{Rounded}
 use Rattle.rounding.specs.declared.zones.Walked.{Walked}
 use Rattle.rounding.specs.Rounding.{Carry, Cut, coresIn, countsIn}
 use Rattle.rounding.specs.Call.{lengthsOk, Ended, scratchAfter, endedBy}
+use Rattle.rounding.proofs.Early.{Early, early-demand, early-then, early-each, early-shape}
+use Rattle.rounding.proofs.Ends.{early-lengths}
 use Rattle.stepping.specs.declared.Settings.{Settings}
 use Rattle.stepping.specs.Over.{axisReaches, zonesFinite, settingsOk, overOk}
 use Rattle.evolving.specs.Held.{Came, Late, Finished, Answers}
@@ -60,14 +58,6 @@ taken-over s l x r e n =
     take-all l m n = ap (λ (i : ℕ). take i l) (sym n) ∙ take-length l
 
 -- ---- the end
-pub inside-entries : (s t : Shape) → Inside s t → entriesOf t ≤ entriesOf s
-unfolding offset
-inside-entries s t I = omega (arith, ap (offset (coreSize t)) (I .axes), upto (s .d) (omega arith))
-  where
-    upto : (k : ℕ) → k ≤ s .d → offset (coreSize t) k ≤ offset (coreSize s) k
-    upto zero l = omega arith
-    upto (suc k) l = omega (arith, upto k (omega arith), inside-size s t I k l)
-
 -- the steps came to w and left u in scratch, which was x
 module _ (s : Shape) (w : Walked) (l u x : List Float) (r : Rounded) (l' v' : List Float) (F : Finished s w l u r l' v') (n : length u ≡ length x) where
   cleared : v' ≡ zeros (length x)
@@ -96,40 +86,16 @@ module _ (s : Shape) (w : Walked) (l u x : List Float) (r : Rounded) (l' v' : Li
       unpicked b e = pick-false x (zeros (length x)) (zeros (length x)) b e refl
 
 -- ---- the checks refuse before any work
-abbrev Early : Check → Type 0
-Early c = (q : Refusal) → c ≡ refused q → beforeWork q ≡ true
-
-early-demand : (b : Bool) (r : Refusal) → beforeWork r ≡ true → Early (demand b r)
-unfolding demand
-early-demand true r h q e = absurd (done-refused e)
-early-demand false r h q e = ap beforeWork (sym (refused-inj e)) ∙ h
-
-early-then : (c d : Check) → Early c → Early d → Early (c then d)
-early-then (done tt) d g h q e = h q e
-early-then (refused r) d g h q e = g q e
-
-early-each : (r : ℕ → Refusal) (p : ℕ → Bool) (m k : ℕ) → ((j : ℕ) → beforeWork (r j) ≡ true) → Early (demandEach r p m k)
-unfolding demandEach
-early-each r p zero k h q e = absurd (done-refused e)
-early-each r p (suc m) k h q e = early-then (demand (p k) (r k)) (demandEach r p m (suc k)) (early-demand (p k) (r k) (h k)) (early-each r p m (suc k) h) q e
-
-early-shape : (s : Shape) → Early (chainOk s)
-unfolding shapeOk
-early-shape s =
-    early-then (demand _ Axes) _ (early-demand _ Axes refl)
-    (early-then (demandEach Size _ (s .d) 0) _ (early-each Size _ (s .d) 0 (λ j. refl))
-    (early-then (demand _ (Bond 0)) _ (early-demand _ (Bond 0) refl) (early-each Bond _ (s .d) 0 (λ j. refl))))
-
 module _ (lone mild : Bool) (t : Settings) (s : Shape) (count : ℕ) (xs : List Axis) (l : List Float) (scratch : ℕ) where
   abbrev ok : Check
   ok = overOk lone mild t s count xs l scratch
 
   early-over : Early ok
-  unfolding overOk lengthsOk zonesFinite settingsOk
+  unfolding overOk zonesFinite settingsOk
   early-over =
-      early-then (chainOk s) _ (early-shape s)
+      early-then (chainOk s) _ (early-shape s (λ (k : ℕ). true))
       (early-then (demand (eqb count (s .d)) (Length 0)) _ (early-demand (eqb count (s .d)) (Length 0) refl)
-      (early-then (lengthsOk s 1 (length l) 2 scratch) _ (early-then (demand _ (Length 1)) (demand _ (Length 2)) (early-demand _ (Length 1) refl) (early-demand _ (Length 2) refl))
+      (early-then (lengthsOk s 1 (length l) 2 scratch) _ (early-lengths s 1 (length l) 2 scratch)
       (early-then (demand lone (Number 0)) _ (early-demand lone (Number 0) refl)
       (early-then (zonesFinite s xs l) _ (early-each Number _ (s .d) 0 (λ j. refl))
       (early-then (demand mild (Setting 0)) _ (early-demand mild (Setting 0) refl)
@@ -143,7 +109,7 @@ module _ (lone mild : Bool) (t : Settings) (s : Shape) (count : ℕ) (xs : List 
         let c = verdict-refused ok v q e h in
         let g : ok then T ≡ refused q = ap (λ (y : Check). y then T) c in
         subst (λ (y : Answer (List (Carry × Cut))). Answers (endedBy s l x y) r l x) (sym g)
-        (record { result = f; chain = refl; scratch = pick-true x (zeros (length x)) x (beforeWork q) (early-over q c) refl })
+        (record { result = f; chain = refl; scratch = pick-true x (zeros (length x)) x (beforeWork q) (early-over .first q c) refl })
 
     pub over-goes : v ≡ Fits → (r : Rounded) (l' v' : List Float) → Answers (endedBy s l x T) r l' v' → Answers (endedBy s l x (ok then T)) r l' v'
     over-goes h r l' v' A = subst (λ (c : Check). Answers (endedBy s l x (c then T)) r l' v') (sym (verdict-passed ok v e h)) A

@@ -14,15 +14,17 @@ use Rattle.shape.specs.Cores.{place, entry, block, coreAt, coresOf, pointsAt, r
 use Rattle.shape.specs.Shapes.{sizeOk, bondOk, shapeOk, coreSize, pointSize}
 use Rattle.axes.specs.Axes.{axisFinite, axisOk}
 use Rattle.shift.specs.Shifts.{distance, spacing, shiftOf, shifted, scaled}
-use Rattle.shift.specs.Weights.{cubicBandWeights, bandOn, shiftedAt}
-use Rattle.bond.specs.Bonds.{gram, divided, leftFactor, carryOf, cutBond, absorb}
-use Rattle.bond.specs.Rotation.{tangentOf, slopeOf, cosineOf, turnedAt}
-use Rattle.bond.specs.Sweeps.{eye, turnColumns, turnRows, cleared, turned, skipped, rotate, sweep, offSum, settled, sweepsFrom, diagonalized}
-use Rattle.bond.specs.Values.{singularOf, singulars, rankIn, indexAt, order, sorted, thresholdOf, keptRank}
+use Rattle.bands.specs.Weights.{cubicBandWeights, bandOn, shiftedAt}
+use Rattle.bond.specs.Bonds.{gram, cutBond, absorb}
+use Rattle.factors.specs.Factors.{divided, leftFactor, carryOf}
+use Rattle.rotation.specs.Rotation.{tangentOf, slopeOf, cosineOf, turnedAt, eye}
+use Rattle.sweeps.specs.Sweeps.{turnColumns, turnRows, cleared, turned, skipped, rotate, sweep, offSum, settled, sweepsFrom, diagonalized}
+use Rattle.values.specs.Values.{singularOf, singulars, rankIn, indexAt, order, sorted, thresholdOf, keptRank}
 use Rattle.rounding.specs.Call.{lengthsOk, coreFinite, notBelowZero, roundFinite, roundOk, scratchAfter, endedBy, roundCall}
 use Rattle.rounding.specs.Rounding.{roundCore, rounding}
 use Rattle.product.specs.Call.{innerLent, innerFinite, innerOk, weighed, innerCall}
-use Rattle.product.specs.Product.{contract, contractAt, sumAxis, sums, inner}
+use Rattle.contraction.specs.Contract.{contract}
+use Rattle.product.specs.Product.{contractAt, sumAxis, sums, inner}
 use Rattle.stepping.specs.Call.{reachesAt, stepOk, stepCall}
 use Rattle.stepping.specs.Steps.{shiftZone, scaleZone, roundZone, stepFrom, step}
 use Rattle.stepping.specs.Zones.{zonesOf, rules}

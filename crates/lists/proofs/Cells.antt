@@ -70,3 +70,27 @@ pub exact-end : (k m n l : ℕ) → l ≡ m * n → k < m → k * n + n ≤ l
 exact-end k m n l e p = row-end k m n l p (le-of-eq (sym e))
 
 pub ruleset exacts = (exact-lt, exact-fits, exact-scaled, exact-row, exact-end)
+
+-- ---- number k of c that start at p, q apart
+module _ (k c q p l : ℕ) (h : k < c) (r : p + c * q < l + q) where
+  pub stride-lt : k * q + p < l
+  stride-lt = omega (arith, mul-le-mul-right q h, suc-mul k q)
+
+  pub stride-row : l < 2 ^ 64 → Fits w64 (k * q)
+  stride-row s = record { fits = omega (arith, stride-lt) }
+
+  pub stride-fits : l < 2 ^ 64 → Fits w64 (k * q + p)
+  stride-fits s = record { fits = omega (arith, stride-lt) }
+
+  pub stride-scaled : l * 8 < 2 ^ 63 → Fits w64 ((k * q + p) * 8)
+  stride-scaled s = record { fits = omega (arith, stride-lt) }
+
+-- columns j to j + h of row k of c
+module _ (k c w j h l : ℕ) (r : k < c) (g : j + h ≤ w) (s : c * w ≤ l) where
+  pub columns-end : k * w + j + h ≤ l
+  columns-end = omega (arith, mul-le-mul-right w r, suc-mul k w)
+
+  pub columns-fits : l < 2 ^ 64 → Fits w64 (k * w + j)
+  columns-fits t = record { fits = omega (arith, columns-end) }
+
+pub ruleset strides = (stride-lt, stride-row, stride-fits, stride-scaled, columns-end, columns-fits)

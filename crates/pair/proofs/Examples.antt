@@ -18,9 +18,8 @@ use Rattle.lists.specs.Slots.{fit}
 use Rattle.lists.specs.Walks.{along}
 use Rattle.lists.specs.Floats.{zeros, sumOn, sumTo, allFinite, firstNotFinite, stored}
 use Rattle.shape.specs.Cores.{Core, coreWith, place, entry, block}
-use Rattle.bond.specs.Rotation.{tangentOf, slopeOf, cosineOf, turnedAt}
-use Rattle.bond.specs.Sweeps.{eye}
-use Rattle.bond.specs.Values.{rankIn, indexAt, order, sorted, thresholdOf, keptRank}
+use Rattle.rotation.specs.Rotation.{tangentOf, slopeOf, cosineOf, turnedAt, eye}
+use Rattle.values.specs.Values.{rankIn, indexAt, order, sorted, thresholdOf, keptRank}
 use Rattle.rounding.specs.Call.{notBelowZero, scratchAfter}
 use Rattle.pair.specs.Slabs.{plusProduct, slabEntry, slab}
 use Rattle.pair.specs.Passes.{turnStored, turned, dot, tolerance64, skipped, rotate, pass, passesFrom, orthogonalized, start}

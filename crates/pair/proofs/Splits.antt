@@ -17,7 +17,7 @@ use Rattle.lists.proofs.Floats.{stored-is}
 use Rattle.lists.proofs.Tests.{leb-is}
 use Rattle.shape.specs.Limits.{mostRank}
 use Rattle.shape.specs.Cores.{Core, coreWith}
-use Rattle.bond.specs.Values.{order, sorted, thresholdOf, keptRank}
+use Rattle.values.specs.Values.{order, sorted, thresholdOf, keptRank}
 use Rattle.pair.specs.Slabs.{slab}
 use Rattle.pair.specs.Passes.{Passes, mostPasses, orthogonalized, start}
 use Rattle.pair.specs.Splits.{values, leftNumbers, rightNumbers, Halves, formed, cut, split, pairOf}

@@ -16,8 +16,7 @@ use Rattle.lists.specs.Floats.{allFinite, stored}
 use Rattle.lists.proofs.Cells.{cell-lt}
 use Rattle.lists.proofs.Floats.{finite-getD, stored-is}
 use Rattle.lists.proofs.Tables.{length-grid}
-use Rattle.bond.specs.Rotation.{tangentOf, slopeOf, cosineOf}
-use Rattle.bond.specs.Sweeps.{eye}
+use Rattle.rotation.specs.Rotation.{tangentOf, slopeOf, cosineOf, eye}
 use Rattle.pair.specs.Passes.{Svd, svd, turnStored, turned, dot, skipped, Pass, passed, rotate, pass, Passes, passesFrom, mostPasses, orthogonalized, start}
 use Rattle.pair.proofs.Laws.{grid-finite, along-keeps}
 

@@ -10,8 +10,7 @@ use Rattle.answers.specs.Outcome.{Made, done, bind}
 use Rattle.lists.specs.Lists.{pick, grid, pairs}
 use Rattle.lists.specs.Walks.{along}
 use Rattle.lists.specs.Floats.{cell, sumTo, stored}
-use Rattle.bond.specs.Rotation.{tangentOf, slopeOf, cosineOf, turnedAt}
-use Rattle.bond.specs.Sweeps.{eye}
+use Rattle.rotation.specs.Rotation.{tangentOf, slopeOf, cosineOf, turnedAt, eye}
 
 -- the slab's columns and the basis' columns, each column after column
 pub record Svd : Type 0 where

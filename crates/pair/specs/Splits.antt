@@ -13,7 +13,7 @@ use Rattle.lists.specs.Lists.{pick, tab}
 use Rattle.lists.specs.Floats.{at, cell, stored}
 use Rattle.shape.specs.Limits.{mostRank}
 use Rattle.shape.specs.Cores.{Core, coreWith, block}
-use Rattle.bond.specs.Values.{order, sorted, keptRank}
+use Rattle.values.specs.Values.{order, sorted, keptRank}
 use Rattle.pair.specs.Slabs.{slab}
 use Rattle.pair.specs.Passes.{dot, Passes, orthogonalized, start}
 

@@ -6,7 +6,7 @@ use lib.Ieee.{Float, binary64, add, mul, ofBits, toBits}
 use Rattle.lists.specs.Lists.{listed}
 use Rattle.lists.specs.Floats.{sumOn, sumRows}
 use Rattle.shape.specs.Cores.{Core, coreWith, place, entry}
-use Rattle.product.specs.Product.{contract}
+use Rattle.contraction.specs.Contract.{contract}
 
 abbrev of : List ℕ → List Float
 of l = map (ofBits binary64) l

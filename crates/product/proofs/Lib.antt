@@ -1,6 +1,5 @@
 pub mod Units
 pub mod Examples
-pub mod Strips
 pub mod Checks
 pub mod Walking
 pub mod Starts

@@ -23,7 +23,8 @@ use Rattle.lists.proofs.Floats.{stored-is, finite-getD}
 use Rattle.lists.proofs.Sums.{Fits, Zero, sum-fits, one-term, sum-finite, zero-fits, nan-fits, times-none}
 use Rattle.lists.proofs.Walks.{walk-cons}
 use Rattle.shape.specs.Cores.{Core, entry, place}
-use Rattle.product.specs.Product.{contract, contractAt, sumAxis, startSums, sums, inner}
+use Rattle.contraction.specs.Contract.{contract}
+use Rattle.product.specs.Product.{contractAt, sumAxis, startSums, sums, inner}
 use Rattle.product.specs.Entry.{rowTimes, rowAfter, ttEntry, unitWeights}
 
 -- ---- one axis

@@ -27,7 +27,8 @@ use Rattle.shape.specs.Shapes.{leftOf, pointsOf, rightOf, chainOk, coreSize, po
 use Rattle.shape.specs.Cores.{Core, coreWith, coreAt, pointsAt}
 use Rattle.lists.proofs.Slots.{offset-mono, slot-length}
 use Rattle.shape.proofs.Shaped.{Shaped, shaped}
-use Rattle.product.specs.Product.{contract, contractAt, sumAxis, sums, inner}
+use Rattle.contraction.specs.Contract.{contract}
+use Rattle.product.specs.Product.{contractAt, sumAxis, sums, inner}
 use Rattle.product.specs.Call.{weighed, figureBy}
 
 -- what is left of the walk, from axis k of d on and the sums eta

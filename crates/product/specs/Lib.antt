@@ -1,4 +1,3 @@
 pub mod Product
 pub mod Entry
 pub mod Call
-pub mod Loops

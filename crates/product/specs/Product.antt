@@ -3,17 +3,13 @@ use Prim.Native.Nat.{ℕ}
 use mathlib.Core.List.{List, [], _∷_}
 use lib.ListN.{length}
 use lib.Ieee.{Float}
-use Rattle.numbers.specs.Arithmetic.{times, one64}
+use Rattle.numbers.specs.Arithmetic.{one64}
 use Rattle.answers.specs.declared.Part.the-variants.{Sum}
 use Rattle.answers.specs.Outcome.{Answer, done, bind, making}
-use Rattle.lists.specs.Lists.{tab}
 use Rattle.lists.specs.Walks.{walk, stateAt}
-use Rattle.lists.specs.Floats.{at, sumRows, stored}
-use Rattle.shape.specs.Cores.{Core, entry}
-
--- the new sum at j adds (sum[alpha]*core[alpha,i,j])*f[i], alpha outside, i inside, both ascending
-unfoldable pub contract : Core → List Float → List Float → List Float
-contract c f eta = tab (c .rr) (λ (j : ℕ). sumRows (c .rl) (c .n) (λ (alpha i : ℕ). times (times (at eta alpha) (entry c alpha i j)) (at f i)))
+use Rattle.lists.specs.Floats.{at, stored}
+use Rattle.shape.specs.Cores.{Core}
+use Rattle.contraction.specs.Contract.{contract}
 
 unfoldable pub contractAt : ℕ → Core → List Float → List Float → Answer (List Float)
 contractAt k c f eta = making Sum k (stored (contract c f eta))

@@ -1,6 +1,6 @@
 // The separable start and the inner product with the zones' weights.
 ghost use mathlib.Core.Path.{_≡_};
-ghost use Prim.Native.Nat.{ℕ, _≤_};
+ghost use Prim.Native.Nat.{_≤_};
 ghost use lib.ListN.{length};
 ghost use Rattle.answers.specs.Outcome.{done, verdictOf};
 ghost use Rattle.answers.specs.declared.Verdict.the-variants.{Fits, Refused};
@@ -9,8 +9,6 @@ ghost use Rattle.shape.specs.Shapes.{chainOk, entriesOf, allPoints};
 ghost use Rattle.shape.specs.Sizes.{PointsWithin, SizesWithin};
 ghost use Rattle.product.specs.Call.{innerLent, innerFinite, innerOk, weighed, figureBy, innerCall, startSized, startLent, startFinite, startOk, rankOne, startCall};
 ghost use Rattle.product.specs.Product.{inner};
-
-pub mod contraction;
 
 // The figure, +0 where it is refused.
 pub struct Figure {

@@ -43,7 +43,7 @@ by-case {P} j k here else = go (eqb j k) refl
     go true e = here (eqb-is j k e)
     go false e = else (eqb-not j k e)
 
-bonds-most : (s : Shape) (j : ℕ) → offset (bondSize s) j ≤ j
+pub bonds-most : (s : Shape) (j : ℕ) → offset (bondSize s) j ≤ j
 unfolding offset bondSize
 bonds-most s zero = le-refl 0
 bonds-most s (suc j) = omega (arith, bonds-most s j, one-or-none (ltb (suc j) (s .d)))

@@ -1,5 +1,6 @@
 -- the checks, and the chain packed
 pub mod Verdicts
+pub mod Early
 pub mod Chains
 -- one core
 pub mod Cuts
@@ -8,3 +9,5 @@ pub mod Zoned
 pub mod Bonds
 pub mod From
 pub mod Stands
+-- the call
+pub mod Ends

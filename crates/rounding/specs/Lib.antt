@@ -1,4 +1,4 @@
 pub mod Rounding
 pub mod Keeping
-pub mod Slots
 pub mod Call
+pub mod Slots

@@ -4,12 +4,15 @@ use Prim.Native.Nat.{ℕ, zero, suc, _+_, _-_, _*_, _≤_, _<_}
 use mathlib.Core.Bool.{Bool, true, false}
 use mathlib.Core.List.{List, [], _∷_}
 use lib.Dec.{ltb}
-use lib.ListN.{length, getD}
+use lib.ListN.{length, take, getD, replicate}
 use lib.Ieee.{Float}
 use Rattle.numbers.specs.Arithmetic.{zero64}
 use Rattle.answers.specs.declared.Verdict.{Verdict}
+use Rattle.answers.specs.declared.Verdict.the-variants.{Fits, Refused}
 use Rattle.answers.specs.Outcome.{Answer, done, bind, answered}
+use Rattle.lists.specs.Lists.{joined}
 use Rattle.lists.specs.Slots.{offset, slot, put, fit}
+use Rattle.lists.specs.Floats.{zeros}
 use Rattle.shape.specs.declared.Shape.{Shape}
 use Rattle.shape.specs.Limits.{mostAxes, mostPoints, mostRank}
 use Rattle.shape.specs.Shapes.{leftOf, rightOf, coreSize, entriesOf}
@@ -18,6 +21,7 @@ use Rattle.shape.specs.Cores.{standing, withCore}
 use Rattle.rounding.specs.declared.zones.Walked.{Walked}
 use Rattle.rounding.specs.declared.zones.Places.{Places}
 use Rattle.rounding.specs.Rounding.{Carry, none, some, Cut, roundCore}
+use Rattle.rounding.specs.Call.{Ended}
 use Rattle.rounding.specs.Keeping.{bondSize, carrySize, Stepped, rankAt, rankIn, numbersIn, carryLeft}
 
 -- the carry left of zone k: r rows, the numbers b
@@ -127,3 +131,23 @@ pub record ZoneCut (eps : Float) (s : Shape) (k : ℕ) (t : Shape) (h : Stepped)
       ≡ answered v (laidAs (ltb (suc k) (s .d)) (rankLeft k t (h .ranks)) rank sweeps settles (slot (coreSize s) k work) (slot (carrySize s) k carries))
   pub chain : work ≡ put (coreSize s) k (slot (coreSize s) k work) (h .chain)
   pub carried : carries ≡ put (carrySize s) k (slot (carrySize s) k carries) (h .carries)
+
+-- a chain before any of its bonds is cut
+abbrev pub unrounded : Shape → Walked
+unrounded s = record { verdict = Fits; shape = s; ranks = replicate mostAxes 0; sweeps = replicate mostAxes 0; settled = replicate mostAxes false }
+
+-- the end of a call, by what its rounding came to
+abbrev pub finishedBy : Verdict → Shape → Walked → List Float → List Float → Ended
+finishedBy Fits s w chain scratch = record {
+  result = record { verdict = Fits; shape = w .shape; sweeps = w .sweeps; settled = w .settled };
+  chain = fit zero64 (length chain) (joined (s .d) (λ (k : ℕ). take (coreSize (w .shape) k) (slot (coreSize s) k scratch)));
+  scratch = zeros (length scratch);
+}
+finishedBy (Refused q) s w chain scratch = record {
+  result = record { verdict = Refused q; shape = s; sweeps = replicate mostAxes 0; settled = replicate mostAxes false };
+  chain = chain;
+  scratch = zeros (length scratch);
+}
+
+abbrev pub finished : Shape → Walked → List Float → List Float → Ended
+finished s w chain scratch = finishedBy (w .verdict) s w chain scratch

@@ -3,13 +3,18 @@ ghost use mathlib.Core.Path.{_≡_};
 ghost use Prim.Native.Nat.{ℕ, _≤_, _<_};
 ghost use mathlib.Core.Bool.{false};
 ghost use lib.ListN.{length, replicate, take};
-ghost use Rattle.answers.specs.declared.Verdict.the-variants.{Refused};
+ghost use Rattle.answers.specs.declared.Verdict.the-variants.{Fits, Refused};
+ghost use Rattle.answers.specs.Outcome.{done};
 ghost use Rattle.numbers.specs.Arithmetic.{zero64};
 ghost use Rattle.lists.specs.Lists.{joined};
 ghost use Rattle.lists.specs.Slots.{slot, fit};
 ghost use Rattle.shape.specs.Limits.{mostAxes};
-ghost use Rattle.shape.specs.Shapes.{coreSize, entriesOf};
-ghost use Rattle.shape.specs.Sizes.{SizesWithin};
+ghost use Rattle.shape.specs.Shapes.{chainOk, coreSize, entriesOf};
+ghost use Rattle.shape.specs.Sizes.{SizesWithin, Inside};
+ghost use Rattle.shape.specs.Cores.{coresOf};
+ghost use Rattle.rounding.specs.Rounding.{rounding};
+ghost use Rattle.rounding.specs.Call.{endedBy, roundCall};
+ghost use Rattle.rounding.specs.Slots.{unrounded, finished};
 
 pub mod checks;
 pub mod zones;
@@ -54,4 +59,86 @@ pub fn pack(s: shape::Shape, t: shape::Shape, work: &[f64], chain: &mut [f64])
         k += 1;
     }
     lists::fill(&mut chain[at..], 0.0);
+}
+
+// A chain before any of its bonds is cut.
+pub fn unrounded(s: shape::Shape) -> zones::Walked
+    ensures { λ w. ⌜ w ≡ unrounded s ⌝ }
+{
+    zones::Walked {
+        verdict: answers::Verdict::Fits,
+        shape: s,
+        ranks: [0; shape::MOST_AXES],
+        sweeps: [0; shape::MOST_AXES],
+        settled: [false; shape::MOST_AXES],
+    }
+}
+
+fn rounded_of(w: zones::Walked) -> Rounded
+    ensures { λ r. ⌜ r ≡ record { verdict = Fits; shape = w .shape; sweeps = w .sweeps; settled = w .settled } ⌝ }
+{
+    let shape = w.shape;
+    let sweeps = w.sweeps;
+    let settled = w.settled;
+    Rounded {
+        verdict: answers::Verdict::Fits,
+        shape,
+        sweeps,
+        settled,
+    }
+}
+
+// The end of a call that rounds: where nothing was refused the chain is written, and scratch is +0 in any case.
+pub fn finish(s: shape::Shape, w: zones::Walked, chain: &mut [f64], scratch: &mut [f64]) -> Rounded
+    requires { ⌜ SizesWithin s ⌝ }
+    requires { ⌜ (w .verdict ≡ Fits → Inside s (w .shape)) × (entriesOf s ≤ length (now chain)) × (entriesOf s ≤ length (now scratch)) ⌝ }
+    ensures { λ r. ⌜ record { result = r; chain = now (chain .exit); scratch = now (scratch .exit) } ≡ finished s w (now (chain .entry)) (now (scratch .entry)) ⌝ }
+{
+    let verdict = w.verdict;
+    if let answers::Verdict::Refused(q) = verdict {
+        lists::fill(scratch, 0.0);
+        return refused_rounding(q, s);
+    }
+    let t = w.shape;
+    pack(s, t, scratch, chain);
+    lists::fill(scratch, 0.0);
+    rounded_of(w)
+}
+
+// The chain at the front of scratch, where its cores are worked on.
+pub fn load(chain: &[f64], scratch: &mut [f64])
+    requires { ⌜ length (now chain) ≤ length (now scratch) ⌝ }
+    ensures { λ _. ⌜ take (length (now (chain .entry))) (now (scratch .exit)) ≡ now (chain .entry) ⌝ }
+{
+    let n = chain.len();
+    lists::copy(chain, &mut scratch[0..n]);
+}
+
+// What a core, and the carries of a chain, have at most.
+pub const MOST_CORE: usize = shape::MOST_RANK * shape::MOST_POINTS * shape::MOST_RANK;
+
+pub const MOST_CARRIES: usize = shape::MOST_AXES * (shape::MOST_RANK * shape::MOST_RANK);
+
+// The rounding of a chain that passed the checks.
+fn round_all(s: shape::Shape, eps: f64, chain: &mut [f64], scratch: &mut [f64]) -> Rounded
+    requires { ⌜ chainOk s ≡ done tt ⌝ }
+    requires { ⌜ (length (now chain) ≡ entriesOf s) × (entriesOf s ≤ length (now scratch)) ⌝ }
+    ensures { λ r. ⌜ record { result = r; chain = now (chain .exit); scratch = now (scratch .exit) } ≡ endedBy s (now (chain .entry)) (now (scratch .entry)) (rounding eps (coresOf s (now (chain .entry)))) ⌝ }
+{
+    let mut carries = [0.0; MOST_CARRIES];
+    let mut room = [0.0; MOST_CORE];
+    load(chain, scratch);
+    let w = zones::round_from(0, s, unrounded(s), eps, scratch, &mut carries, &mut room);
+    finish(s, w, chain, scratch)
+}
+
+// Rounds a chain: bond by bond from the left.
+pub fn tt_round(s: shape::Shape, eps: f64, chain: &mut [f64], scratch: &mut [f64]) -> Rounded
+    ensures { λ r. ⌜ record { result = r; chain = now (chain .exit); scratch = now (scratch .exit) } ≡ roundCall s eps (now (chain .entry)) (now (scratch .entry)) ⌝ }
+{
+    let ok = checks::round_ok(s, eps, chain, scratch.len());
+    if let answers::Verdict::Refused(r) = ok {
+        return refused_rounding(r, s);
+    }
+    round_all(s, eps, chain, scratch)
 }

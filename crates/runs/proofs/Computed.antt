@@ -11,12 +11,15 @@ use Rattle.shape.specs.Cores.{place, entry, block, coreAt, pointsAt}
 use Rattle.shape.specs.Shapes.{sizeOk, bondOk, shapeOk, coreSize, pointSize}
 use Rattle.axes.specs.Axes.{axisFinite, axisOk}
 use Rattle.shift.specs.Shifts.{distance, spacing, shiftOf, scaled}
-use Rattle.bond.specs.Bonds.{gram, divided, leftFactor, carryOf, cutBond, absorb}
-use Rattle.bond.specs.Sweeps.{eye, offSum, settled, sweepsFrom, diagonalized}
-use Rattle.bond.specs.Values.{singularOf, singulars, rankIn, indexAt, order, sorted, thresholdOf, keptRank}
+use Rattle.bond.specs.Bonds.{gram, cutBond, absorb}
+use Rattle.factors.specs.Factors.{divided, leftFactor, carryOf}
+use Rattle.rotation.specs.Rotation.{eye}
+use Rattle.sweeps.specs.Sweeps.{offSum, settled, sweepsFrom, diagonalized}
+use Rattle.values.specs.Values.{singularOf, singulars, rankIn, indexAt, order, sorted, thresholdOf, keptRank}
 use Rattle.rounding.specs.Call.{coreFinite, notBelowZero, scratchAfter}
 use Rattle.rounding.specs.Rounding.{roundCore}
-use Rattle.product.specs.Product.{contract, contractAt}
+use Rattle.contraction.specs.Contract.{contract}
+use Rattle.product.specs.Product.{contractAt}
 use Rattle.stepping.specs.Call.{reachesAt}
 use Rattle.stepping.specs.Steps.{shiftZone, scaleZone, roundZone, stepFrom}
 use Rattle.stepping.specs.Zones.{rules}

@@ -10,7 +10,7 @@ use Rattle.lists.specs.Lists.{pick, listed, flat}
 use Rattle.lists.specs.Floats.{sumOn}
 use Rattle.shape.specs.Cores.{Core, coreWith, place, entry, block}
 use Rattle.axes.specs.declared.Axis.{Axis}
-use Rattle.shift.specs.Weights.{cubicBandWeights, bandOn, shiftedAt}
+use Rattle.bands.specs.Weights.{cubicBandWeights, bandOn, shiftedAt}
 use Rattle.shift.specs.declared.Shift.{Shift}
 use Rattle.shift.specs.declared.Shift.the-variants.{Stay, By}
 use Rattle.shift.specs.Shifts.{distance, spacing, shiftOf, shifted}

@@ -20,7 +20,7 @@ use Rattle.lists.specs.Floats.{at, sumOn}
 use Rattle.lists.proofs.Sums.{Fits, Zero, sum-fits, one-term}
 use Rattle.shape.specs.Cores.{Core, coreWith, entry}
 use Rattle.shape.proofs.Places.{entry-block}
-use Rattle.shift.specs.Weights.{cubicBandWeights, bandOn, shiftedAt}
+use Rattle.bands.specs.Weights.{cubicBandWeights, bandOn, shiftedAt}
 use Rattle.shift.specs.Shifts.{shifted}
 
 -- the weights of a zero: one of them is 1, the others are zeros

@@ -1,15 +1,12 @@
 -- The shift as it is worked out: over a block written twice, so that no index wraps. The inner functions cite this; proofs/Around.antt says that it is the shift. Definitions only.
 use mathlib.Core.Path.{_≡_}
-use Prim.Native.Nat.{ℕ, _+_, _*_, _<_, _≤_}
+use Prim.Native.Nat.{ℕ, _+_, _*_, _≤_}
 use mathlib.Core.List.{List, _++_}
-use lib.IntN.{ℤ, pos, _+ℤ_, _-ℤ_}
-use lib.ListN.{length, getD, take, drop}
+use lib.ListN.{length, take, drop}
 use lib.Ieee.{Float}
-use Rattle.numbers.specs.Arithmetic.{times, half64, quarter64}
-use Rattle.numbers.specs.Residues.{wrap}
-use Rattle.lists.specs.Lists.{tab, grid}
-use Rattle.lists.specs.Floats.{at, sumOn}
+use Rattle.lists.specs.Lists.{grid}
 use Rattle.shape.specs.Limits.{mostPoints}
+use Rattle.bands.specs.Starts.{entryIn}
 
 -- what a call that shifts a core is lent: the core's numbers, as many numbers to write, and room for one of its blocks twice
 pub record Lent (core : List Float) (rl n rr : ℕ) (out block : List Float) : Type 0 where
@@ -18,25 +15,6 @@ pub record Lent (core : List Float) (rl n rr : ℕ) (out block : List Float) : T
   pub whole : length core ≡ rl * n * rr
   pub long : length out ≡ rl * n * rr
   pub room : n * rr + n * rr ≤ length block
-
-abbrev pub natAt : List ℕ → ℕ → ℕ
-natAt l m = getD l m 0
-
--- where the rows at the offsets s0 - 1 to s0 + 2, modulo n, start in a block of n rows of rr
-unfoldable pub startsOf : ℕ → ℕ → ℤ → List ℕ
-startsOf n rr s0 = tab 4 (λ (m : ℕ). wrap n (s0 -ℤ pos 1 +ℤ pos m) * rr)
-
--- h numbers from each of the four starts on lie among l
-abbrev pub Room : List ℕ → ℕ → ℕ → Type 0
-Room starts h l = (m : ℕ) → m < 4 → natAt starts m + h ≤ l
-
--- acc, then the first k terms of a band at number j of t
-unfoldable pub bandIn : Float → List Float → ℕ → List Float → List ℕ → ℕ → Float
-bandIn acc t j weights starts k = sumOn acc k (λ (m : ℕ). times (times quarter64 (at weights m)) (at t (natAt starts m + j)))
-
--- number j of a block, shifted; t is the block twice
-unfoldable pub entryIn : List Float → List Float → List ℕ → List Float → List ℕ → ℕ → Float
-entryIn t forward ahead backward behind j = bandIn (bandIn (times half64 (at t j)) t j forward ahead 4) t j backward behind 4
 
 -- block k of h numbers, twice
 abbrev pub twiceOf : List Float → ℕ → ℕ → List Float

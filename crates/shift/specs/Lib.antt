@@ -1,4 +1,3 @@
-pub mod Weights
 pub mod Shifts
 -- what the inner functions cite
 pub mod Doubled

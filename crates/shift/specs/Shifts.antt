@@ -16,7 +16,7 @@ use Rattle.shape.specs.Cores.{Core, entry, block}
 use Rattle.axes.specs.declared.Axis.{Axis}
 use Rattle.shift.specs.declared.Shift.{Shift}
 use Rattle.shift.specs.declared.Shift.the-variants.{Stay, By}
-use Rattle.shift.specs.Weights.{cubicBandWeights, shiftedAt}
+use Rattle.bands.specs.Weights.{cubicBandWeights, shiftedAt}
 
 -- h = 2*sqrt(a*tau) + b*tau
 unfoldable pub distance : Axis → Float → Float

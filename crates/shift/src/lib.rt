@@ -1,42 +1,25 @@
 // The shift of one core along its axis, and the scaling of core 0.
 ghost use mathlib.Core.Path.{_≡_};
 ghost use mathlib.Core.Bool.{true};
-ghost use Prim.Native.Nat.{suc, _+_, _*_, _^_, _<_, _≤_};
+ghost use Prim.Native.Nat.{_+_, _*_, _<_, _≤_};
 ghost use mathlib.Core.List.{List, _++_, map};
 ghost use lib.ListN.{length};
 ghost use lib.Ieee.{Float};
 ghost use Rattle.numbers.specs.Arithmetic.{times};
-ghost use Rattle.numbers.specs.Whole.{wholeOf, fractionOf, inReach};
+ghost use Rattle.numbers.specs.Whole.{inReach};
 ghost use Rattle.answers.specs.declared.Part.the-variants.{Entry};
 ghost use Rattle.answers.specs.Outcome.{making, answered, staged};
 ghost use Rattle.lists.specs.Lists.{tab};
 ghost use Rattle.shape.specs.Limits.{mostPoints};
 ghost use Rattle.shape.specs.Cores.{coreWith};
-ghost use Rattle.shift.specs.Weights.{cubicBandWeights};
 ghost use Rattle.shift.specs.Shifts.{distance, spacing, shiftOf, reaches, shifted, moveCore, scaled};
-ghost use Rattle.shift.specs.Doubled.{Lent, startsOf, Room, bandIn, entryIn, blocksOf};
+ghost use Rattle.shift.specs.Doubled.{Lent, blocksOf};
+ghost use Rattle.bands.specs.Starts.{Room, entryIn};
 
 // A core stays, or is shifted by a ratio.
 pub enum Shift {
     Stay,
     By(f64),
-}
-
-// The four weights of a fraction, for the offsets -1 to 2.
-pub fn cubic_band_weights(t: f64) -> [f64; 4]
-    ensures { λ r. ⌜ r ≡ cubicBandWeights t ⌝ }
-{
-    let t1 = t - 1.0;
-    let t2 = t - 2.0;
-    let tp1 = t + 1.0;
-    let sixth = 0.16666666666666666;
-    let half = 0.5;
-    [
-        -(t * t1 * t2) * sixth,
-        (tp1 * t1 * t2) * half,
-        -(tp1 * t * t2) * half,
-        (tp1 * t * t1) * sixth,
-    ]
 }
 
 // How far a step goes along the axis.
@@ -84,55 +67,6 @@ pub fn reaches(s: Shift) -> bool
     }
 }
 
-// The four weights of a band: those of the ratio's fraction.
-fn weights_of(ratio: f64) -> [f64; 4]
-    ensures { λ r. ⌜ r ≡ cubicBandWeights (fractionOf ratio) ⌝ }
-{
-    cubic_band_weights(numbers::fraction(ratio))
-}
-
-// Where the rows of a band start: at the offsets s0 - 1 to s0 + 2, modulo n, for the floor s0 of the ratio.
-fn starts_of(ratio: f64, n: usize, rr: usize) -> [usize; 4]
-    requires { ⌜ (1 ≤ n) × (n ≤ mostPoints) × (n * rr < 2 ^ 64) × (inReach ratio ≡ true) ⌝ }
-    ensures { λ r. ⌜ r ≡ startsOf n rr (wholeOf ratio) ⌝ }
-{
-    let s0 = numbers::whole(ratio);
-    [
-        numbers::stepped(n - 1, s0, n) * rr,
-        numbers::stepped(0, s0, n) * rr,
-        numbers::stepped(1, s0, n) * rr,
-        numbers::stepped(2, s0, n) * rr,
-    ]
-}
-
-// acc, then the four terms of a band at number j of t.
-fn band(acc: f64, t: &[f64], j: usize, weights: &[f64; 4], starts: &[usize; 4]) -> f64
-    requires { ⌜ Room (now starts) (suc j) (length (now t)) ⌝ }
-    ensures { λ r. ⌜ r ≡ bandIn acc (now (t .entry)) j (now (weights .entry)) (now (starts .entry)) 4 ⌝ }
-{
-    let mut x = acc;
-    for m in 0..4 {
-        x = x + (0.25 * weights[m]) * t[starts[m] + j];
-    }
-    x
-}
-
-// Number j of a block, shifted; t is the block twice.
-fn entry_at(
-    t: &[f64],
-    j: usize,
-    forward: &[f64; 4],
-    ahead: &[usize; 4],
-    backward: &[f64; 4],
-    behind: &[usize; 4],
-) -> f64
-    requires { ⌜ (j < length (now t)) × Room (now ahead) (suc j) (length (now t)) × Room (now behind) (suc j) (length (now t)) ⌝ }
-    ensures { λ r. ⌜ r ≡ entryIn (now (t .entry)) (now (forward .entry)) (now (ahead .entry)) (now (backward .entry)) (now (behind .entry)) j ⌝ }
-{
-    let x = band(0.5 * t[j], t, j, forward, ahead);
-    band(x, t, j, backward, behind)
-}
-
 // A block, shifted; t is the block twice.
 fn shift_block(
     t: &[f64],
@@ -146,7 +80,7 @@ fn shift_block(
     ensures { λ _. ⌜ now (out .exit) ≡ tab (length (now (out .entry))) (entryIn (now (t .entry)) (now (forward .entry)) (now (ahead .entry)) (now (backward .entry)) (now (behind .entry))) ⌝ }
 {
     for j in 0..out.len() {
-        let x = entry_at(t, j, forward, ahead, backward, behind);
+        let x = bands::entry_at(t, j, forward, ahead, backward, behind);
         out[j] = x;
     }
 }
@@ -197,10 +131,10 @@ pub fn shift_core(
     requires { ⌜ Lent (now core) rl n rr (now out) (now block) × (inReach ratio ≡ true) ⌝ }
     ensures { λ _. ⌜ now (out .exit) ≡ shifted (coreWith rl n rr (now (core .entry))) ratio ⌝ }
 {
-    let forward = weights_of(ratio);
-    let backward = weights_of(-ratio);
-    let ahead = starts_of(ratio, n, rr);
-    let behind = starts_of(-ratio, n, rr);
+    let forward = bands::weights_of(ratio);
+    let backward = bands::weights_of(-ratio);
+    let ahead = bands::starts_of(ratio, n, rr);
+    let behind = bands::starts_of(-ratio, n, rr);
     let h = n * rr;
     let both = h + h;
     shift_blocks(

@@ -1,7 +1,8 @@
 -- `bond::gram` meets its contract. Assumes nothing.
 use native.Mathlib.Omega.{arith}
 use borrow.Author.Needs.{needs}
-use Rattle.bond.proofs.Cores.{row-most, rows-most, gram-is}
+use Rattle.bond.proofs.Cores.{row-most, gram-is}
+use Rattle.factors.proofs.Finished.{rows-most}
 use Rattle.bond.proofs.gram.Statement.{statement}
 use Rattle.bond.proofs.gram.Tie as tie
 

@@ -1,9 +1,0 @@
--- `bond::rotation::cosine` meets its contract. Assumes nothing.
-use borrow.Author.Needs.{needs}
-use Rattle.bond.specs.Rotation.{cosineOf}
-use Rattle.bond.proofs.rotation.cosine.Statement.{statement}
-use Rattle.bond.proofs.rotation.cosine.Tie as tie
-
-pub cosine-spec : {M : Type 1} → statement M
-unfolding cosineOf
-cosine-spec = tie.close (tie.spec (λ c κs. search needs) (λ c. rw (c .root .ensures)))

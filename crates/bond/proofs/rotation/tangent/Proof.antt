@@ -1,8 +1,0 @@
--- `bond::rotation::tangent` meets its contract. Assumes nothing.
-use borrow.Author.Needs.{needs}
-use Rattle.bond.proofs.Rotations.{tangent-above, tangent-below}
-use Rattle.bond.proofs.rotation.tangent.Statement.{statement}
-use Rattle.bond.proofs.rotation.tangent.Tie as tie
-
-pub tangent-spec : {M : Type 1} → statement M
-tangent-spec = tie.close (tie.spec (λ c κs. search needs) (λ c. search (needs, tangent-above)) (λ c. search (needs, tangent-below)))

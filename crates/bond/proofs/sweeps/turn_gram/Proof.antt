@@ -1,7 +1,0 @@
--- `bond::sweeps::turn_gram` meets its contract. Assumes nothing.
-use borrow.Author.Needs.{needs}
-use Rattle.bond.proofs.sweeps.turn_gram.Statement.{statement}
-use Rattle.bond.proofs.sweeps.turn_gram.Tie as tie
-
-pub turn-gram-spec : {M : Type 1} → statement M
-turn-gram-spec = tie.close (tie.spec (λ c κs. search needs) (λ c κs. search needs) (λ c κs. search needs) (λ c. search needs) (λ c. cc))

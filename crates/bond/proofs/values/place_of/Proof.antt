@@ -1,9 +1,0 @@
--- `bond::values::place_of` meets its contract. Assumes nothing.
-use borrow.Author.Needs.{needs}
-use Rattle.bond.specs.Values.{rankIn}
-use Rattle.bond.proofs.values.place_of.Statement.{statement}
-use Rattle.bond.proofs.values.place_of.Tie as tie
-
-pub place-of-spec : {M : Type 1} → statement M
-unfolding rankIn
-place-of-spec = tie.close (tie.spec (λ c. search needs) (λ c. search needs) (λ c κs. search needs) (λ c κs. search needs) (λ c. search needs) (λ c. cc))

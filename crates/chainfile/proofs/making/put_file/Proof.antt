@@ -1,0 +1,29 @@
+-- `chainfile::making::put_file` meets its contract. Assumes nothing.
+use borrow.Author.Needs.{needs}
+use Rattle.chainfile.proofs.Makes.{header-room, table-room, bodies-room, file-made}
+use Rattle.chainfile.proofs.making.put_file.Statement.{statement}
+use Rattle.chainfile.proofs.making.put_file.Tie as tie
+
+put-requires : tie.Need-put-requires
+put-requires c κs = header-room (c .before .before .before .before .before .args .s) (c .before .before .before .before .before .args .chain .now) (c .before .before .before .before .before .args .out .now) (c .before .before .before .before .before .pre .1 .1) _ (c .before .before .header-bytes .ensures)
+
+put-table-requires : tie.Need-put-table-requires
+put-table-requires c κs = ((c .before .before .before .before .before .before .before .before .before .pre .0), table-room _ (c .before .before .before .before .before .before .before .before .before .args .chain .now) (c .before .before .before .before .before .before .before .before .before .args .out .now) (c .before .before .before .before .before .before .before .before .before .pre .1 .1) _ _ (c .before .before .before .before .before .before .header-bytes .ensures) (c .before .before .before .put .ensures))
+
+put-numbers-requires : tie.Need-put-numbers-requires
+put-numbers-requires c κs = bodies-room _ _ _ (c .before .before .before .before .before .before .before .before .before .before .before .before .before .before .pre .1 .1) _ _ (c .before .before .before .before .before .before .before .before .before .before .before .header-bytes .ensures) (c .before .before .before .before .before .before .before .before .put .ensures) _ (c .before .before .before .before .put-table .ensures) (c .before .before .before .before .before .before .before .before .before .before .before .before .before .before .pre .1 .0) (c .before .before .before .before .before .before .before .before .before .before .before .before .before .before .pre .1 .2)
+
+returns : tie.Need-returns
+returns c = file-made _ _ _ (c .before .before .before .before .before .before .before .before .before .before .before .before .before .before .before .before .before .pre .1 .1) _ _ (c .before .before .before .before .before .before .before .before .before .before .before .before .before .before .header-bytes .ensures) (c .before .before .before .before .before .before .before .before .before .before .before .put .ensures) _ (c .before .before .before .before .before .before .before .put-table .ensures) (c .before .before .before .before .before .before .before .before .before .before .before .before .before .before .before .before .before .pre .1 .0) _ (c .before .before .put-numbers .ensures)
+
+pub put-file-spec : {M : Type 1} → statement M
+put-file-spec = tie.close (tie.spec
+    (λ c κs. search needs)
+    (λ c. search needs)
+    put-requires
+    put-table-requires
+    (λ c. search needs)
+    (λ c. search needs)
+    put-numbers-requires
+    (λ c. search needs)
+    returns)

@@ -1,5 +1,0 @@
-pub mod Bytes
-pub mod File
-pub mod Calls
-pub mod Writing
-pub mod Reading

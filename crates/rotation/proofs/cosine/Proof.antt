@@ -1,0 +1,9 @@
+-- `rotation::cosine` meets its contract. Assumes nothing.
+use borrow.Author.Needs.{needs}
+use Rattle.rotation.specs.Rotation.{cosineOf}
+use Rattle.rotation.proofs.cosine.Statement.{statement}
+use Rattle.rotation.proofs.cosine.Tie as tie
+
+pub cosine-spec : {M : Type 1} → statement M
+unfolding cosineOf
+cosine-spec = tie.close (tie.spec (λ c κs. search needs) (λ c. rw (c .root .ensures)))

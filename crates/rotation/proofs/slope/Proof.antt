@@ -1,0 +1,9 @@
+-- `rotation::slope` meets its contract. Assumes nothing.
+use mathlib.Core.Path.{refl}
+use Rattle.rotation.specs.Rotation.{slopeOf}
+use Rattle.rotation.proofs.slope.Statement.{statement}
+use Rattle.rotation.proofs.slope.Tie as tie
+
+pub slope-spec : {M : Type 1} → statement M
+unfolding slopeOf
+slope-spec = tie.close (tie.spec (λ c. refl))

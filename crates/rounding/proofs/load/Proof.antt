@@ -1,0 +1,20 @@
+-- `rounding::load` meets its contract. Assumes nothing.
+use borrow.Author.Needs.{needs}
+use Rattle.rounding.proofs.load.Reads as reads
+use Rattle.rounding.proofs.load.Lts as lts
+use Rattle.lists.proofs.copy.Reads as copy-reads
+use Rattle.rounding.proofs.Ends.{loaded}
+use Rattle.rounding.proofs.load.Statement.{statement}
+use Rattle.rounding.proofs.load.Tie as tie
+
+returns : tie.Need-returns
+returns c = loaded _ _ _ (c .before .before .copy .ensures)
+
+pub load-spec : {M : Type 1} → statement M
+load-spec = tie.close (tie.spec
+    (λ c. search needs)
+    (λ c. search needs)
+    (λ c. search needs)
+    (λ c κs. search needs)
+    (λ c. search needs)
+    returns)

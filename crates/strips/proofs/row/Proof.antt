@@ -1,0 +1,43 @@
+-- `strips::row` meets its contract. Assumes nothing.
+use Prim.Native.Nat.{_-_, _≤_}
+use mathlib.Core.Path.{_≡_}
+use native.Mathlib.Omega.{arith}
+use lib.ListN.{length}
+use Rattle.lists.proofs.Turns.{turns}
+use Rattle.strips.specs.Products.{dotAt}
+use Rattle.lists.proofs.Strips.{rowTo, row-more, row-on, row-whole}
+use Rattle.strips.proofs.row.Statement.{statement}
+use Rattle.strips.proofs.row.Tie as tie
+
+abbrev Inv-loop : tie.InvT-loop
+Inv-loop b p q a w c out₀ e j₀ out j = (j₀ ≤ j) × (j ≤ w) × (length out ≡ length out₀) × (out ≡ rowTo e (dotAt b p q a w c) j₀ j out₀)
+
+abbrev μ-loop : tie.MeasureT-loop
+μ-loop b p q a w c out₀ e j₀ out j = w - j
+
+abbrev Inv-loop2 : tie.InvT-loop2
+Inv-loop2 = Inv-loop
+
+abbrev μ-loop2 : tie.MeasureT-loop2
+μ-loop2 = μ-loop
+
+abbrev Inv-loop3 : tie.InvT-loop3
+Inv-loop3 = Inv-loop
+
+abbrev μ-loop3 : tie.MeasureT-loop3
+μ-loop3 = μ-loop
+
+loop-again : tie.Need-loop-again Inv-loop μ-loop Inv-loop2 μ-loop2 Inv-loop3 μ-loop3
+loop-again c = (search turns, search turns, search turns, row-more _ _ _ _ _ _ _ 8 (c .before .before .before .before .before .loop .inv .3) (c .before .before .before .before .before .loop .inv .0) (c .before .before .strip .ensures))
+
+loop2-again : tie.Need-loop2-again Inv-loop μ-loop Inv-loop2 μ-loop2 Inv-loop3 μ-loop3
+loop2-again c = (search turns, search turns, search turns, row-more _ _ _ _ _ _ _ 4 (c .before .before .before .before .before .loop2 .inv .3) (c .before .before .before .before .before .loop2 .inv .0) (c .before .before .strip2 .ensures))
+
+loop3-again : tie.Need-loop3-again Inv-loop μ-loop Inv-loop2 μ-loop2 Inv-loop3 μ-loop3
+loop3-again c = (search turns, search turns, search turns, row-more _ _ _ _ _ _ _ 1 (c .before .before .before .before .before .loop3 .inv .3) (c .before .before .before .before .before .loop3 .inv .0) (c .before .before .strip3 .ensures))
+
+returns : tie.Need-returns Inv-loop μ-loop Inv-loop2 μ-loop2 Inv-loop3 μ-loop3
+returns c = row-whole _ _ _ _ _ _ (row-on _ _ _ _ _ _ _ _ (row-on _ _ _ _ _ _ _ _ (c .before .before .before .before .before .loop .inv .3) (c .before .before .before .before .before .loop .inv .0) (c .before .before .before .loop2 .inv .3) (c .before .before .before .loop2 .inv .0)) (omega arith) (c .before .loop3 .inv .3) (c .before .loop3 .inv .0)) (c .before .loop3 .inv .1) (c .loop3-test .left)
+
+pub row-spec : {M : Type 1} → statement M
+row-spec = tie.close (tie.spec Inv-loop μ-loop Inv-loop2 μ-loop2 Inv-loop3 μ-loop3 (λ c. search turns) (λ c. search turns) (λ c. search turns) (λ c κs. search turns) (λ c. search turns) (λ c. search turns) loop-again (λ c. search turns) (λ c. search turns) (λ c. search turns) (λ c κs. search turns) (λ c. search turns) (λ c. search turns) loop2-again (λ c. search turns) (λ c. search turns) (λ c κs. search turns) (λ c. search turns) (λ c. search turns) loop3-again (λ c. search turns) returns)

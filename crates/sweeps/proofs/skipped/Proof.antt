@@ -1,0 +1,13 @@
+-- `sweeps::skipped` meets its contract. Assumes nothing.
+use borrow.Author.Needs.{needs}
+use Rattle.sweeps.specs.Sweeps.{skipped}
+use Rattle.sweeps.proofs.skipped.Statement.{statement}
+use Rattle.sweeps.proofs.skipped.Tie as tie
+
+returns : tie.Need-returns
+unfolding skipped
+returns c = rw (c .number-at .ensures)
+
+pub skipped-spec : {M : Type 1} → statement M
+unfolding skipped
+skipped-spec = tie.close (tie.spec (λ c κs. search needs) returns)

@@ -1,0 +1,11 @@
+-- `sweeps::turn_columns` meets its contract. Assumes nothing.
+use borrow.Author.Needs.{needs}
+use Rattle.sweeps.proofs.Rotations.{turn-columns-is}
+use Rattle.sweeps.proofs.turn_columns.Statement.{statement}
+use Rattle.sweeps.proofs.turn_columns.Tie as tie
+
+returns : tie.Need-returns
+returns c = turn-columns-is _ _ _ _ _ _ _ (c .before .before .before .before .before .pre .0) (c .before .before .before .before .before .pre .1) (c .before .before .before .before .before .pre .2) (c .before .before .turn-pairs .ensures)
+
+pub turn-columns-spec : {M : Type 1} → statement M
+turn-columns-spec = tie.close (tie.spec (λ c κs. search needs) (λ c. search needs) returns)

@@ -1,0 +1,3 @@
+pub mod Sweeps
+pub mod Iteration
+pub mod Rows

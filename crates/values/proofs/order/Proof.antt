@@ -1,0 +1,34 @@
+-- `values::order` meets its contract. Assumes nothing.
+use Prim.Native.Nat.{ℕ, _-_, _≤_}
+use mathlib.Core.Path.{_≡_}
+use mathlib.Core.List.{List}
+use native.Mathlib.Omega.{arith}
+use native.Mathlib.Numerals.{add-one}
+use lib.ListN.{length, set}
+use Rattle.lists.specs.Lists.{iter}
+use Rattle.lists.proofs.Turns.{turns}
+use Rattle.values.specs.Values.{rankIn}
+use Rattle.values.proofs.Ranked.{rank-lt, order-is}
+use Rattle.values.proofs.order.Statement.{statement}
+use Rattle.values.proofs.order.Tie as tie
+
+abbrev Inv-loop : tie.InvT-loop
+Inv-loop sv n js₀ i₀ js i = (i ≤ n) × (length js ≡ length js₀) × (js ≡ iter i (λ (k : ℕ) (l : List ℕ). set l (rankIn n sv k) k) js₀)
+
+abbrev μ-loop : tie.MeasureT-loop
+μ-loop sv n js₀ i₀ js i = n - i
+
+mul-js : tie.Need-mul-js Inv-loop μ-loop
+mul-js c = record { fits = omega (arith, c .place-of .ensures, rank-lt _ _ (c .before .before .before .before .before .pre .0) (c .before .before .before .before .before .pre .2) _ (c .before .loop-test .taken)) }
+
+slice-write-js : tie.Need-slice-write-js Inv-loop μ-loop
+slice-write-js c = omega (arith, c .place-of .ensures, rank-lt _ _ (c .before .before .before .before .before .pre .0) (c .before .before .before .before .before .pre .2) _ (c .before .loop-test .taken))
+
+loop-again : tie.Need-loop-again Inv-loop μ-loop
+loop-again c = (search turns, search turns, rw (add-one, c .place-of .ensures, c .before .before .loop .inv .2))
+
+returns : tie.Need-returns Inv-loop μ-loop
+returns c = order-is _ _ (c .before .before .before .before .pre .0) (c .before .before .before .before .pre .2) _ _ _ (c .before .loop .inv .2) (c .before .loop .inv .0) (c .loop-test .left) (c .before .before .before .before .pre .1)
+
+pub order-spec : {M : Type 1} → statement M
+order-spec = tie.close (tie.spec Inv-loop μ-loop (λ c. search turns) (λ c κs. search turns) mul-js slice-write-js (λ c. search turns) (λ c. search turns) loop-again (λ c. search turns) returns)

@@ -1,0 +1,10 @@
+-- `values::threshold` meets its contract. Assumes nothing.
+use borrow.Author.Needs.{needs}
+use Rattle.lists.proofs.Picks.{picks}
+use Rattle.values.specs.Values.{thresholdOf}
+use Rattle.values.proofs.threshold.Statement.{statement}
+use Rattle.values.proofs.threshold.Tie as tie
+
+pub threshold-spec : {M : Type 1} → statement M
+unfolding thresholdOf
+threshold-spec = tie.close (tie.spec (λ c. search (needs, picks)) (λ c. search (needs, picks)))

@@ -1,0 +1,229 @@
+#!/usr/bin/env python3
+"""Chain files and what the scope says of them, as the list that `replay_file` reads: oracle/files.py > crates/replay_file/stdin
+
+Everything here is written from the scope's section on the chain file, and shares nothing with the code that it tests. A case
+starts with its kind: 0 reading (bytes, room; number and place, or 0 and 0; shape; what the room holds at the end), 1 writing
+(shape, chain, the output's length; number and place; what the output holds at the end), 2 the listing (bytes; text). A word has
+eight bytes, the lowest first; bytes stand behind a word that says how many.
+"""
+import struct
+import sys
+
+BEFORE = struct.unpack("<Q", struct.pack("<d", 7.5))[0]
+SPACE = 0xAA
+
+
+class Refused(Exception):
+    pass
+
+
+def limits(core):
+    left, n, right = core
+    return 1 <= left <= 8 and 1 <= n <= 64 and 1 <= right <= 8
+
+
+def bonds(cores):
+    if cores[0][0] != 1:
+        raise Refused(3, 0)
+    for k in range(len(cores)):
+        if cores[k][2] != (cores[k + 1][0] if k + 1 < len(cores) else 1):
+            raise Refused(3, k)
+
+
+def entries(cores):
+    return sum(a * b * c for a, b, c in cores)
+
+
+def finite(bits):
+    return bits >> 52 & 0x7FF != 0x7FF
+
+
+def numbers(cores, bits):
+    at = 0
+    for k, (a, b, c) in enumerate(cores):
+        if not all(finite(x) for x in bits[at:at + a * b * c]):
+            raise Refused(6, k)
+        at += a * b * c
+
+
+def read(data, room):
+    """the cores and the bits of each number, or Refused"""
+    if len(data) < 8:
+        raise Refused(11, len(data))
+    if data[:4] != b"TTC1":
+        raise Refused(11, 0)
+    d, zero = struct.unpack_from("<HH", data, 4)
+    if zero:
+        raise Refused(11, 6)
+    if not 1 <= d <= 16:
+        raise Refused(1, 0)
+    if len(data) < 8 + 12 * d:
+        raise Refused(11, len(data))
+    cores, offset = [], 8 + 12 * d
+    for k in range(d):
+        left, n, right, zero, body = struct.unpack_from("<HHHHI", data, 8 + 12 * k)
+        if not limits((left, n, right)):
+            raise Refused(2, k)
+        if zero:
+            raise Refused(11, 8 + 12 * k + 6)
+        if body != offset:
+            raise Refused(11, 8 + 12 * k + 8)
+        offset += 8 * left * n * right
+        cores.append((left, n, right))
+    bonds(cores)
+    if len(data) != offset:
+        raise Refused(11, len(data))
+    if room < entries(cores):
+        raise Refused(5, 1)
+    bits = list(struct.unpack_from("<%dQ" % entries(cores), data, 8 + 12 * d))
+    numbers(cores, bits)
+    return cores, bits
+
+
+def write(d, cores, bits, room):
+    if not 1 <= d <= 16:
+        raise Refused(1, 0)
+    for k, core in enumerate(cores):
+        if not limits(core):
+            raise Refused(2, k)
+    bonds(cores)
+    if len(bits) != entries(cores):
+        raise Refused(5, 0)
+    if room != 8 + 12 * d + 8 * len(bits):
+        raise Refused(5, 1)
+    numbers(cores, bits)
+    return make(cores, bits)
+
+
+def make(cores, bits):
+    data, offset = b"TTC1" + struct.pack("<HH", len(cores), 0), 8 + 12 * len(cores)
+    for left, n, right in cores:
+        data += struct.pack("<HHHHI", left, n, right, 0, offset)
+        offset += 8 * left * n * right
+    return data + struct.pack("<%dQ" % len(bits), *bits)
+
+
+def text(data):
+    if len(data) > 8392:
+        return "too large\n"
+    try:
+        cores, bits = read(data, 1049)
+    except Refused as r:
+        return "refused %d at %d\n" % r.args
+    out, offset = "axes %d entries %d\n" % (len(cores), len(bits)), 8 + 12 * len(cores)
+    for k, (left, n, right) in enumerate(cores):
+        out += "%d %d %d %d %d\n" % (k, left, n, right, offset)
+        offset += 8 * left * n * right
+    return out
+
+
+cases = []
+
+
+def words(*numbers):
+    return struct.pack("<%dQ" % len(numbers), *numbers)
+
+
+def counted(data):
+    return words(len(data)) + data
+
+
+def reading(data, room):
+    case = words(0) + counted(data) + words(room)
+    try:
+        cores, bits = read(data, room)
+        sizes = [x for core in cores for x in core]
+        case += words(0, 0, len(cores), *sizes) + words(*(bits + [0] * (room - len(bits))))
+    except Refused as r:
+        case += words(*r.args, 0) + words(*([BEFORE] * room))
+    cases.append(case)
+
+
+def writing(d, cores, bits, room):
+    stand = [x for core in cores[:16] for x in core] if d >= len(cores) else [x for core in cores[:d] for x in core]
+    case = words(1, d, *stand) + words(len(bits), *bits) + words(room)
+    try:
+        case += words(0, 0) + counted(write(d, cores, bits, room))
+    except Refused as r:
+        case += words(*r.args) + counted(bytes([SPACE]) * room)
+    cases.append(case)
+
+
+def listing(data):
+    cases.append(words(2) + counted(data) + counted(text(data).encode()))
+
+
+def both(data, room=None):
+    reading(data, 8 if room is None else room)
+    listing(data)
+
+
+def bits(*floats):
+    return [struct.unpack("<Q", struct.pack("<d", x))[0] for x in floats]
+
+
+def put(data, at, new):
+    return data[:at] + new + data[at + len(new):]
+
+
+# the scope's 52 bytes; two cores; 16 cores of one number; numbers whose bits must be kept
+one = make([(1, 4, 1)], bits(4, 8, 16, 0))
+two = make([(1, 2, 2), (2, 1, 1)], bits(3, 0, 0, 4, 1, 1))
+long = make([(1, 1, 1)] * 16, bits(*range(16)))
+odd = [0x8000000000000000, 1, 0x8000000000000001, 0x000FFFFFFFFFFFFF, 0x7FEFFFFFFFFFFFFF, 0xFFEFFFFFFFFFFFFF, 0, 0x0123456789ABCDEF]
+kept = make([(1, 2, 2), (2, 2, 1)], odd)
+most = make([(1, 64, 1)] * 16, bits(*range(1024)))
+assert (len(one), len(two), len(most)) == (52, 80, 8392)
+
+for data in (one, two, long, kept):
+    n = (len(data) - 8 - 12 * data[4]) // 8
+    for room in (0, n - 1, n, n + 1, n + 3):
+        reading(data, room)
+    # cut at every length, and longer by one, by a number
+    for end in range(len(data)):
+        both(data[:end], n)
+    both(data + b"\0", n)
+    both(data + b"\0" * 8, n)
+# each field of header and table, damaged by one bit
+for data in (one, two):
+    for bit in range(8 * (8 + 12 * data[4])):
+        at = bit // 8
+        both(put(data, at, bytes([data[at] ^ 1 << bit % 8])))
+# and of each number: accepted with that bit, unless it isn't finite
+for bit in range(8 * 20, 8 * 52):
+    at = bit // 8
+    reading(put(one, at, bytes([one[at] ^ 1 << bit % 8])), 4)
+# numbers that aren't finite, at each place
+for pattern in (0x7FF0000000000000, 0xFFF0000000000000, 0x7FF0000000000001, 0x7FF8000000000000, 0xFFFFFFFFFFFFFFFF):
+    for i in range(6):
+        both(put(two, 32 + 8 * i, words(pattern)))
+# each size and d over its range
+for d in list(range(18)) + [255, 256, 257, 65535]:
+    both(put(one, 4, struct.pack("<H", d)))
+    both(put(long, 4, struct.pack("<H", d)), 16)
+for field in (8, 10, 12):
+    for size in list(range(11)) + [63, 64, 65, 255, 256, 257, 65535]:
+        both(put(one, field, struct.pack("<H", size)))
+# the largest file that is listed, one byte less and one more, and more axes than room
+for data in (most, most[:-1], most + b"\0", b"\0" * 8392, b"\0" * 8393, b"", b"TTC1", b"TTC2" + most[4:]):
+    listing(data)
+reading(most, 1024)
+reading(most, 1023)
+# writing, and its refusals with every later fault beside them
+for cores, chain in (([(1, 4, 1)], bits(4, 8, 16, 0)), ([(1, 2, 2), (2, 2, 1)], odd), ([(1, 1, 1)] * 16, bits(*range(16))), ([(1, 64, 1)] * 16, bits(*range(1024))), ([(1, 64, 8), (8, 1, 1)], bits(*range(520)))):
+    d, n, room = len(cores), len(chain), 8 + 12 * len(cores) + 8 * len(chain)
+    writing(d, cores, chain, room)
+    for wrong in (room - 1, room + 1, 0, room - 8):
+        writing(d, cores, chain, wrong)
+    writing(d, cores, chain[:-1], room)
+    writing(d, cores, chain + bits(1), room)
+    for i in (0, n // 2, n - 1):
+        for pattern in (0x7FF0000000000000, 0xFFF0000000000000, 0x7FF8000000000000):
+            writing(d, cores, chain[:i] + [pattern] + chain[i + 1:], room)
+writing(0, [], [], 8)
+writing(17, [(1, 1, 1)] * 16, bits(*range(16)), 328)
+for bad in ((0, 4, 1), (9, 4, 1), (1, 0, 1), (1, 65, 1), (1, 4, 0), (1, 4, 9), (2, 4, 1), (1, 4, 2)):
+    writing(1, [bad], bits(1), 51)
+writing(2, [(1, 2, 2), (3, 1, 1)], bits(1), 51)
+sys.stdout.buffer.write(words(len(cases)) + b"".join(cases))
+print(len(cases), file=sys.stderr)
