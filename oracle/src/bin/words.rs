@@ -46,7 +46,17 @@ fn main() {
     for line in text.lines() {
         let words: Vec<&str> = line.split_whitespace().collect();
         let given = words.iter().position(|w| *w == "=").expect("an answer");
-        numbers(&mut out, &words[2..given]);
+        // a step and an evolve: which of the two, the steps (0 for a step), and how many numbers scratch has too few
+        let kind = ["step", "evolve"].iter().position(|k| *k == words[0]);
+        kind.iter().for_each(|k| word(&mut out, *k as u64));
+        let short = words[..given].iter().position(|w| *w == "short");
+        numbers(&mut out, &words[2..short.unwrap_or(given)]);
+        if kind == Some(0) {
+            word(&mut out, 0);
+        }
+        if kind.is_some() {
+            word(&mut out, short.map_or(0, |at| number(words[at + 1]).expect("a number")));
+        }
         answer(&mut out, &words[given + 1..]);
     }
     BufWriter::new(std::io::stdout().lock())
