@@ -9,7 +9,7 @@ const SCRATCH_BESIDE: usize = 2048;
 const MARK: f64 = 1.0;
 
 // Axis records by value, and how many the list has.
-struct Records {
+struct Lent {
     list: [axes::Axis; shape::MOST_AXES],
     count: usize,
 }
@@ -30,7 +30,7 @@ fn record() -> axes::Axis {
 }
 
 // How many numbers follow, then four of each record; of more records than an array has, those that it has.
-fn records() -> Records {
+fn records() -> Lent {
     let mut list = [BLANK; shape::MOST_AXES];
     let count = replay::word() as usize / 4;
     let mut k = 0;
@@ -41,7 +41,7 @@ fn records() -> Records {
         }
         k += 1;
     }
-    Records { list, count }
+    Lent { list, count }
 }
 
 // Whether the numbers that follow are those of `chain`, and +0 behind; a zero agrees with a zero of either sign.
@@ -145,7 +145,7 @@ fn left_by(r: answers::Refusal) -> f64 {
 fn call(
     kind: u64,
     s: shape::Shape,
-    r: Records,
+    r: Lent,
     c: f64,
     eps: f64,
     t: f64,
@@ -223,6 +223,27 @@ fn scratch_length(n: usize, short: usize, most: usize) -> usize
     whole
 }
 
+// The call, and whether it agrees with the case. `before` keeps the chain as it was.
+fn run(
+    kind: u64,
+    s: shape::Shape,
+    r: Lent,
+    c: f64,
+    eps: f64,
+    t: f64,
+    steps: usize,
+    chain: &mut [f64],
+    before: &mut [f64],
+    scratch: &mut [f64],
+) -> bool
+    requires { ⌜ length (now chain) ≡ length (now before) ⌝ }
+{
+    lists::copy(chain, before);
+    lists::fill(scratch, MARK);
+    let end = call(kind, s, r, c, eps, t, steps, chain, scratch);
+    judged(end, chain, before, scratch)
+}
+
 // One case: kind, shape, axis records, c, eps, chain, tau or t_final, steps, how many numbers scratch has too few, then the answer.
 fn agrees(chain: &mut [f64], before: &mut [f64], scratch: &mut [f64]) -> bool
     requires { ⌜ length (now chain) ≤ length (now before) ⌝ }
@@ -237,10 +258,18 @@ fn agrees(chain: &mut [f64], before: &mut [f64], scratch: &mut [f64]) -> bool
     let steps = replay::word() as usize;
     let short = replay::word() as usize;
     let room = scratch_length(n, short, scratch.len());
-    lists::copy(&chain[0..n], &mut before[0..n]);
-    lists::fill(&mut scratch[0..room], MARK);
-    let end = call(kind, s, r, c, eps, t, steps, &mut chain[0..n], &mut scratch[0..room]);
-    judged(end, &chain[0..n], &before[0..n], &scratch[0..room])
+    run(
+        kind,
+        s,
+        r,
+        c,
+        eps,
+        t,
+        steps,
+        &mut chain[0..n],
+        &mut before[0..n],
+        &mut scratch[0..room],
+    )
 }
 
 // 1 for a case that agrees; there is room for chains of 8,192 numbers.
