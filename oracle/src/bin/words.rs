@@ -48,7 +48,19 @@ fn rounded(out: &mut Vec<u8>, words: &[&str]) {
     }
 }
 
-/// What is answered: values after 0 and 0, or a refusal, after which a figure of +0 stands where the call has one.
+/// A step or an evolve: which of the two, what is given, the steps (0 for a step), and how many numbers scratch has too few.
+fn stepped(out: &mut Vec<u8>, kind: &str, words: &[&str]) {
+    let step = kind == "step";
+    word(out, !step as u64);
+    let short = words.iter().position(|w| *w == "short");
+    numbers(out, &words[..short.unwrap_or(words.len())]);
+    if step {
+        word(out, 0);
+    }
+    word(out, short.map_or(0, |at| number(words[at + 1]).expect("a number")));
+}
+
+/// What is answered: values after 0 and 0, or a refusal; a refused inner product, step or evolve has a word of 0 behind it.
 fn answer(out: &mut Vec<u8>, kind: &str, words: &[&str]) {
     let place = || number(words[1]).expect("a place");
     let (number, place) = match words[0] {
@@ -62,7 +74,7 @@ fn answer(out: &mut Vec<u8>, kind: &str, words: &[&str]) {
     word(out, place);
     if number == 0 {
         numbers(out, words);
-    } else if kind == "inner" {
+    } else if !matches!(kind, "pair" | "round") {
         word(out, 0);
     }
 }
@@ -78,6 +90,7 @@ fn main() {
         match words[0] {
             "pair" => pair(&mut out, &words[2..given]),
             "round" => rounded(&mut out, &words[2..given]),
+            "step" | "evolve" => stepped(&mut out, words[0], &words[2..given]),
             _ => numbers(&mut out, &words[2..given]),
         }
         answer(&mut out, words[0], &words[given + 1..]);
