@@ -7,10 +7,11 @@ use oracle::tt_chernoff::{cubic_band_weights, TtChernoff, TtState};
 use oracle::tt_core::TtCore;
 
 /// A kind's name, and the function that draws a case of it.
-pub const KINDS: [(&str, fn(&mut Random, &Most, &mut Line)); 8] = [
+pub const KINDS: [(&str, fn(&mut Random, &Most, &mut Line)); 9] = [
     ("round", round),
     ("inner", inner),
     ("step", step),
+    ("edge", edge),
     ("evolve", evolve),
     ("pair", pair),
     ("root", root),
@@ -93,6 +94,54 @@ fn step(r: &mut Random, most: &Most, line: &mut Line) {
     let tau = draw::tau(r);
     let rule = rule(r, tau, &state.cores, line);
     line.float("tau", tau).answer();
+    let end = calls::step(&rule, tau, &mut state);
+    ended(line, &state.cores, end);
+}
+
+/// Settings at the edges of the rules: a, b, xmin, xmax, tau. Whole ratios, offsets far beyond n, the limit of 2^31 and the next f64
+/// above it, a fraction of 1, a spacing of zero, below zero and infinite, a distance of zero and one that is no number.
+const EDGES: [[f64; 5]; 16] = [
+    [0.0, 7.5, 0.0, 2.0, 1.0],
+    [0.0, -7.5, 0.0, 2.0, 1.0],
+    [0.0, 1000.0, 0.0, 2.0, 1.0],
+    [0.0, 2147483648.0, 0.0, 1.0, 1.0],
+    [0.0, -2147483648.0, 0.0, 1.0, 1.0],
+    [0.0, 2147483648.0000005, 0.0, 1.0, 1.0],
+    [0.0, -2147483648.0000005, 0.0, 1.0, 1.0],
+    [0.0, -8.673617379884035e-19, 0.0, 2.0, 1.0],
+    [0.0, 8.673617379884035e-19, 0.0, 2.0, 1.0],
+    [0.25, 1.0, 1.0, 1.0, 1.0],
+    [0.25, 1.0, 1.0, 0.0, 1.0],
+    [0.25, 1.0, -1.7e308, 1.7e308, 1.0],
+    [0.0, 0.0, 0.0, 2.0, 1.0],
+    [0.25, -1.0, 0.0, 2.0, 1.0],
+    [0.25, -1.5, 0.0, 2.0, 1.0],
+    [1e308, -1e308, 0.0, 2.0, 1e308],
+];
+
+/// A step of one core of 1 to 4 points, or of two cores of rank two, with the next settings of the list.
+fn edge(r: &mut Random, most: &Most, line: &mut Line) {
+    let index = line.index();
+    let [a, b, xmin, xmax, tau] = EDGES[index % EDGES.len()];
+    let n = 1 + index / EDGES.len() % 4;
+    let core = |rl: usize, rr: usize, r: &mut Random| TtCore {
+        r_left: rl,
+        n,
+        r_right: rr,
+        data: (0..rl * n * rr).map(|_| draw::eps(r).min(most.size as f64) - 0.75).collect(),
+    };
+    let mut state = TtState {
+        cores: if index < 4 * EDGES.len() { vec![core(1, 1, r)] } else { vec![core(1, 2, r), core(2, 1, r)] },
+    };
+    let d = state.cores.len();
+    line.shape(&state.cores)
+        .floats("axes", &[a, b, xmin, xmax].repeat(d))
+        .float("c", 0.5)
+        .float("eps", 0.0)
+        .chain(&state.cores)
+        .float("tau", tau)
+        .answer();
+    let rule = TtChernoff::new(vec![a; d], vec![b; d], 0.5, vec![(xmin, xmax); d], 0.0);
     let end = calls::step(&rule, tau, &mut state);
     ended(line, &state.cores, end);
 }

@@ -9,6 +9,11 @@ impl Line {
         Line(format!("{kind} {index}"))
     }
 
+    /// the case's number
+    pub fn index(&self) -> usize {
+        self.0.split(' ').nth(1).and_then(|w| w.parse().ok()).expect("a number")
+    }
+
     pub fn word(&mut self, w: impl Display) -> &mut Line {
         write!(self.0, " {w}").unwrap();
         self

@@ -12,7 +12,7 @@ use random::Random;
 use std::io::{BufWriter, Write};
 
 const USAGE: &str = "usage: oracle KIND SEED COUNT [CORES SIZE RANK STEPS]
-  KIND is round, inner, step, evolve, pair, root, floor or weights
+  KIND is round, inner, step, edge, evolve, pair, root, floor or weights
   CORES SIZE RANK STEPS are the most of each that a case has: 16 64 8 200 if not given";
 
 fn main() {

@@ -50,7 +50,7 @@ fn rounded(out: &mut Vec<u8>, words: &[&str]) {
 
 /// A step or an evolve: which of the two, what is given, the steps (0 for a step), and how many numbers scratch has too few.
 fn stepped(out: &mut Vec<u8>, kind: &str, words: &[&str]) {
-    let step = kind == "step";
+    let step = kind != "evolve";
     word(out, !step as u64);
     let short = words.iter().position(|w| *w == "short");
     numbers(out, &words[..short.unwrap_or(words.len())]);
@@ -90,7 +90,7 @@ fn main() {
         match words[0] {
             "pair" => pair(&mut out, &words[2..given]),
             "round" => rounded(&mut out, &words[2..given]),
-            "step" | "evolve" => stepped(&mut out, words[0], &words[2..given]),
+            "step" | "edge" | "evolve" => stepped(&mut out, words[0], &words[2..given]),
             _ => numbers(&mut out, &words[2..given]),
         }
         answer(&mut out, words[0], &words[given + 1..]);
