@@ -7,9 +7,9 @@ use native.Mathlib.Omega.{arith}
 use mathlib.Core.Bool.{Bool, true, false, cond}
 use mir.Syntax.{w64}
 use mir.Val.{Fits}
-use mathlib.Core.List.{List, [], _∷_, _++_}
+use mathlib.Core.List.{List, [], _∷_}
 use lib.Dec.{ltb}
-use lib.ListN.{length, take, drop, getD, set, take-append-drop}
+use lib.ListN.{length, getD, set, take-append-drop}
 use lib.Seq.{set-split}
 use Rattle.lists.specs.Slots.{offset, slot, put, fit}
 use Rattle.lists.proofs.Tests.{ltb-yes, ltb-no}

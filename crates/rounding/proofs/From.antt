@@ -17,24 +17,24 @@ use Rattle.answers.specs.declared.Verdict.the-variants.{Fits, Refused}
 use Rattle.answers.specs.Outcome.{Answer, done, bind, answered}
 use Rattle.answers.proofs.Outcomes.{bind-assoc, bind-cong, bind-done, done-inj}
 use Rattle.lists.specs.Lists.{listed}
-use Rattle.lists.specs.Slots.{offset, slot, put, fit, write}
+use Rattle.lists.specs.Slots.{offset, slot, put, fit}
 use Rattle.lists.specs.Walks.{walk, turning}
 use Rattle.lists.proofs.Tests.{ltb-yes, ltb-no, ltb-is, eqb-is, eqb-not}
 use Rattle.lists.proofs.Tables.{listed-same}
 use Rattle.lists.proofs.Stages.{answer-more, answer-stop, answer-done}
-use Rattle.lists.proofs.Slots.{offset-suc, offset-mono, slot-length, fit-length, fit-used, put-length, slot-put-same, write-none, write-one}
+use Rattle.lists.proofs.Slots.{offset-mono, slot-length, fit-length, fit-used, put-length, slot-put-same, write-none, write-one}
 use Rattle.lists.proofs.Written.{slot-put-other}
 use Rattle.shape.specs.declared.Shape.{Shape}
 use Rattle.shape.specs.Limits.{mostAxes, mostRank}
 use Rattle.shape.specs.Shapes.{leftOf, pointsOf, rightOf, coreSize, entriesOf}
-use Rattle.shape.specs.Sizes.{SizesWithin, Inside}
-use Rattle.shape.specs.Cores.{Core, coreWith, standing, withCore, reshaped}
+use Rattle.shape.specs.Sizes.{Inside}
+use Rattle.shape.specs.Cores.{Core, standing, withCore, reshaped}
 use Rattle.shape.proofs.Ranks.{left-other, right-other, size-other, left-here, right-here, still-within}
-use Rattle.rounding.specs.Rounding.{Carry, none, some, Cut, roundCore, coresIn}
+use Rattle.rounding.specs.Rounding.{Carry, some, Cut, roundCore, coresIn}
 use Rattle.rounding.specs.Keeping.{bondSize, carrySize, Stepped, rankAt, rankIn, numbersIn, keepStep, carryLeft, roundFrom}
 use Rattle.rounding.specs.Slots.{turned, zoneTurn, rankLeft, AtZone}
 use Rattle.rounding.proofs.Cuts.{Carried, volume, rankOn, CutOf, round-carried, round-of}
-use Rattle.rounding.proofs.Bonds.{bond-one, bond-put, end-put}
+use Rattle.rounding.proofs.Bonds.{bond-put}
 
 by-case : {P : Type 0} (j k : ℕ) → (j ≡ k → P) → ((j ≡ k → ⊥) → P) → P
 by-case {P} j k here else = go (eqb j k) refl

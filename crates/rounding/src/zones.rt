@@ -2,9 +2,8 @@
 // in a slot of its own.
 ghost use mathlib.Core.Path.{_≡_};
 ghost use mathlib.Core.Bool.{true, false};
-ghost use Prim.Native.Nat.{ℕ, suc, _+_, _-_, _*_, _≤_, _<_};
+ghost use Prim.Native.Nat.{_+_, _-_, _*_, _≤_, _<_};
 ghost use mathlib.Core.List.{[], _++_};
-ghost use lib.Dec.{ltb};
 ghost use lib.ListN.{length, take, drop, set};
 ghost use Rattle.answers.specs.declared.Verdict.the-variants.{Fits, Refused};
 ghost use Rattle.answers.specs.Outcome.{staged, answered, bind, done};
