@@ -15,7 +15,7 @@ use Rattle.stepping.specs.declared.Settings.{Settings}
 use Rattle.stepping.specs.Zones.{zonesOf, rules}
 use Rattle.stepping.specs.Steps.{shiftZone, scaleZone, roundZone, stepFrom, step}
 
-zones-length : (xs : List Axis) (k : ℕ) (cs : List Core) → length (zonesOf xs k cs) ≡ length cs
+pub zones-length : (xs : List Axis) (k : ℕ) (cs : List Core) → length (zonesOf xs k cs) ≡ length cs
 unfolding zonesOf
 zones-length xs k [] = refl
 zones-length xs k (c ∷ cs) = ap suc (zones-length xs (suc k) cs)

@@ -1,0 +1,113 @@
+-- The work of a step is refused with 9 alone: no refusal of it leaves scratch unwritten. Assumes nothing.
+use mathlib.Core.Path.{_≡_, refl, sym, ap, _∙_}
+use Prim.Native.Nat.{ℕ, zero, suc}
+use mathlib.Core.Bool.{Bool, true, false}
+use mathlib.Core.List.{List, [], _∷_, map}
+use lib.ListN.{length}
+use lib.Ieee.{Float}
+use Rattle.answers.specs.declared.Part.{Part}
+use Rattle.answers.specs.declared.Part.the-variants.{Entry, Spectrum, Factor}
+use Rattle.answers.specs.declared.Refusal.{Refusal}
+use Rattle.answers.specs.Outcome.{Answer, Made, done, refused, bind, making}
+use Rattle.answers.specs.Table.{beforeWork}
+use Rattle.answers.proofs.Outcomes.{done-refused, refused-inj}
+use Rattle.numbers.specs.Arithmetic.{plus, times, one64}
+use Rattle.lists.specs.Floats.{stored}
+use Rattle.lists.specs.Walks.{every, walk}
+use Rattle.shape.specs.Cores.{Core, coreWith}
+use Rattle.axes.specs.declared.Axis.{Axis}
+use Rattle.shift.specs.declared.Shift.{Shift}
+use Rattle.shift.specs.declared.Shift.the-variants.{Stay, By}
+use Rattle.shift.specs.Shifts.{shiftOf, shifted, moveCore, scaled}
+use Rattle.factors.specs.Factors.{leftFactor, carryOf}
+use Rattle.bond.specs.Bonds.{gram, cutBond, absorb}
+use Rattle.rotation.specs.Rotation.{eye}
+use Rattle.sweeps.specs.Sweeps.{eig, diagonalized}
+use Rattle.values.specs.Values.{singulars, order, sorted, keptRank}
+use Rattle.rounding.specs.Rounding.{Carry, none, some, takenIn, cutIf, roundCore, coresIn}
+use Rattle.stepping.specs.declared.Settings.{Settings}
+use Rattle.stepping.specs.Zones.{Zone, zonesOf, rules}
+use Rattle.stepping.specs.Steps.{holding, shiftZone, scaleZone, roundZone, stepFrom, step, stepsAndOne}
+
+abbrev pub Late : {A : Type 0} → Answer A → Type 0
+Late o = (q : Refusal) → o ≡ refused q → beforeWork q ≡ false
+
+late-done : {A : Type 0} (a : A) → Late (done a)
+late-done a q e = absurd (done-refused e)
+
+late-making : {A : Type 0} (p : Part) (k : ℕ) (m : Made A) → Late (making p k m)
+late-making p k (done a) q e = absurd (done-refused e)
+late-making p k (refused i) q e = ap beforeWork (sym (refused-inj e))
+
+late-bind : {A B : Type 0} (o : Answer A) (f : A → Answer B) → Late o → ((a : A) → Late (f a)) → Late (bind o f)
+late-bind (done a) f h g = g a
+late-bind (refused r) f h g = λ q e. ap beforeWork (sym (refused-inj e)) ∙ h r refl
+
+late-every : {X Y : Type 0} (f : ℕ → X → Answer Y) → ((k : ℕ) (x : X) → Late (f k x)) → (k : ℕ) (xs : List X) → Late (every f k xs)
+unfolding every
+late-every f h k [] = late-done []
+late-every f h k (x ∷ xs) = late-bind (f k x) _ (h k x) (λ y. late-bind (every f (suc k) xs) _ (late-every f h (suc k) xs) (λ ys. late-done (y ∷ ys)))
+
+late-walk : {S X Y : Type 0} (f : ℕ → S → X → Answer (S × Y)) → ((k : ℕ) (s : S) (x : X) → Late (f k s x)) → (k : ℕ) (s : S) (xs : List X) → Late (walk f k s xs)
+unfolding walk
+late-walk f h k s [] = late-done []
+late-walk f h k s (x ∷ xs) = late-bind (f k s x) _ (h k s x) (λ r. late-bind (walk f (suc k) (r .0) xs) _ (late-walk f h (suc k) (r .0) xs) (λ rs. late-done (r ∷ rs)))
+
+-- ---- one core
+late-cut : (k : ℕ) (eps : Float) (c : Core) → Late (cutBond k eps c)
+unfolding cutBond
+late-cut k eps c =
+    late-bind (making Spectrum k (stored (gram c))) _ (late-making Spectrum k (stored (gram c))) (λ g.
+    late-bind (making Spectrum k (diagonalized (c .rr) (eig g (eye (c .rr))))) _ (late-making Spectrum k (diagonalized (c .rr) (eig g (eye (c .rr))))) (λ w.
+    late-bind (making Spectrum k (stored (singulars (c .rr) (w .eig .g)))) _ (late-making Spectrum k (stored (singulars (c .rr) (w .eig .g)))) (λ sv.
+    let js = order (c .rr) sv in
+    let ss = sorted (c .rr) sv in
+    let r = keptRank eps (c .rr) ss in
+    late-bind (making Factor k (stored (leftFactor c r ss js (w .eig .v)))) _ (late-making Factor k (stored (leftFactor c r ss js (w .eig .v)))) (λ u.
+    late-bind (making Factor k (stored (carryOf (c .rr) r ss js (w .eig .v)))) _ (late-making Factor k (stored (carryOf (c .rr) r ss js (w .eig .v)))) (λ b.
+    late-done (record { core = coreWith (c .rl) (c .n) r u; sweeps = w .count; settles = w .settles; carry = b }))))))
+
+late-taken : (k : ℕ) (s : Carry) (c : Core) → Late (takenIn k s c)
+late-taken k none c = late-done c
+late-taken k (some r b) c = late-bind (making Factor k (stored (absorb r b c))) _ (late-making Factor k (stored (absorb r b c))) (λ l. late-done (coreWith r (c .n) (c .rr) l))
+
+late-cut-if : (more : Bool) (k : ℕ) (eps : Float) (c : Core) → Late (cutIf more k eps c)
+late-cut-if true k eps c = late-bind (cutBond k eps c) _ (late-cut k eps c) (λ b. late-done (some (b .core .rr) (b .carry), record { core = b .core; counts = b .sweeps ∷ []; flags = b .settles ∷ [] }))
+late-cut-if false k eps c = late-done (none, record { core = c; counts = []; flags = [] })
+
+late-round : (eps : Float) (more : Bool) (k : ℕ) (s : Carry) (c : Core) → Late (roundCore eps more k s c)
+unfolding roundCore
+late-round eps more k s c = late-bind (takenIn k s c) _ (late-taken k s c) (λ t. late-cut-if more k eps t)
+
+late-move : (k : ℕ) (s : Shift) (c : Core) → Late (moveCore k s c)
+late-move k Stay c = late-done (c .entries)
+late-move k (By ratio) c = late-making Entry k (stored (shifted c ratio))
+
+module _ (t : Settings) where
+  late-shift : (k : ℕ) (z : Zone) → Late (shiftZone rules t k z)
+  unfolding shiftZone rules
+  late-shift k z = let far = shiftOf (z .axis) (t .tau) (z .core .n) in late-bind (moveCore k far (z .core)) _ (late-move k far (z .core)) (λ l. late-done (holding (z .core) l))
+
+  late-scale : (k : ℕ) (c : Core) → Late (scaleZone rules t k c)
+  unfolding scaleZone rules scaled
+  late-scale zero c =
+      let m = stored (map (λ (v : Float). times v (plus one64 (times (t .tau) (t .c)))) (c .entries)) in
+      late-bind (making Entry 0 m) _ (late-making Entry 0 m) (λ l. late-done (holding c l))
+  late-scale (suc k) c = late-done c
+
+  late-zone : (d k : ℕ) (s : Carry) (c : Core) → Late (roundZone rules t d k s c)
+  unfolding roundZone rules
+  late-zone d k s c = late-round (t .eps) _ k s c
+
+  -- ---- steps
+  late-step : (xs : List Axis) (cs : List Core) → Late (step t xs cs)
+  unfolding step stepFrom
+  late-step xs cs =
+      late-bind (every (shiftZone rules t) 0 (zonesOf xs 0 cs)) _ (late-every (shiftZone rules t) late-shift 0 (zonesOf xs 0 cs)) (λ a.
+      late-bind (every (scaleZone rules t) 0 a) _ (late-every (scaleZone rules t) late-scale 0 a) (λ b.
+      late-walk (roundZone rules t (length cs)) (late-zone (length cs)) 0 none b))
+
+  pub late-steps : (m : ℕ) (xs : List Axis) (cs : List Core) → Late (stepsAndOne m t xs cs)
+  unfolding stepsAndOne
+  late-steps zero xs cs = late-step xs cs
+  late-steps (suc m) xs cs = late-bind (step t xs cs) _ (late-step xs cs) (λ tr. late-steps m xs (coresIn tr))

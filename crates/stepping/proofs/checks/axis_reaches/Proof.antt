@@ -1,0 +1,24 @@
+-- `stepping::checks::axis_reaches` meets its contract. Assumes nothing.
+use borrow.Author.Needs.{needs}
+use Rattle.stepping.proofs.checks.axis_reaches.Reads as reads
+use Rattle.stepping.proofs.checks.axis_reaches.Lts as lts
+use Rattle.axes.proofs.axis_in.Reads as axis-in-reads
+use Rattle.shift.proofs.reaches.Reads as reaches-reads
+use Rattle.shift.proofs.shift_of.Reads as shift-of-reads
+use Rattle.stepping.proofs.Verdicts.{reaches-found}
+use Rattle.stepping.proofs.checks.axis_reaches.Statement.{statement}
+use Rattle.stepping.proofs.checks.axis_reaches.Tie as tie
+
+ruleset ways = (needs, reaches-found)
+
+shift-of-requires : tie.Need-shift-of-requires
+shift-of-requires c κs = c .before .before .pre .0 .points _ (c .before .before .pre .1) .1
+
+pub axis-reaches-spec : {M : Type 1} → statement M
+axis-reaches-spec = tie.close (tie.spec
+    (λ c κs. search ways)
+    (λ c. search ways)
+    (λ c. search ways)
+    shift-of-requires
+    (λ c κs. search ways)
+    (λ c. search ways))

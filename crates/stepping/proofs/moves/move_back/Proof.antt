@@ -1,0 +1,29 @@
+-- `stepping::moves::move_back` meets its contract. Assumes nothing.
+use borrow.Author.Needs.{needs}
+use Rattle.stepping.proofs.Fronts.{part-is, part-read, part-back}
+use mathlib.Core.Path.{_∙_, sym, ap}
+use native.Mathlib.Nat.{sub-zero}
+use Rattle.answers.specs.Outcome.{answered}
+use Rattle.stepping.proofs.moves.move_back.Statement.{statement}
+use Rattle.stepping.proofs.moves.move_back.Tie as tie
+
+move-core-requires : tie.Need-move-core-requires
+move-core-requires c κs = (rw (sub-zero, part-is _ _ _ (c .before .before .before .before .before .before .pre .0 .1)) (c .before .before .before .before .before .before .pre .1 .0), c .before .before .before .before .before .before .pre .1 .1)
+
+returns : tie.Need-returns
+returns c = (rw sub-zero at (c .before .before .before .before .move-core .ensures) ∙ ap (answered _) (sym (part-read _ _ _ (c .before .before .before .before .before .before .before .before .before .before .before .pre .0 .1) (c .before .before .before .before .move-core .last .1 .1 .1 .1 .1 .1 .0) (c .before .before .before .before .move-core .kept .1 .1 .1 .1 .1 .1 .0))), part-back _ _ _ (c .before .before .before .before .before .before .before .before .before .before .before .pre .0 .1) (c .before .before .before .before .move-core .last .1 .1 .1 .1 .1 .1 .0) (c .before .before .before .before .move-core .kept .1 .1 .1 .1 .1 .1 .0))
+
+pub move-back-spec : {M : Type 1} → statement M
+move-back-spec = tie.close (tie.spec
+    (λ c. search needs)
+    (λ c. search needs)
+    (λ c. search needs)
+    (λ c. search needs)
+    (λ c. search needs)
+    (λ c. search needs)
+    (λ c. search needs)
+    (λ c. search needs)
+    move-core-requires
+    (λ c. search needs)
+    (λ c. search needs)
+    returns)
