@@ -1,0 +1,2 @@
+pub mod Bonded
+pub mod Fronts

@@ -1,0 +1,3 @@
+// What a kept run is asked before any work on it.
+pub mod ranks;
+pub mod rooms;
