@@ -20,3 +20,4 @@ pub mod Demand3
 pub mod NotInOrder
 -- small runs, computed
 pub mod Computed
+pub mod Asks
