@@ -21,3 +21,4 @@ pub mod NotInOrder
 -- small runs, computed
 pub mod Computed
 pub mod Asks
+pub mod InRow

@@ -11,7 +11,12 @@ ghost use Rattle.asking.specs.Ranks.{rankHeld};
 ghost use Rattle.asking.specs.Slices.{lentBy};
 ghost use Rattle.runs.specs.Kept.{keptOf};
 ghost use Rattle.runs.specs.Checks.{loneFinite, loneOk};
-ghost use Rattle.runs.specs.Asking.{zoneFound, foundNumbers};
+ghost use Rattle.stepping.specs.Zones.{rules};
+ghost use Rattle.runs.specs.Requests.{newWeights, replaceOk};
+ghost use Rattle.runs.specs.Asking.{zoneFound, foundNumbers, scratchOf};
+
+// What scratch has beside four times the chain's numbers.
+const SCRATCH_BESIDE: usize = 2048;
 
 // The lone settings and the figure are finite.
 fn lone_finite(set: stepping::Settings, figure: f64) -> bool
@@ -83,4 +88,41 @@ pub fn numbers_found(
     let lone = lone_finite(set, r.figure);
     let mild = lone_ok(set);
     asking::found::numbers_ok(lone, number, mild, setting, d)
+}
+
+// All that new weights ask.
+pub fn weights_ok(
+    r: super::Run,
+    z: usize,
+    source: &[f64],
+    weights: &[f64],
+    chain: &[f64],
+    carries: &[f64],
+    sums: &[f64],
+    part: &[f64],
+    scratch: usize,
+) -> answers::Verdict
+    ensures { λ v. ⌜ v ≡ verdictOf (replaceOk rules (scratchOf (r .shape) 6 scratch) (keptOf r (now (source .entry)) (now (weights .entry)) (now (chain .entry)) (now (carries .entry)) (now (sums .entry))) (newWeights z (now (part .entry)))) ⌝ }
+{
+    let s = r.shape;
+    let ranks = r.ranks;
+    let l = asking::found::Lengths {
+        source: source.len(),
+        weights: weights.len(),
+        chain: chain.len(),
+        carries: carries.len(),
+        sums: sums.len(),
+    };
+    let found = asking::found::found_ok(s, ranks, z, l);
+    if let answers::Verdict::Refused(q) = found {
+        return answers::Verdict::Refused(q);
+    }
+    if part.len() != s.n[z] {
+        return answers::Verdict::Refused(answers::Refusal::Length(5));
+    }
+    if scratch != 4 * s.entries() + SCRATCH_BESIDE {
+        return answers::Verdict::Refused(answers::Refusal::Length(6));
+    }
+    let finite = lists::all_finite(part);
+    numbers_found(r, z, finite, true, source, weights, chain, carries, sums)
 }
