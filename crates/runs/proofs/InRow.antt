@@ -1,6 +1,6 @@
 -- The checks of a replacement in a row, by what code finds on its way. Assumes nothing.
 use mathlib.Core.Path.{_≡_, refl, sym, ap, _∙_}
-use Prim.Native.Nat.{ℕ, _+_, _*_, _≤_, _<_}
+use Prim.Native.Nat.{ℕ, _+_, _-_, _*_, _<_}
 use native.Mathlib.Omega.{arith}
 use mathlib.Core.Bool.{Bool, true, false, _&&_}
 use mathlib.Core.List.{List}
@@ -9,7 +9,7 @@ use lib.ListN.{length}
 use lib.Ieee.{Float}
 use Rattle.numbers.specs.Finite.{finite}
 use Rattle.answers.specs.declared.Refusal.{Refusal}
-use Rattle.answers.specs.declared.Refusal.the-variants.{Zone, Length, Number, Setting}
+use Rattle.answers.specs.declared.Refusal.the-variants.{Zone, Length, Number, Setting, Reach}
 use Rattle.answers.specs.declared.Verdict.{Verdict}
 use Rattle.answers.specs.declared.Verdict.the-variants.{Fits, Refused}
 use Rattle.answers.specs.Outcome.{done, refused, Check, _then_, demand, demandEach, verdictOf}
@@ -19,15 +19,18 @@ use Rattle.lists.specs.Floats.{allFinite}
 use Rattle.lists.proofs.Tests.{ltb-is}
 use Rattle.shape.specs.declared.Shape.{Shape}
 use Rattle.shape.specs.Limits.{scratchFor}
-use Rattle.shape.specs.Shapes.{shapeOk, entriesOf, allPoints, pointsOf, pointSize}
+use Rattle.shape.specs.Shapes.{shapeOk, entriesOf, allPoints, pointsOf, coreSize, pointSize}
+use Rattle.shape.specs.Cores.{coreAt}
 use Rattle.axes.specs.Axes.{axisOk}
-use Rattle.stepping.specs.Zones.{axisAt, Rules}
+use Rattle.stepping.specs.Zones.{axisAt, Rules, rules}
+use Rattle.stepping.specs.Call.{reachesAt}
+use Rattle.stepping.specs.Over.{axisReaches}
 use Rattle.asking.specs.Ranks.{rankHeld}
 use Rattle.asking.specs.Slices.{lentBy, foundBy}
 use Rattle.asking.proofs.Guards.{size-stops, size-passes}
-use Rattle.runs.specs.Kept.{Kept, allCarries, allSums}
-use Rattle.runs.specs.Checks.{rankOk, inputsLent, keptLent, loneFinite, loneOk, zoneFinite, keptFinite}
-use Rattle.runs.specs.Requests.{Request, newWeights, zoneOf, partFits, partFinite, partOk, present, shiftsOk, numbersOk, replaceOk}
+use Rattle.runs.specs.Kept.{Inputs, Kept, allCarries, allSums}
+use Rattle.runs.specs.Checks.{rankOk, inputsLent, keptLent, inReachAt, loneFinite, loneOk, zoneFinite, keptFinite}
+use Rattle.runs.specs.Requests.{Request, newCore, newWeights, zoneOf, partFits, partFinite, partOk, present, shiftsOk, numbersOk, replaceOk}
 use Rattle.runs.specs.Asking.{zoneFound, foundNumbers, scratchOf}
 
 -- seven checks and what follows, however they are grouped
@@ -122,3 +125,67 @@ module _ (R : Rules) (k : Kept) (z : ℕ) (ws : List Float) where
       weights-fit o part p w y =
           go w (size-passes (numbersOk R k (newWeights z ws)) (Length 6) n (scratchFor (entriesOf (k .inputs .shape))) (4 * m + 2048) (ap (λ (x : ℕ). 4 * x + 2048) g) o w
           (y ∙ ap (λ (b : Bool). verdictOf (foundNumbers k z b true)) p ∙ ap verdictOf (sym weights-numbers)))
+
+-- ---- a new core
+-- a shift's reach hangs on the axis alone
+pub reach-is : (i : Inputs) (k : ℕ) → axisReaches (i .set) (i .shape) (i .axes) k ≡ inReachAt rules i k
+unfolding axisReaches inReachAt reachesAt rules coreAt
+reach-is i k = refl
+
+module _ (k : Kept) (z : ℕ) (xs : List Float) where
+  abbrev shifts : Check
+  shifts = demandEach Reach (axisReaches (k .inputs .set) (k .inputs .shape) (k .inputs .axes)) (k .inputs .shape .d - z) z
+
+  core-numbers : numbersOk rules k (newCore z xs) ≡ foundNumbers k z (allFinite xs) true then shifts
+  unfolding numbersOk foundNumbers zoneFound
+  core-numbers =
+      let d = k .inputs .shape .d in
+      let a = demand (loneFinite (k .inputs .set) && finite (k .summed .figure)) (Number 0) in
+      let b = demandEach Number (λ (j : ℕ). zoneFound k j && pick (eqb j z) (allFinite xs) true) d 0 in
+      let c = demand (loneOk (k .inputs .set)) (Setting 0) in
+      let e = demandEach Setting (λ (j : ℕ). axisOk (axisAt (k .inputs .axes) j) && pick (eqb j z) true true) d 0 in
+      let i = present (k .inputs) (newCore z xs) in
+      ap (λ (x : Check). a then b then c then x)
+      (then-on (demandEach Setting (λ (j : ℕ). axisOk (axisAt (k .inputs .axes) j) && true) d 0) e (demandEach Reach (inReachAt rules i) (d - z) z) shifts
+      (each-same Setting (λ (j : ℕ). axisOk (axisAt (k .inputs .axes) j) && true) (λ (j : ℕ). axisOk (axisAt (k .inputs .axes) j) && pick (eqb j z) true true) d 0 (λ j a b. ap (λ (x : Bool). axisOk (axisAt (k .inputs .axes) j) && x) (sym (pick-any (eqb j z)))))
+      (each-same Reach (inReachAt rules i) (axisReaches (k .inputs .set) (k .inputs .shape) (k .inputs .axes)) (d - z) z (λ j a b. sym (reach-is i j))))
+      ∙ four a b c e shifts
+    where
+      four : (a b c e o : Check) → a then b then c then e then o ≡ (a then b then c then e) then o
+      four (refused r) b c e o = refl
+      four (done t1) (refused r) c e o = refl
+      four (done t1) (done t2) (refused r) e o = refl
+      four (done t1) (done t2) (done t3) e o = refl
+
+  module _ (n : ℕ) (v : Verdict) (e : v ≡ verdictOf (foundAs k z)) (h : v ≡ Fits) (l : ℕ) (sz : l ≡ coreSize (k .inputs .shape) z) where
+    abbrev CoreAsks : Check
+    CoreAsks = replaceOk rules (scratchOf (k .inputs .shape) 6 n) k (newCore z xs)
+
+    abbrev behind : Check
+    behind = scratchOf (k .inputs .shape) 6 n then numbersOk rules k (newCore z xs)
+
+    pub core-wrong : (length xs ≡ l → ⊥) → Refused (Length 5) ≡ verdictOf CoreAsks
+    core-wrong f = found-goes rules (scratchOf (k .inputs .shape) 6 n) k (newCore z xs) v e h (Refused (Length 5)) (size-stops behind (Length 5) (length xs) (coreSize (k .inputs .shape) z) l sz f)
+
+    module _ (f : length xs ≡ l) (m : ℕ) (g : m ≡ entriesOf (k .inputs .shape)) where
+      past : (w : Verdict) → w ≡ verdictOf behind → w ≡ verdictOf CoreAsks
+      past w o = found-goes rules (scratchOf (k .inputs .shape) 6 n) k (newCore z xs) v e h w (size-passes behind (Length 5) (length xs) (coreSize (k .inputs .shape) z) l sz f w o)
+
+      pub core-room : (n ≡ 4 * m + 2048 → ⊥) → Refused (Length 6) ≡ verdictOf CoreAsks
+      unfolding scratchOf
+      core-room o = past (Refused (Length 6)) (size-stops (numbersOk rules k (newCore z xs)) (Length 6) n (scratchFor (entriesOf (k .inputs .shape))) (4 * m + 2048) (ap (λ (x : ℕ). 4 * x + 2048) g) o)
+
+      module _ (o : n ≡ 4 * m + 2048) (part : Bool) (p : part ≡ allFinite xs) (u : Verdict) (y : u ≡ verdictOf (foundNumbers k z part true)) where
+        onward : (w : Verdict) → w ≡ verdictOf (foundNumbers k z (allFinite xs) true then shifts) → w ≡ verdictOf CoreAsks
+        unfolding scratchOf
+        onward w i =
+            past w (size-passes (numbersOk rules k (newCore z xs)) (Length 6) n (scratchFor (entriesOf (k .inputs .shape))) (4 * m + 2048) (ap (λ (x : ℕ). 4 * x + 2048) g) o w (i ∙ ap verdictOf (sym core-numbers)))
+
+        told : u ≡ verdictOf (foundNumbers k z (allFinite xs) true)
+        told = y ∙ ap (λ (b : Bool). verdictOf (foundNumbers k z b true)) p
+
+        pub core-stops : (r : Refusal) → u ≡ Refused r → Refused r ≡ verdictOf CoreAsks
+        core-stops r i = onward (Refused r) (then-stops (foundNumbers k z (allFinite xs) true) shifts u told r i)
+
+        pub core-fits : u ≡ Fits → (w : Verdict) → w ≡ verdictOf shifts → w ≡ verdictOf CoreAsks
+        core-fits i w j = onward w (then-passes (foundNumbers k z (allFinite xs) true) shifts u told w i j)

@@ -12,7 +12,7 @@ ghost use Rattle.asking.specs.Slices.{lentBy};
 ghost use Rattle.runs.specs.Kept.{keptOf};
 ghost use Rattle.runs.specs.Checks.{loneFinite, loneOk};
 ghost use Rattle.stepping.specs.Zones.{rules};
-ghost use Rattle.runs.specs.Requests.{newWeights, replaceOk};
+ghost use Rattle.runs.specs.Requests.{newCore, newWeights, replaceOk};
 ghost use Rattle.runs.specs.Asking.{zoneFound, foundNumbers, scratchOf};
 
 // What scratch has beside four times the chain's numbers.
@@ -125,4 +125,47 @@ pub fn weights_ok(
     }
     let finite = lists::all_finite(part);
     numbers_found(r, z, finite, true, source, weights, chain, carries, sums)
+}
+
+// All that a new core asks.
+pub fn core_ok(
+    r: super::Run,
+    z: usize,
+    source: &[f64],
+    weights: &[f64],
+    chain: &[f64],
+    carries: &[f64],
+    sums: &[f64],
+    part: &[f64],
+    scratch: usize,
+) -> answers::Verdict
+    ensures { λ v. ⌜ v ≡ verdictOf (replaceOk rules (scratchOf (r .shape) 6 scratch) (keptOf r (now (source .entry)) (now (weights .entry)) (now (chain .entry)) (now (carries .entry)) (now (sums .entry))) (newCore z (now (part .entry)))) ⌝ }
+{
+    let s = r.shape;
+    let ranks = r.ranks;
+    let l = asking::found::Lengths {
+        source: source.len(),
+        weights: weights.len(),
+        chain: chain.len(),
+        carries: carries.len(),
+        sums: sums.len(),
+    };
+    let found = asking::found::found_ok(s, ranks, z, l);
+    if let answers::Verdict::Refused(q) = found {
+        return answers::Verdict::Refused(q);
+    }
+    if part.len() != s.core_size(z) {
+        return answers::Verdict::Refused(answers::Refusal::Length(5));
+    }
+    if scratch != 4 * s.entries() + SCRATCH_BESIDE {
+        return answers::Verdict::Refused(answers::Refusal::Length(6));
+    }
+    let finite = lists::all_finite(part);
+    let numbers = numbers_found(r, z, finite, true, source, weights, chain, carries, sums);
+    if let answers::Verdict::Refused(q) = numbers {
+        return answers::Verdict::Refused(q);
+    }
+    let set = r.set;
+    let xs = r.axes;
+    asking::rooms::reaches_ok(z, set, s, xs)
 }
