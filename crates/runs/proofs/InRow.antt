@@ -5,7 +5,7 @@ use native.Mathlib.Omega.{arith}
 use mathlib.Core.Bool.{Bool, true, false, _&&_}
 use mathlib.Core.List.{List}
 use lib.Dec.{ltb, eqb}
-use lib.ListN.{length}
+use lib.ListN.{length, set}
 use lib.Ieee.{Float}
 use Rattle.numbers.specs.Finite.{finite}
 use Rattle.answers.specs.declared.Refusal.{Refusal}
@@ -21,7 +21,8 @@ use Rattle.shape.specs.declared.Shape.{Shape}
 use Rattle.shape.specs.Limits.{scratchFor}
 use Rattle.shape.specs.Shapes.{shapeOk, entriesOf, allPoints, pointsOf, coreSize, pointSize}
 use Rattle.shape.specs.Cores.{coreAt}
-use Rattle.axes.specs.Axes.{axisOk}
+use Rattle.axes.specs.Axes.{axisFinite, axisOk}
+use Rattle.axes.specs.declared.Axis.{Axis}
 use Rattle.stepping.specs.Zones.{axisAt, Rules, rules}
 use Rattle.stepping.specs.Call.{reachesAt}
 use Rattle.stepping.specs.Over.{axisReaches}
@@ -30,7 +31,7 @@ use Rattle.asking.specs.Slices.{lentBy, foundBy}
 use Rattle.asking.proofs.Guards.{size-stops, size-passes}
 use Rattle.runs.specs.Kept.{Inputs, Kept, allCarries, allSums}
 use Rattle.runs.specs.Checks.{rankOk, inputsLent, keptLent, inReachAt, loneFinite, loneOk, zoneFinite, keptFinite}
-use Rattle.runs.specs.Requests.{Request, newCore, newWeights, zoneOf, partFits, partFinite, partOk, present, shiftsOk, numbersOk, replaceOk}
+use Rattle.runs.specs.Requests.{Request, newCore, newAxis, newWeights, zoneOf, partFits, partFinite, partOk, present, shiftsOk, numbersOk, replaceOk}
 use Rattle.runs.specs.Asking.{zoneFound, foundNumbers, scratchOf}
 
 -- seven checks and what follows, however they are grouped
@@ -126,6 +127,12 @@ module _ (R : Rules) (k : Kept) (z : ℕ) (ws : List Float) where
           go w (size-passes (numbersOk R k (newWeights z ws)) (Length 6) n (scratchFor (entriesOf (k .inputs .shape))) (4 * m + 2048) (ap (λ (x : ℕ). 4 * x + 2048) g) o w
           (y ∙ ap (λ (b : Bool). verdictOf (foundNumbers k z b true)) p ∙ ap verdictOf (sym weights-numbers)))
 
+four : (a b c e o : Check) → a then b then c then e then o ≡ (a then b then c then e) then o
+four (refused r) b c e o = refl
+four (done t1) (refused r) c e o = refl
+four (done t1) (done t2) (refused r) e o = refl
+four (done t1) (done t2) (done t3) e o = refl
+
 -- ---- a new core
 -- a shift's reach hangs on the axis alone
 pub reach-is : (i : Inputs) (k : ℕ) → axisReaches (i .set) (i .shape) (i .axes) k ≡ inReachAt rules i k
@@ -150,12 +157,6 @@ module _ (k : Kept) (z : ℕ) (xs : List Float) where
       (each-same Setting (λ (j : ℕ). axisOk (axisAt (k .inputs .axes) j) && true) (λ (j : ℕ). axisOk (axisAt (k .inputs .axes) j) && pick (eqb j z) true true) d 0 (λ j a b. ap (λ (x : Bool). axisOk (axisAt (k .inputs .axes) j) && x) (sym (pick-any (eqb j z)))))
       (each-same Reach (inReachAt rules i) (axisReaches (k .inputs .set) (k .inputs .shape) (k .inputs .axes)) (d - z) z (λ j a b. sym (reach-is i j))))
       ∙ four a b c e shifts
-    where
-      four : (a b c e o : Check) → a then b then c then e then o ≡ (a then b then c then e) then o
-      four (refused r) b c e o = refl
-      four (done t1) (refused r) c e o = refl
-      four (done t1) (done t2) (refused r) e o = refl
-      four (done t1) (done t2) (done t3) e o = refl
 
   module _ (n : ℕ) (v : Verdict) (e : v ≡ verdictOf (foundAs k z)) (h : v ≡ Fits) (l : ℕ) (sz : l ≡ coreSize (k .inputs .shape) z) where
     abbrev CoreAsks : Check
@@ -189,3 +190,47 @@ module _ (k : Kept) (z : ℕ) (xs : List Float) where
 
         pub core-fits : u ≡ Fits → (w : Verdict) → w ≡ verdictOf shifts → w ≡ verdictOf CoreAsks
         core-fits i w j = onward w (then-passes (foundNumbers k z (allFinite xs) true) shifts u told w i j)
+
+-- ---- a new axis record
+module _ (k : Kept) (z : ℕ) (x : Axis) where
+  abbrev newShifts : Check
+  newShifts = demandEach Reach (axisReaches (k .inputs .set) (k .inputs .shape) (set (k .inputs .axes) z x)) (k .inputs .shape .d - z) z
+
+  axis-numbers : numbersOk rules k (newAxis z x) ≡ foundNumbers k z (axisFinite x) (axisOk x) then newShifts
+  unfolding numbersOk foundNumbers zoneFound
+  axis-numbers =
+      let d = k .inputs .shape .d in
+      let a = demand (loneFinite (k .inputs .set) && finite (k .summed .figure)) (Number 0) in
+      let b = demandEach Number (λ (j : ℕ). zoneFound k j && pick (eqb j z) (axisFinite x) true) d 0 in
+      let c = demand (loneOk (k .inputs .set)) (Setting 0) in
+      let e = demandEach Setting (λ (j : ℕ). axisOk (axisAt (k .inputs .axes) j) && pick (eqb j z) (axisOk x) true) d 0 in
+      let i = present (k .inputs) (newAxis z x) in
+      ap (λ (o : Check). a then b then c then e then o) (each-same Reach (inReachAt rules i) (axisReaches (k .inputs .set) (k .inputs .shape) (set (k .inputs .axes) z x)) (d - z) z (λ j a b. sym (reach-is i j)))
+      ∙ four a b c e newShifts
+
+  module _ (n : ℕ) (v : Verdict) (e : v ≡ verdictOf (foundAs k z)) (h : v ≡ Fits) (m : ℕ) (g : m ≡ entriesOf (k .inputs .shape)) where
+    abbrev AxisAsks : Check
+    AxisAsks = replaceOk rules (scratchOf (k .inputs .shape) 5 n) k (newAxis z x)
+
+    beyond : (w : Verdict) → w ≡ verdictOf (scratchOf (k .inputs .shape) 5 n then numbersOk rules k (newAxis z x)) → w ≡ verdictOf AxisAsks
+    unfolding demand
+    beyond w o = found-goes rules (scratchOf (k .inputs .shape) 5 n) k (newAxis z x) v e h w o
+
+    pub axis-room : (n ≡ 4 * m + 2048 → ⊥) → Refused (Length 5) ≡ verdictOf AxisAsks
+    unfolding scratchOf
+    axis-room o = beyond (Refused (Length 5)) (size-stops (numbersOk rules k (newAxis z x)) (Length 5) n (scratchFor (entriesOf (k .inputs .shape))) (4 * m + 2048) (ap (λ (y : ℕ). 4 * y + 2048) g) o)
+
+    module _ (o : n ≡ 4 * m + 2048) (part mild : Bool) (p : part ≡ axisFinite x) (q : mild ≡ axisOk x) (u : Verdict) (y : u ≡ verdictOf (foundNumbers k z part mild)) where
+      further : (w : Verdict) → w ≡ verdictOf (foundNumbers k z (axisFinite x) (axisOk x) then newShifts) → w ≡ verdictOf AxisAsks
+      unfolding scratchOf
+      further w i =
+          beyond w (size-passes (numbersOk rules k (newAxis z x)) (Length 5) n (scratchFor (entriesOf (k .inputs .shape))) (4 * m + 2048) (ap (λ (y : ℕ). 4 * y + 2048) g) o w (i ∙ ap verdictOf (sym axis-numbers)))
+
+      heard : u ≡ verdictOf (foundNumbers k z (axisFinite x) (axisOk x))
+      heard = y ∙ ap (λ (b : Bool). verdictOf (foundNumbers k z b mild)) p ∙ ap (λ (b : Bool). verdictOf (foundNumbers k z (axisFinite x) b)) q
+
+      pub axis-stops : (r : Refusal) → u ≡ Refused r → Refused r ≡ verdictOf AxisAsks
+      axis-stops r i = further (Refused r) (then-stops (foundNumbers k z (axisFinite x) (axisOk x)) newShifts u heard r i)
+
+      pub axis-fits : u ≡ Fits → (w : Verdict) → w ≡ verdictOf newShifts → w ≡ verdictOf AxisAsks
+      axis-fits i w j = further w (then-passes (foundNumbers k z (axisFinite x) (axisOk x)) newShifts u heard w i j)

@@ -12,7 +12,7 @@ ghost use Rattle.asking.specs.Slices.{lentBy};
 ghost use Rattle.runs.specs.Kept.{keptOf};
 ghost use Rattle.runs.specs.Checks.{loneFinite, loneOk};
 ghost use Rattle.stepping.specs.Zones.{rules};
-ghost use Rattle.runs.specs.Requests.{newCore, newWeights, replaceOk};
+ghost use Rattle.runs.specs.Requests.{newCore, newAxis, newWeights, replaceOk};
 ghost use Rattle.runs.specs.Asking.{zoneFound, foundNumbers, scratchOf};
 
 // What scratch has beside four times the chain's numbers.
@@ -167,5 +167,47 @@ pub fn core_ok(
     }
     let set = r.set;
     let xs = r.axes;
+    asking::rooms::reaches_ok(z, set, s, xs)
+}
+
+// All that a new axis record asks.
+pub fn axis_ok(
+    r: super::Run,
+    z: usize,
+    a: axes::Axis,
+    source: &[f64],
+    weights: &[f64],
+    chain: &[f64],
+    carries: &[f64],
+    sums: &[f64],
+    scratch: usize,
+) -> answers::Verdict
+    ensures { λ v. ⌜ v ≡ verdictOf (replaceOk rules (scratchOf (r .shape) 5 scratch) (keptOf r (now (source .entry)) (now (weights .entry)) (now (chain .entry)) (now (carries .entry)) (now (sums .entry))) (newAxis z a)) ⌝ }
+{
+    let s = r.shape;
+    let ranks = r.ranks;
+    let l = asking::found::Lengths {
+        source: source.len(),
+        weights: weights.len(),
+        chain: chain.len(),
+        carries: carries.len(),
+        sums: sums.len(),
+    };
+    let found = asking::found::found_ok(s, ranks, z, l);
+    if let answers::Verdict::Refused(q) = found {
+        return answers::Verdict::Refused(q);
+    }
+    if scratch != 4 * s.entries() + SCRATCH_BESIDE {
+        return answers::Verdict::Refused(answers::Refusal::Length(5));
+    }
+    let finite = axes::axis_finite(a);
+    let mild = axes::axis_ok(a);
+    let numbers = numbers_found(r, z, finite, mild, source, weights, chain, carries, sums);
+    if let answers::Verdict::Refused(q) = numbers {
+        return answers::Verdict::Refused(q);
+    }
+    let set = r.set;
+    let mut xs = r.axes;
+    xs[z] = a;
     asking::rooms::reaches_ok(z, set, s, xs)
 }
