@@ -22,3 +22,4 @@ pub mod NotInOrder
 pub mod Computed
 pub mod Asks
 pub mod InRow
+pub mod Resums
