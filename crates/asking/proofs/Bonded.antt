@@ -9,17 +9,14 @@ use lib.Dec.{ltb, eqb}
 use lib.ListN.{length, getD, length-set}
 use Rattle.answers.specs.Outcome.{done, _then_, demand, demandEach}
 use Rattle.answers.specs.declared.Refusal.the-variants.{Axes, Size, Bond}
-use Rattle.answers.specs.declared.Verdict.{Verdict}
-use Rattle.answers.specs.declared.Verdict.the-variants.{Fits}
-use Rattle.answers.specs.Outcome.{verdictOf}
 use Rattle.answers.proofs.Checks.{then-is, each-is}
 use Rattle.lists.proofs.Tests.{ltb-yes, ltb-no, ltb-is, ltb-not, both, eqb-is, eqb-not}
 use Rattle.shape.specs.declared.Shape.{Shape}
-use Rattle.shape.specs.Limits.{mostAxes, mostRank, within}
-use Rattle.shape.specs.Shapes.{leftOf, pointsOf, rightOf, sizeOk, bondOk, shapeOk}
-use Rattle.shape.specs.Sizes.{SizesWithin, Inside}
+use Rattle.shape.specs.Limits.{mostAxes, mostPoints, within}
+use Rattle.shape.specs.Shapes.{leftOf, rightOf, sizeOk, bondOk, shapeOk}
+use Rattle.shape.specs.Sizes.{Inside}
 use Rattle.shape.specs.Cores.{Core, coreWith, withCore}
-use Rattle.shape.proofs.Shaped.{Shaped, shaped, within-is, fits-passes}
+use Rattle.shape.proofs.Shaped.{Shaped, shaped, within-is}
 use Rattle.shape.proofs.Ranks.{left-other, right-other, left-here, right-here}
 use Rattle.asking.specs.Ranks.{rankHeld, leftHeld, rightHeld, Ranked}
 
@@ -117,7 +114,7 @@ module _ (s : Shape) (ranks : List ℕ) (ok : shapeOk s (rankHeld s ranks) ≡ d
       let a = R .axes in
       record {
         sizes = record {
-          axes = record { least = omega (arith, shp .least); most = omega (arith, shp .most); points = λ k l. subst (λ (x : List ℕ). (1 ≤ getD x k 0) × (getD x k 0 ≤ 64)) (sym (R .points)) (shp .sizes .axes .points k (omega arith)) };
+          axes = record { least = omega (arith, shp .least); most = omega (arith, shp .most); points = λ k l. subst (λ (x : List ℕ). (1 ≤ getD x k 0) × (getD x k 0 ≤ mostPoints)) (sym (R .points)) (shp .sizes .axes .points k (omega arith)) };
           left = λ k l. let h : k < s .d = omega arith in let w = left-within k h in let e = R .left k h in (omega (arith, w .0), omega (arith, w .1, shp .sizes .left k h .1));
           right = λ k l. let h : k < s .d = omega arith in let w = right-within k h in let e = R .right k h in (omega (arith, w .0), omega (arith, w .1, shp .sizes .right k h .1));
         };

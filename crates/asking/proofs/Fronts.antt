@@ -1,21 +1,18 @@
 -- What is found in the used room of a slot, and of the shifts from a zone on. Assumes nothing.
-use mathlib.Core.Path.{_≡_, refl, sym, ap, _∙_, subst}
-use Prim.Native.Nat.{ℕ, zero, suc, _+_, _-_, _*_, _≤_, _<_}
+use mathlib.Core.Path.{_≡_, refl, sym, ap, _∙_}
+use Prim.Native.Nat.{ℕ, suc, _+_, _-_, _*_, _≤_, _<_}
 use native.Mathlib.Nat.{zero-add, mul-le-mul, mul-le-mul-right}
 use native.Mathlib.Omega.{arith}
-use mathlib.Core.Bool.{Bool, true, false, cond, _||_}
+use mathlib.Core.Bool.{Bool, true, cond, _||_}
 use mathlib.Core.List.{List}
-use lib.Dec.{ltb}
 use lib.ListN.{length, take, drop}
 use lib.Seq.{take-take}
 use lib.Ieee.{Float}
 use mir.Syntax.{w64}
 use mir.Val as val
-use Rattle.answers.specs.declared.Refusal.{Refusal}
 use Rattle.answers.specs.declared.Refusal.the-variants.{Reach}
-use Rattle.answers.specs.declared.Verdict.{Verdict}
 use Rattle.answers.specs.declared.Verdict.the-variants.{Fits, Refused}
-use Rattle.answers.specs.Outcome.{Check, demandEach, verdictOf}
+use Rattle.answers.specs.Outcome.{demandEach, verdictOf}
 use Rattle.answers.proofs.Checks.{each-same, each-from}
 use Rattle.lists.specs.Lists.{firstNot}
 use Rattle.lists.specs.Slots.{offset, slot}
@@ -24,7 +21,6 @@ use Rattle.lists.proofs.Asked.{place-wrong, places-right}
 use Rattle.lists.proofs.Tests.{ltb-yes, ltb-no}
 use Rattle.lists.proofs.Slots.{offset-suc, offset-mono}
 use Rattle.shape.specs.declared.Shape.{Shape}
-use Rattle.shape.specs.Limits.{mostRank}
 use Rattle.shape.specs.Shapes.{rightOf, coreSize, entriesOf}
 use Rattle.shape.specs.Sizes.{SizesWithin, Inside}
 use Rattle.shape.specs.Cores.{standing}

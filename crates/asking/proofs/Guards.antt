@@ -7,7 +7,7 @@ use lib.Dec.{eqb, ltb}
 use mathlib.Core.List.{List}
 use lib.Ieee.{Float}
 use Rattle.answers.specs.declared.Refusal.{Refusal}
-use Rattle.answers.specs.declared.Refusal.the-variants.{Zone, Number, Setting}
+use Rattle.answers.specs.declared.Refusal.the-variants.{Number, Setting}
 use Rattle.answers.specs.declared.Verdict.{Verdict}
 use Rattle.answers.specs.declared.Verdict.the-variants.{Fits, Refused}
 use Rattle.answers.specs.Outcome.{Check, _then_, demand, demandEach, verdictOf}
@@ -21,7 +21,7 @@ use Rattle.axes.specs.Axes.{axisFinite, axisAt}
 use Rattle.rounding.specs.Call.{coreFinite}
 use Rattle.asking.specs.Rooms.{coreHeld, carryHeld, sumsHeld}
 use Rattle.asking.specs.Slices.{madeFinite, heldFinite}
-use Rattle.lists.proofs.Tests.{below-or-not, ltb-yes, ltb-no, eqb-is, eqb-yes, eqb-no, not-no, not-yes}
+use Rattle.lists.proofs.Tests.{below-or-not, ltb-yes, ltb-no, eqb-yes, eqb-no}
 use Rattle.lists.proofs.Demands.{both-left, both-right, first-is}
 use Rattle.lists.proofs.Asked.{length-wrong, length-right, test-wrong, test-right, place-wrong, places-right}
 

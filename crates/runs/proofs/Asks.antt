@@ -1,12 +1,12 @@
 -- What a run is found to be, by what code finds of it. Assumes nothing.
 use mathlib.Core.Path.{_≡_, refl, sym, ap, _∙_}
-use Prim.Native.Nat.{ℕ, zero, suc, _+_, _*_, _≤_, _<_}
+use Prim.Native.Nat.{ℕ, zero, suc, _*_, _≤_, _<_}
 use native.Mathlib.Nat.{le-of-eq}
 use native.Mathlib.Omega.{arith}
 use mathlib.Core.Bool.{Bool, true, false, cond, _&&_}
 use mathlib.Core.List.{List}
 use lib.Dec.{ltb, eqb}
-use lib.ListN.{length, getD, take}
+use lib.ListN.{getD, take}
 use lib.Ieee.{Float}
 use Rattle.numbers.specs.Finite.{finite}
 use Rattle.answers.specs.declared.Refusal.the-variants.{Length, Number, Setting}
@@ -19,19 +19,19 @@ use Rattle.lists.specs.Floats.{allFinite}
 use Rattle.lists.proofs.Tests.{ltb-is, eqb-is}
 use Rattle.lists.proofs.Demands.{fails-same}
 use Rattle.shape.specs.declared.Shape.{Shape}
-use Rattle.shape.specs.Shapes.{leftOf, pointsOf, rightOf, shapeOk, coreSize, entriesOf, allPoints}
+use Rattle.shape.specs.Shapes.{leftOf, pointsOf, rightOf, coreSize, entriesOf, allPoints}
 use Rattle.shape.specs.Cores.{standing}
 use Rattle.axes.specs.Axes.{axisOk}
 use Rattle.stepping.specs.Zones.{axisAt}
-use Rattle.rounding.specs.Call.{coreFinite, notBelowZero}
+use Rattle.rounding.specs.Call.{notBelowZero}
 use Rattle.rounding.specs.Keeping.{Stepped, carrySize, rankAt}
 use Rattle.summing.specs.Sums.{sumSize}
 use Rattle.stepping.specs.declared.Settings.{Settings}
-use Rattle.asking.specs.Ranks.{leftHeld, rightHeld, Ranked}
+use Rattle.asking.specs.Ranks.{leftHeld, Ranked}
 use Rattle.asking.specs.Rooms.{coreHeld, carryHeld, sumsHeld}
 use Rattle.asking.specs.Slices.{lentBy, madeFinite, heldFinite}
 use Rattle.asking.proofs.Bonded.{right-bond}
-use Rattle.runs.specs.Kept.{Inputs, Summed, Kept, leftRank, rightRank, keptCore, keptCarry, keptSums}
+use Rattle.runs.specs.Kept.{Summed, Kept, leftRank, rightRank, keptCore, keptCarry}
 use Rattle.runs.specs.Checks.{loneFinite, loneOk, zoneFinite, keptFinite}
 use Rattle.runs.specs.Asking.{zoneFound, foundNumbers}
 

@@ -1,7 +1,6 @@
 -- The checks of a replacement in a row, by what code finds on its way. Assumes nothing.
 use mathlib.Core.Path.{_≡_, refl, sym, ap, _∙_}
 use Prim.Native.Nat.{ℕ, _+_, _-_, _*_, _<_}
-use native.Mathlib.Omega.{arith}
 use mathlib.Core.Bool.{Bool, true, false, _&&_}
 use mathlib.Core.List.{List}
 use lib.Dec.{ltb, eqb}
@@ -30,8 +29,8 @@ use Rattle.asking.specs.Ranks.{rankHeld}
 use Rattle.asking.specs.Slices.{lentBy, foundBy}
 use Rattle.asking.proofs.Guards.{size-stops, size-passes}
 use Rattle.runs.specs.Kept.{Inputs, Kept, allCarries, allSums}
-use Rattle.runs.specs.Checks.{rankOk, inputsLent, keptLent, inReachAt, loneFinite, loneOk, zoneFinite, keptFinite}
-use Rattle.runs.specs.Requests.{Request, newCore, newAxis, newWeights, zoneOf, partFits, partFinite, partOk, present, shiftsOk, numbersOk, replaceOk}
+use Rattle.runs.specs.Checks.{rankOk, inputsLent, keptLent, inReachAt, loneFinite, loneOk}
+use Rattle.runs.specs.Requests.{Request, newCore, newAxis, newWeights, zoneOf, partFits, present, numbersOk, replaceOk}
 use Rattle.runs.specs.Asking.{zoneFound, foundNumbers, scratchOf}
 
 -- seven checks and what follows, however they are grouped

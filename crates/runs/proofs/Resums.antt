@@ -1,6 +1,6 @@
 -- The sums from zone z on of a run are those that `summing` makes over the chain in its room. Assumes nothing.
 use mathlib.Core.Path.{_≡_, refl, sym, ap, _∙_}
-use Prim.Native.Nat.{ℕ, zero, suc, _+_, _-_, _≤_, _<_}
+use Prim.Native.Nat.{ℕ, zero, suc, _-_, _<_}
 use native.Mathlib.Omega.{arith}
 use mathlib.Core.List.{List, map}
 use lib.ListN.{take}
@@ -14,15 +14,15 @@ use Rattle.lists.specs.Walks.{walk}
 use Rattle.lists.specs.Floats.{at}
 use Rattle.lists.proofs.Tables.{listed-same}
 use Rattle.shape.specs.declared.Shape.{Shape}
-use Rattle.shape.specs.Shapes.{leftOf, rightOf}
+use Rattle.shape.specs.Shapes.{leftOf}
 use Rattle.shape.specs.Cores.{Core, pointsAt}
 use Rattle.rounding.specs.Keeping.{Stepped}
-use Rattle.product.specs.Product.{contractAt, sumAxis}
+use Rattle.product.specs.Product.{sumAxis}
 use Rattle.summing.specs.Sums.{sumSize, sumsLeft, weighedIn, sumsFrom}
 use Rattle.stepping.specs.Zones.{rules}
 use Rattle.asking.specs.Ranks.{Ranked}
 use Rattle.asking.proofs.Bonded.{right-bond}
-use Rattle.runs.specs.Kept.{Inputs, Summed, rightRank, sumsAt, weighedAt, weighedFrom}
+use Rattle.runs.specs.Kept.{Inputs, Summed, sumsAt, weighedAt, weighedFrom}
 use Rattle.runs.specs.Work.{keepSums, sumZone, resum}
 use Rattle.runs.proofs.Asks.{core-kept}
 

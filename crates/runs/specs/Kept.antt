@@ -1,8 +1,8 @@
 -- A kept run in memory: what it is made from, what it keeps, and what it holds for each zone. Definitions only.
 use Prim.Native.Nat.{ℕ, zero, suc, _-_, _*_}
-use mathlib.Core.Bool.{Bool, false}
+use mathlib.Core.Bool.{false}
 use mathlib.Core.List.{List}
-use lib.ListN.{getD, take, replicate}
+use lib.ListN.{take, replicate}
 use lib.Ieee.{Float}
 use Rattle.numbers.specs.Arithmetic.{zero64}
 use Rattle.lists.specs.Lists.{listed}

@@ -1,11 +1,11 @@
 -- The sums of one axis in their slot, by what each call says. Assumes nothing.
 use mathlib.Core.Path.{_≡_, refl, sym, ap, _∙_, subst}
 use Prim.Native.Nat.{ℕ, zero, suc, _+_, _-_, _*_, _≤_, _<_, _^_}
-use native.Mathlib.Nat.{sub-zero, le-refl, le-of-eq, mul-assoc}
+use native.Mathlib.Nat.{sub-zero, le-of-eq, mul-assoc}
 use native.Mathlib.Omega.{arith}
-use mathlib.Core.List.{List, [], _∷_, _++_, append-nil}
-use lib.ListN.{length, take, drop, set, getD, replicate, length-drop, drop-of-length-le}
-use lib.Seq.{length-take-le, take-take, take-at, drop-drop, drop-at}
+use mathlib.Core.List.{List, [], _∷_, _++_}
+use lib.ListN.{length, take, drop, set, getD, replicate, length-drop}
+use lib.Seq.{length-take-le, take-take, take-at, drop-drop}
 use lib.Ieee.{Float}
 use mir.Syntax.{w64}
 use mir.Val.{Fits}
@@ -14,16 +14,15 @@ use Rattle.answers.specs.declared.Stage.{Stage}
 use Rattle.answers.specs.Outcome.{staged}
 use Rattle.lists.specs.Slots.{offset, slot, put, fit}
 use Rattle.lists.specs.Floats.{stored}
-use Rattle.lists.proofs.Slots.{offset-suc, offset-mono, slot-length, fit-whole}
+use Rattle.lists.proofs.Slots.{offset-suc, offset-mono, fit-whole}
 use Rattle.shape.specs.declared.Shape.{Shape}
 use Rattle.shape.specs.Limits.{mostAxes, mostRank}
-use Rattle.shape.specs.Shapes.{leftOf, pointsOf, rightOf, coreSize, pointSize, entriesOf, allPoints}
-use Rattle.shape.specs.Sizes.{SizesWithin, Inside}
+use Rattle.shape.specs.Shapes.{leftOf, pointsOf, rightOf, coreSize, pointSize}
+use Rattle.shape.specs.Sizes.{SizesWithin}
 use Rattle.shape.specs.Cores.{Core, coreWith, standing, pointsAt}
 use Rattle.shape.proofs.Offsets.{offset-more, offset-most}
 use Rattle.shape.proofs.Insides.{inside-size}
 use Rattle.contraction.specs.Contract.{contract}
-use Rattle.product.specs.Product.{startSums}
 use Rattle.summing.specs.Sums.{sumSize, sumsLeft}
 use Rattle.summing.specs.Lent.{Stands}
 

@@ -1,14 +1,12 @@
 -- The sums from a zone on are turns one after another, each from what memory holds by then. Assumes nothing.
 use mathlib.Core.Path.{_≡_, refl, sym, ap, _∙_, subst}
 use Prim.Native.Nat.{ℕ, zero, suc, _+_, _-_, _≤_, _<_}
-use native.Mathlib.Numerals.{add-one}
 use native.Mathlib.Omega.{arith}
 use mathlib.Core.List.{List, [], _∷_, map}
 use lib.ListN.{length, take}
 use lib.Ieee.{Float}
 use Rattle.numbers.specs.Arithmetic.{zero64}
 use Rattle.answers.specs.declared.Part.the-variants.{Sum}
-use Rattle.answers.specs.declared.Refusal.{Refusal}
 use Rattle.answers.specs.declared.Refusal.the-variants.{Stored}
 use Rattle.answers.specs.declared.Stage.{Stage}
 use Rattle.answers.specs.declared.Stage.the-variants.{Whole, Spilt}
@@ -16,12 +14,12 @@ use Rattle.answers.specs.declared.Verdict.the-variants.{Fits, Refused}
 use Rattle.answers.specs.Outcome.{Answer, Made, done, bind, making, staged, answered}
 use Rattle.answers.proofs.Outcomes.{bind-assoc, bind-cong}
 use Rattle.lists.specs.Lists.{listed}
-use Rattle.lists.specs.Slots.{offset, slot, put, fit, write}
+use Rattle.lists.specs.Slots.{offset, put, fit, write}
 use Rattle.lists.specs.Walks.{walk, turning}
 use Rattle.lists.specs.Floats.{stored}
 use Rattle.lists.proofs.Tables.{listed-length}
 use Rattle.lists.proofs.Floats.{making-stored}
-use Rattle.lists.proofs.Slots.{offset-suc, offset-mono, fit-length, fit-used, put-length, slot-put-same, write-none, write-one}
+use Rattle.lists.proofs.Slots.{offset-mono, fit-length, fit-used, put-length, slot-put-same, write-none, write-one}
 use Rattle.shape.specs.declared.Shape.{Shape}
 use Rattle.shape.specs.Shapes.{leftOf, rightOf}
 use Rattle.shape.specs.Sizes.{Inside}
