@@ -23,7 +23,8 @@ use Rattle.product.specs.Product.{contractAt}
 use Rattle.stepping.specs.Call.{reachesAt}
 use Rattle.stepping.specs.Steps.{shiftZone, scaleZone, roundZone, stepFrom}
 use Rattle.stepping.specs.Zones.{rules}
-use Rattle.runs.specs.Kept.{sumSize, bare, blank, zoneAt, keptCore, carryAt, sumsAt, weighedAt}
+use Rattle.summing.specs.Sums.{sumSize}
+use Rattle.runs.specs.Kept.{bare, blank, zoneAt, keptCore, carryAt, sumsAt, weighedAt}
 use Rattle.rounding.specs.Keeping.{bondSize, carrySize, keepStep}
 use Rattle.runs.specs.Work.{keepSums, sumZone, restep, resum, sumFrom, workFrom}
 use Rattle.runs.specs.Checks.{rankOk, inputsLent, keptLent, scratchLent, loneFinite, zoneFinite, keptFinite, loneOk, inReachAt, freshOk, freshRun}

@@ -22,7 +22,8 @@ use Rattle.shape.proofs.Shaped.{shape-same}
 use Rattle.axes.specs.Axes.{axisOk}
 use Rattle.rounding.specs.Rounding.{Carry, Cut}
 use Rattle.stepping.specs.Zones.{axisAt, Rules}
-use Rattle.runs.specs.Kept.{Inputs, Summed, sumSize, allCarries, allSums, bare, blank, keptCarry}
+use Rattle.summing.specs.Sums.{sumSize}
+use Rattle.runs.specs.Kept.{Inputs, Summed, allCarries, allSums, bare, blank, keptCarry}
 use Rattle.rounding.specs.Keeping.{Stepped, carrySize, rankAt, numbersIn, keepStep}
 use Rattle.runs.specs.Work.{keepSums}
 use Rattle.runs.specs.Checks.{rankOk, keptLent, loneFinite, zoneFinite, keptFinite, loneOk}

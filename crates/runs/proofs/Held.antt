@@ -33,7 +33,8 @@ use Rattle.product.specs.Product.{startSums}
 use Rattle.stepping.specs.Zones.{Zone, Rules}
 use Rattle.stepping.specs.Steps.{holding, shiftZone, scaleZone, roundZone, stepFrom}
 use Rattle.stepping.proofs.Restart.{step-length}
-use Rattle.runs.specs.Kept.{Inputs, sumSize, blank, zoneAt, zonesFrom, leftRank, rightRank, keptCore, keptCarry, carryAt, keptSums, sumsAt, weighedAt, weighedFrom}
+use Rattle.summing.specs.Sums.{sumSize}
+use Rattle.runs.specs.Kept.{Inputs, blank, zoneAt, zonesFrom, leftRank, rightRank, keptCore, keptCarry, carryAt, keptSums, sumsAt, weighedAt, weighedFrom}
 use Rattle.rounding.specs.Keeping.{bondSize, carrySize, rankAt, rankIn, numbersIn, keepStep}
 use Rattle.runs.specs.Work.{keepSums, sumZone}
 use Rattle.runs.proofs.Sound.{Sound}

@@ -20,3 +20,6 @@ pub mod Demand3
 pub mod NotInOrder
 -- small runs, computed
 pub mod Computed
+pub mod Asks
+pub mod InRow
+pub mod Resums

@@ -26,7 +26,8 @@ use Rattle.product.specs.Product.{startSums}
 use Rattle.stepping.specs.Zones.{Zone, Rules}
 use Rattle.stepping.specs.Steps.{stepFrom}
 use Rattle.stepping.proofs.Restart.{step-restart}
-use Rattle.runs.specs.Kept.{Inputs, Summed, Kept, running, sumSize, bare, blank, zoneAt, zonesFrom, keptCore, carryAt, sumsAt, weighedAt, weighedFrom}
+use Rattle.summing.specs.Sums.{sumSize}
+use Rattle.runs.specs.Kept.{Inputs, Summed, Kept, running, bare, blank, zoneAt, zonesFrom, keptCore, carryAt, sumsAt, weighedAt, weighedFrom}
 use Rattle.rounding.specs.Keeping.{Stepped, bondSize, carrySize, rankIn, numbersIn, keepStep}
 use Rattle.runs.specs.Work.{keepSums, sumZone, restep, resum, sumFrom, workFrom}
 use Rattle.runs.proofs.Sound.{Sound}

@@ -26,7 +26,8 @@ use Rattle.rounding.specs.Rounding.{Carry, Cut}
 use Rattle.stepping.specs.Zones.{Rules}
 use Rattle.stepping.specs.Steps.{stepFrom}
 use Rattle.stepping.proofs.Restart.{step-length}
-use Rattle.runs.specs.Kept.{Inputs, Summed, Kept, running, sumSize, allCarries, allSums, zoneAt, zonesFrom, carryAt, sumsAt, weighedAt, weighedFrom}
+use Rattle.summing.specs.Sums.{sumSize}
+use Rattle.runs.specs.Kept.{Inputs, Summed, Kept, running, allCarries, allSums, zoneAt, zonesFrom, carryAt, sumsAt, weighedAt, weighedFrom}
 use Rattle.rounding.specs.Keeping.{Stepped, bondSize, carrySize, rankIn, numbersIn, keepStep}
 use Rattle.runs.specs.Work.{keepSums, sumZone, restep, resum, sumFrom, workFrom}
 use Rattle.runs.specs.Checks.{rankOk, keptLent, scratchLent}

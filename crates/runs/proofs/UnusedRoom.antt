@@ -24,7 +24,8 @@ use Rattle.rounding.specs.Rounding.{Carry, Cut}
 use Rattle.stepping.specs.Zones.{Rules}
 use Rattle.stepping.specs.Steps.{stepFrom}
 use Rattle.stepping.proofs.Restart.{step-length}
-use Rattle.runs.specs.Kept.{Inputs, Summed, Kept, running, sumSize, allSums, zoneAt, zonesFrom, rightRank, carryAt, keptSums, sumsAt, weighedAt, weighedFrom}
+use Rattle.summing.specs.Sums.{sumSize}
+use Rattle.runs.specs.Kept.{Inputs, Summed, Kept, running, allSums, zoneAt, zonesFrom, rightRank, carryAt, keptSums, sumsAt, weighedAt, weighedFrom}
 use Rattle.rounding.specs.Keeping.{Stepped, rankAt, keepStep}
 use Rattle.runs.specs.Work.{keepSums, sumZone, restep, resum, sumFrom, workFrom}
 use Rattle.runs.proofs.Before.{Roomy, right-before}

@@ -1,8 +1,8 @@
 -- A kept run in memory: what it is made from, what it keeps, and what it holds for each zone. Definitions only.
 use Prim.Native.Nat.{ℕ, zero, suc, _-_, _*_}
-use mathlib.Core.Bool.{Bool, false}
+use mathlib.Core.Bool.{false}
 use mathlib.Core.List.{List}
-use lib.ListN.{getD, take, replicate}
+use lib.ListN.{take, replicate}
 use lib.Ieee.{Float}
 use Rattle.numbers.specs.Arithmetic.{zero64}
 use Rattle.lists.specs.Lists.{listed}
@@ -16,6 +16,7 @@ use Rattle.axes.specs.declared.Axis.{Axis}
 use Rattle.rounding.specs.Rounding.{Carry, none, some}
 use Rattle.rounding.specs.Keeping.{Stepped, carrySize, rankAt}
 use Rattle.product.specs.Product.{startSums}
+use Rattle.summing.specs.Sums.{sumSize}
 use Rattle.stepping.specs.declared.Settings.{Settings}
 use Rattle.stepping.specs.Zones.{Zone, zone, axisAt}
 use Rattle.runs.specs.declared.Run.{Run}
@@ -60,10 +61,7 @@ recordOf k = record {
   figure = k .summed .figure;
 }
 
--- ---- the slots: an axis' sums have r_right places
-unfoldable pub sumSize : Shape → ℕ → ℕ
-sumSize s k = rightOf s k
-
+-- ---- all slots of carries, and of sums
 abbrev pub allCarries : Shape → ℕ
 allCarries s = offset (carrySize s) (s .d)
 

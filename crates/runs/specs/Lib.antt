@@ -5,6 +5,8 @@ pub mod Work
 pub mod Checks
 pub mod Requests
 pub mod Call
+-- what the inner functions cite
+pub mod Asking
 -- what the theorems speak of
 pub mod Sequence
 pub mod StepThenInner

@@ -14,7 +14,8 @@ use Rattle.shape.specs.Cores.{Core}
 use Rattle.rounding.specs.Keeping.{Stepped, keepStep, Stepped, bondSize, carrySize}
 use Rattle.stepping.specs.Zones.{Rules}
 use Rattle.stepping.specs.Steps.{stepFrom}
-use Rattle.runs.specs.Kept.{Inputs, Summed, Kept, running, sumSize, zonesFrom, carryAt, sumsAt, weighedFrom}
+use Rattle.summing.specs.Sums.{sumSize}
+use Rattle.runs.specs.Kept.{Inputs, Summed, Kept, running, zonesFrom, carryAt, sumsAt, weighedFrom}
 
 -- the figure is the first number of the last axis' sums
 unfoldable pub keepSums : Shape → ℕ → List (List Float × Unit {0}) → Summed → Summed

@@ -11,7 +11,7 @@ ghost use Rattle.axes.specs.Axes.{axisFinite, axisOk, axisAt};
 ghost use Rattle.stepping.specs.Over.{axisReaches, zonesFinite, settingsOk, overOk};
 
 // The first axis with a number that isn't finite, or d.
-fn first_not_finite(d: usize, xs: [axes::Axis; shape::MOST_AXES]) -> usize
+pub fn first_not_finite(d: usize, xs: [axes::Axis; shape::MOST_AXES]) -> usize
     requires { ⌜ d ≤ mostAxes ⌝ }
     ensures { λ r. ⌜ r ≡ firstNot (λ (k : ℕ). axisFinite (axisAt xs k)) d ⌝ }
 {
@@ -26,7 +26,7 @@ fn first_not_finite(d: usize, xs: [axes::Axis; shape::MOST_AXES]) -> usize
 }
 
 // The first axis whose a is below zero, or d.
-fn first_below_zero(d: usize, xs: [axes::Axis; shape::MOST_AXES]) -> usize
+pub fn first_below_zero(d: usize, xs: [axes::Axis; shape::MOST_AXES]) -> usize
     requires { ⌜ d ≤ mostAxes ⌝ }
     ensures { λ r. ⌜ r ≡ firstNot (λ (k : ℕ). axisOk (axisAt xs k)) d ⌝ }
 {
@@ -41,7 +41,7 @@ fn first_below_zero(d: usize, xs: [axes::Axis; shape::MOST_AXES]) -> usize
 }
 
 // Whether the core of axis k stays or its shift is near enough.
-fn axis_reaches(
+pub fn axis_reaches(
     set: super::Settings,
     s: shape::Shape,
     xs: [axes::Axis; shape::MOST_AXES],

@@ -1,0 +1,3 @@
+pub mod Bonded
+pub mod Fronts
+pub mod Guards

@@ -1,0 +1,24 @@
+-- `asking::found::first_bad_made` meets its contract. Assumes nothing.
+use borrow.Author.Needs.{needs}
+use Rattle.asking.proofs.found.first_bad_made.Reads as reads
+use Rattle.asking.proofs.found.first_bad_made.Lts as lts
+use Rattle.asking.proofs.found.least.Reads as least-reads
+use Rattle.shape.proofs.Shape.first_not_finite_axis.Reads as first-not-finite-axis-reads
+use Rattle.shape.proofs.Shape.first_not_finite_core.Reads as first-not-finite-core-reads
+use Rattle.stepping.proofs.checks.first_not_finite.Reads as first-not-finite-reads
+use Prim.Native.Nat.{_-_}
+use Rattle.asking.proofs.Guards.{made-first}
+use Rattle.asking.proofs.found.first_bad_made.Statement.{statement}
+use Rattle.asking.proofs.found.first_bad_made.Tie as tie
+
+returns : tie.Need-returns
+returns c = made-first _ _ _ _ _ _ (c .before .least .ensures) (c .least2 .ensures) _ _ _ (c .before .before .before .before .first-not-finite-core .ensures) (c .before .before .before .first-not-finite .ensures) (c .before .before .first-not-finite-axis .ensures)
+
+pub first-bad-made-spec : {M : Type 1} → statement M
+first-bad-made-spec = tie.close (tie.spec
+    (λ c κs. search needs)
+    (λ c κs. search needs)
+    (λ c κs. search needs)
+    (λ c κs. search needs)
+    (λ c κs. search needs)
+    returns)

@@ -1,0 +1,25 @@
+-- `asking::rooms::carry_held` meets its contract. Assumes nothing.
+use borrow.Author.Needs.{needs}
+use Rattle.asking.proofs.rooms.carry_held.Reads as reads
+use Rattle.asking.proofs.rooms.carry_held.Lts as lts
+use Rattle.asking.proofs.rooms.front_finite.Reads as front-finite-reads
+use Rattle.rounding.proofs.zones.carry_offset.Reads as carry-offset-reads
+use Rattle.asking.proofs.Fronts.{carry-used-fits, carry-room, carry-found, carry-none}
+use Prim.Native.Nat.{_-_}
+use Rattle.asking.proofs.rooms.carry_held.Statement.{statement}
+use Rattle.asking.proofs.rooms.carry_held.Tie as tie
+
+ruleset ways = (needs, carry-used-fits, carry-room, carry-found, carry-none)
+
+pub carry-held-spec : {M : Type 1} → statement M
+carry-held-spec = tie.close (tie.spec
+    (λ c. search ways)
+    (λ c κs. search ways)
+    (λ c. search ways)
+    (λ c. search ways)
+    (λ c. search ways)
+    (λ c. search ways)
+    (λ c. search ways)
+    (λ c κs. search ways)
+    (λ c. search ways)
+    (λ c. search ways))

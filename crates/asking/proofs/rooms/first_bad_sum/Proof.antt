@@ -1,0 +1,30 @@
+-- `asking::rooms::first_bad_sum` meets its contract. Assumes nothing.
+use Rattle.asking.proofs.rooms.first_bad_sum.Reads as reads
+use Rattle.asking.proofs.rooms.first_bad_sum.Lts as lts
+use Rattle.asking.proofs.rooms.sums_held.Reads as sums-held-reads
+use borrow.Author.Needs.{needs}
+use Rattle.lists.proofs.Demands.{Passed, passing}
+use Prim.Native.Nat.{_-_, _≤_}
+use Rattle.asking.specs.Rooms.{sumsHeld}
+use Rattle.asking.proofs.rooms.first_bad_sum.Statement.{statement}
+use Rattle.asking.proofs.rooms.first_bad_sum.Tie as tie
+
+ruleset ways = (needs, passing)
+
+abbrev Inv-loop : tie.InvT-loop
+Inv-loop s t sums k₀ k = (k ≤ s .d) × Passed (sumsHeld s t sums) (s .d) k
+
+abbrev μ-loop : tie.MeasureT-loop
+μ-loop s t sums k₀ k = s .d - k
+
+pub first-bad-sum-spec : {M : Type 1} → statement M
+first-bad-sum-spec = tie.close (tie.spec
+    Inv-loop
+    μ-loop
+    (λ c. search ways)
+    (λ c κs. search ways)
+    (λ c. search ways)
+    (λ c. search ways)
+    (λ c. search ways)
+    (λ c. search ways)
+    (λ c. search ways))

@@ -1,0 +1,20 @@
+-- `asking::rooms::sums_held` meets its contract. Assumes nothing.
+use borrow.Author.Needs.{needs}
+use Rattle.asking.proofs.rooms.sums_held.Reads as reads
+use Rattle.asking.proofs.rooms.sums_held.Lts as lts
+use Rattle.asking.proofs.rooms.front_finite.Reads as front-finite-reads
+use Rattle.summing.proofs.sum_offset.Reads as sum-offset-reads
+use Rattle.asking.proofs.Fronts.{sums-room, sums-found}
+use Prim.Native.Nat.{_-_}
+use Rattle.asking.proofs.rooms.sums_held.Statement.{statement}
+use Rattle.asking.proofs.rooms.sums_held.Tie as tie
+
+ruleset ways = (needs, sums-room, sums-found)
+
+pub sums-held-spec : {M : Type 1} → statement M
+sums-held-spec = tie.close (tie.spec
+    (λ c κs. search ways)
+    (λ c. search ways)
+    (λ c. search ways)
+    (λ c κs. search ways)
+    (λ c. search ways))

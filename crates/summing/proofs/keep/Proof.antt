@@ -1,0 +1,26 @@
+-- `summing::keep` meets its contract. Assumes nothing.
+use borrow.Author.Needs.{needs}
+use Rattle.summing.proofs.keep.Reads as reads
+use Rattle.summing.proofs.keep.Lts as lts
+use Rattle.lists.proofs.copy.Reads as copy-reads
+use Rattle.lists.proofs.fill.Reads as fill-reads
+use Rattle.summing.proofs.Slotted.{kept-is}
+use Prim.Native.Nat.{_-_}
+use Rattle.summing.proofs.keep.Statement.{statement}
+use Rattle.summing.proofs.keep.Tie as tie
+
+returns : tie.Need-returns
+returns c = kept-is _ _ _ _ _ (c .before .before .before .before .before .before .before .before .before .before .before .pre .0) (c .before .before .before .before .before .before .before .before .before .before .before .pre .1) (c .before .before .before .before .before .before .before .fill .ensures) (c .before .before .copy .ensures)
+
+pub keep-spec : {M : Type 1} → statement M
+keep-spec = tie.close (tie.spec
+    (λ c κs. search needs)
+    (λ c. search needs)
+    (λ c. search needs)
+    (λ c. search needs)
+    (λ c. search needs)
+    (λ c. search needs)
+    (λ c. search needs)
+    (λ c κs. search needs)
+    (λ c. search needs)
+    returns)

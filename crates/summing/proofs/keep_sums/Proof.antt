@@ -1,0 +1,41 @@
+-- `summing::keep_sums` meets its contract. Assumes nothing.
+use borrow.Author.Needs.{needs}
+use Rattle.summing.proofs.keep_sums.Reads as reads
+use Rattle.summing.proofs.keep_sums.Lts as lts
+use Rattle.summing.proofs.keep.Reads as keep-reads
+use Rattle.summing.proofs.sum_offset.Reads as sum-offset-reads
+use Rattle.summing.proofs.Slotted.{slot-ends, slot-end-fits, slot-start-fits, slot-lent, slot-kept}
+use Prim.Native.Nat.{_-_, _*_, _^_, _<_}
+use native.Mathlib.Omega.{arith}
+use lib.ListN.{length}
+use Rattle.summing.proofs.keep_sums.Statement.{statement}
+use Rattle.summing.proofs.keep_sums.Tie as tie
+
+add-end : tie.Need-add-end
+add-end c = let small : length (c .before .before .before .before .args .sums .now) * 8 < 2 ^ 63 = search needs in slot-end-fits (c .before .before .before .before .args .t4) (c .before .before .before .before .args .k) (c .before .before .before .before .args .sums .now) (c .before .before .before .before .pre .1 .0) (c .before .before .before .before .pre .1 .1) _ (c .before .sum-offset .ensures) small
+
+mul-keep : tie.Need-mul-keep
+mul-keep c = let small : length (c .before .before .before .before .args .sums .now) * 8 < 2 ^ 63 = search needs in slot-start-fits (c .before .before .before .before .args .t4) (c .before .before .before .before .args .k) (c .before .before .before .before .args .sums .now) (c .before .before .before .before .pre .1 .0) (c .before .before .before .before .pre .1 .1) _ (c .before .sum-offset .ensures) small
+
+part-keep-end : tie.Need-part-keep-end
+part-keep-end c = slot-ends (c .before .before .before .before .args .t4) (c .before .before .before .before .args .k) (c .before .before .before .before .args .sums .now) (c .before .before .before .before .pre .1 .0) (c .before .before .before .before .pre .1 .1) _ (c .before .sum-offset .ensures)
+
+keep-requires : tie.Need-keep-requires
+keep-requires c κs = (c .before .before .before .before .before .pre .1 .2, omega (arith, c .before .before .before .before .before .pre .1 .3, slot-lent (c .before .before .before .before .before .args .t4) (c .before .before .before .before .before .args .k) (c .before .before .before .before .before .args .sums .now) (c .before .before .before .before .before .pre .1 .0) (c .before .before .before .before .before .pre .1 .1) _ (c .before .before .sum-offset .ensures)))
+
+returns : tie.Need-returns
+returns c = slot-kept (c .before .before .before .before .before .before .before .before .args .t4) (c .before .before .before .before .before .before .before .before .args .k) (c .before .before .before .before .before .before .before .before .args .sums .now) (c .before .before .before .before .before .before .before .before .pre .1 .0) (c .before .before .before .before .before .before .before .before .pre .1 .1) _ (c .before .before .before .before .before .sum-offset .ensures) _ _ (c .before .before .keep .ensures)
+
+pub keep-sums-spec : {M : Type 1} → statement M
+keep-sums-spec = tie.close (tie.spec
+    (λ c κs. search needs)
+    (λ c. search needs)
+    (λ c. search needs)
+    add-end
+    mul-keep
+    (λ c. search needs)
+    (λ c. search needs)
+    part-keep-end
+    keep-requires
+    (λ c. search needs)
+    returns)

@@ -1,0 +1,49 @@
+-- `summing::left_sums` meets its contract. Assumes nothing.
+use borrow.Author.Needs.{needs}
+use Rattle.summing.proofs.left_sums.Reads as reads
+use Rattle.summing.proofs.left_sums.Lts as lts
+use Rattle.lists.proofs.copy.Reads as copy-reads
+use Rattle.summing.proofs.sum_offset.Reads as sum-offset-reads
+use Rattle.summing.proofs.Slotted.{left-first, left-end, left-end-fits, left-start-fits, left-long, left-held}
+use mathlib.Core.Path.{sym, _∙_}
+use Prim.Native.Nat.{_-_, _*_, _^_, _≤_, _<_}
+use lib.ListN.{length}
+use Rattle.lists.proofs.Parts.{span-length}
+use Rattle.summing.proofs.left_sums.Statement.{statement}
+use Rattle.summing.proofs.left_sums.Tie as tie
+
+returns : tie.Need-returns
+returns c = left-first (c .before .before .before .args .s) (c .before .before .before .args .k) (c .before .before .before .args .r) (c .before .before .before .args .sums .now) (c .before .before .before .args .eta .now) (c .if1 .taken) (c .before .before .before .pre .1 .4) (c .before .before .before .pre .1 .3)
+
+add-end : tie.Need-add-end
+add-end c = let l : 1 ≤ c .before .before .before .before .args .k = search needs in let small : length (c .before .before .before .before .args .sums .now) * 8 < 2 ^ 63 = search needs in left-end-fits (c .before .before .before .before .args .s) (c .before .before .before .before .args .k) (c .before .before .before .before .args .r) (c .before .before .before .before .args .sums .now) (c .before .before .before .before .args .eta .now) l (c .before .before .before .before .pre .1 .0) (c .before .before .before .before .pre .1 .1) (c .before .before .before .before .pre .1 .5 l) _ (c .sum-offset .ensures) small
+
+mul-copy : tie.Need-mul-copy
+mul-copy c = let l : 1 ≤ c .before .before .before .before .args .k = search needs in let small : length (c .before .before .before .before .args .sums .now) * 8 < 2 ^ 63 = search needs in left-start-fits (c .before .before .before .before .args .s) (c .before .before .before .before .args .k) (c .before .before .before .before .args .r) (c .before .before .before .before .args .sums .now) (c .before .before .before .before .args .eta .now) l (c .before .before .before .before .pre .1 .0) (c .before .before .before .before .pre .1 .1) (c .before .before .before .before .pre .1 .5 l) _ (c .sum-offset .ensures) small
+
+part-copy-end : tie.Need-part-copy-end
+part-copy-end c = let l : 1 ≤ c .before .before .before .before .args .k = search needs in left-end (c .before .before .before .before .args .s) (c .before .before .before .before .args .k) (c .before .before .before .before .args .r) (c .before .before .before .before .args .sums .now) (c .before .before .before .before .args .eta .now) l (c .before .before .before .before .pre .1 .0) (c .before .before .before .before .pre .1 .1) (c .before .before .before .before .pre .1 .5 l) _ (c .sum-offset .ensures)
+
+copy-requires : tie.Need-copy-requires
+copy-requires c κs = let l : 1 ≤ c .before .before .before .before .before .before .args .k = search needs in left-long (c .before .before .before .before .before .before .args .s) (c .before .before .before .before .before .before .args .k) (c .before .before .before .before .before .before .args .r) (c .before .before .before .before .before .before .args .sums .now) (c .before .before .before .before .before .before .args .eta .now) l (c .before .before .before .before .before .before .pre .1 .0) (c .before .before .before .before .before .before .pre .1 .1) (c .before .before .before .before .before .before .pre .1 .5 l) _ (c .before .before .sum-offset .ensures) ∙ sym (span-length _ _ (c .before .before .before .before .before .before .pre .1 .3))
+
+returns-2 : tie.Need-returns-2
+returns-2 c = let l : 1 ≤ c .before .before .before .before .before .before .before .before .before .args .k = search needs in left-held (c .before .before .before .before .before .before .before .before .before .args .s) (c .before .before .before .before .before .before .before .before .before .args .k) (c .before .before .before .before .before .before .before .before .before .args .r) (c .before .before .before .before .before .before .before .before .before .args .sums .now) (c .before .before .before .before .before .before .before .before .before .args .eta .now) l (c .before .before .before .before .before .before .before .before .before .pre .1 .0) (c .before .before .before .before .before .before .before .before .before .pre .1 .1) (c .before .before .before .before .before .before .before .before .before .pre .1 .5 l) _ (c .before .before .before .before .before .sum-offset .ensures) _ (c .before .before .copy .ensures)
+
+pub left-sums-spec : {M : Type 1} → statement M
+left-sums-spec = tie.close (tie.spec
+    (λ c. search needs)
+    (λ c. search needs)
+    returns
+    (λ c κs. search needs)
+    add-end
+    mul-copy
+    (λ c. search needs)
+    (λ c. search needs)
+    part-copy-end
+    (λ c. search needs)
+    (λ c. search needs)
+    (λ c. search needs)
+    copy-requires
+    (λ c. search needs)
+    returns-2)
