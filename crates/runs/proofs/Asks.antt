@@ -31,8 +31,8 @@ use Rattle.asking.specs.Ranks.{leftHeld, Ranked}
 use Rattle.asking.specs.Rooms.{coreHeld, carryHeld, sumsHeld}
 use Rattle.asking.specs.Slices.{lentBy, madeFinite, heldFinite}
 use Rattle.asking.proofs.Bonded.{right-bond}
-use Rattle.runs.specs.Kept.{Summed, Kept, leftRank, rightRank, keptCore, keptCarry}
-use Rattle.runs.specs.Checks.{loneFinite, loneOk, zoneFinite, keptFinite}
+use Rattle.kept.specs.Kept.{Summed, Kept, leftRank, rightRank, keptCore, keptCarry}
+use Rattle.kept.specs.Checks.{loneFinite, loneOk, zoneFinite, keptFinite}
 use Rattle.runs.specs.Asking.{zoneFound, foundNumbers}
 
 -- ---- the lone settings

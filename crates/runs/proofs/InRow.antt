@@ -28,9 +28,9 @@ use Rattle.stepping.specs.Over.{axisReaches}
 use Rattle.asking.specs.Ranks.{rankHeld}
 use Rattle.asking.specs.Slices.{lentBy, foundBy}
 use Rattle.asking.proofs.Guards.{size-stops, size-passes}
-use Rattle.runs.specs.Kept.{Inputs, Kept, allCarries, allSums}
-use Rattle.runs.specs.Checks.{rankOk, inputsLent, keptLent, inReachAt, loneFinite, loneOk}
-use Rattle.runs.specs.Requests.{Request, newCore, newAxis, newWeights, zoneOf, partFits, present, numbersOk, replaceOk}
+use Rattle.kept.specs.Kept.{Inputs, Kept, allCarries, allSums}
+use Rattle.kept.specs.Checks.{rankOk, inputsLent, keptLent, inReachAt, loneFinite, loneOk}
+use Rattle.kept.specs.Requests.{Request, newCore, newAxis, newWeights, zoneOf, partFits, present, numbersOk, replaceOk}
 use Rattle.runs.specs.Asking.{zoneFound, foundNumbers, scratchOf}
 
 -- seven checks and what follows, however they are grouped

@@ -1,25 +1,5 @@
--- what is asked of rules, and that those of 000 and 001 meet it
-pub mod Sound
-pub mod Rules
--- a fresh run: what its walks left is what it holds, and it is the step, then the inner product
-pub mod Trace
-pub mod Held
-pub mod StepThenInner
--- any run: what stands before a replaced zone, what is left, and that unused room never matters
-pub mod Before
-pub mod Accepted
-pub mod Untouched
-pub mod AlikeRuns
-pub mod UnusedRoom
--- demand 3: the restart, one request, any calls
-pub mod Same
-pub mod Found
-pub mod OneRequest
-pub mod StaysFresh
-pub mod Demand3
-pub mod NotInOrder
--- small runs, computed
-pub mod Computed
+-- what a run is asked
 pub mod Asks
 pub mod InRow
+-- the sums from a zone on
 pub mod Resums

@@ -22,8 +22,8 @@ use Rattle.summing.specs.Sums.{sumSize, sumsLeft, weighedIn, sumsFrom}
 use Rattle.stepping.specs.Zones.{rules}
 use Rattle.asking.specs.Ranks.{Ranked}
 use Rattle.asking.proofs.Bonded.{right-bond}
-use Rattle.runs.specs.Kept.{Inputs, Summed, sumsAt, weighedAt, weighedFrom}
-use Rattle.runs.specs.Work.{keepSums, sumZone, resum}
+use Rattle.kept.specs.Kept.{Inputs, Summed, sumsAt, weighedAt, weighedFrom}
+use Rattle.kept.specs.Work.{keepSums, sumZone, resum}
 use Rattle.runs.proofs.Asks.{core-kept}
 
 module _ (i : Inputs) (h : Stepped) (t : Shape) (R : Ranked (i .shape) (h .ranks) t (i .shape .d)) where

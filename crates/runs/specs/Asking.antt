@@ -11,8 +11,8 @@ use Rattle.shape.specs.Limits.{scratchFor}
 use Rattle.shape.specs.Shapes.{entriesOf}
 use Rattle.axes.specs.Axes.{axisOk}
 use Rattle.stepping.specs.Zones.{axisAt}
-use Rattle.runs.specs.Kept.{Kept}
-use Rattle.runs.specs.Checks.{loneFinite, zoneFinite, keptFinite, loneOk}
+use Rattle.kept.specs.Kept.{Kept}
+use Rattle.kept.specs.Checks.{loneFinite, zoneFinite, keptFinite, loneOk}
 
 -- 6 of zone j, as it is found
 unfoldable pub zoneFound : Kept → ℕ → Bool

@@ -1,13 +1,2 @@
--- a kept run, and the work on it from a zone on
-pub mod Kept
-pub mod Work
--- a fresh run, the three replacements, and the calls
-pub mod Checks
-pub mod Requests
-pub mod Call
--- what the inner functions cite
+-- what the functions cite
 pub mod Asking
--- what the theorems speak of
-pub mod Sequence
-pub mod StepThenInner
-pub mod Cases

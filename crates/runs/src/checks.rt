@@ -9,10 +9,10 @@ ghost use Rattle.numbers.specs.Finite.{finite};
 ghost use Rattle.shape.specs.Shapes.{shapeOk};
 ghost use Rattle.asking.specs.Ranks.{rankHeld};
 ghost use Rattle.asking.specs.Slices.{lentBy};
-ghost use Rattle.runs.specs.Kept.{keptOf};
-ghost use Rattle.runs.specs.Checks.{loneFinite, loneOk};
+ghost use Rattle.kept.specs.Kept.{keptOf};
+ghost use Rattle.kept.specs.Checks.{loneFinite, loneOk};
 ghost use Rattle.stepping.specs.Zones.{rules};
-ghost use Rattle.runs.specs.Requests.{newCore, newAxis, newWeights, replaceOk};
+ghost use Rattle.kept.specs.Requests.{newCore, newAxis, newWeights, replaceOk};
 ghost use Rattle.runs.specs.Asking.{zoneFound, foundNumbers, scratchOf};
 
 // What scratch has beside four times the chain's numbers.
@@ -40,7 +40,7 @@ fn lone_ok(set: stepping::Settings) -> bool
 
 // The first zone with a number that isn't finite, in what it is made from or in what is kept of it, or d.
 fn first_bad_number(
-    r: super::Run,
+    r: kept::Run,
     source: &[f64],
     weights: &[f64],
     chain: &[f64],
@@ -63,7 +63,7 @@ fn first_bad_number(
 
 // Refusals 6 and 7 of a run and a new part at zone z, which is finite or not, and an axis record not below zero or not.
 pub fn numbers_found(
-    r: super::Run,
+    r: kept::Run,
     z: usize,
     part: bool,
     axis: bool,
@@ -92,7 +92,7 @@ pub fn numbers_found(
 
 // All that new weights ask.
 pub fn weights_ok(
-    r: super::Run,
+    r: kept::Run,
     z: usize,
     source: &[f64],
     weights: &[f64],
@@ -129,7 +129,7 @@ pub fn weights_ok(
 
 // All that a new core asks.
 pub fn core_ok(
-    r: super::Run,
+    r: kept::Run,
     z: usize,
     source: &[f64],
     weights: &[f64],
@@ -172,7 +172,7 @@ pub fn core_ok(
 
 // All that a new axis record asks.
 pub fn axis_ok(
-    r: super::Run,
+    r: kept::Run,
     z: usize,
     a: axes::Axis,
     source: &[f64],

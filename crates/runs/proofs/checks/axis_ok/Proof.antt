@@ -9,10 +9,10 @@ use Rattle.axes.proofs.axis_ok.Reads as axis-ok-reads
 use Rattle.runs.proofs.checks.numbers_found.Reads as numbers-found-reads
 use Rattle.shape.proofs.Shape.entries.Reads as entries-reads
 use Rattle.shape.proofs.Shaped.{shaped}
-use Rattle.runs.specs.Kept.{keptOf}
+use Rattle.kept.specs.Kept.{keptOf}
 use Rattle.runs.proofs.InRow.{found-stops, found-says, axis-room, axis-stops, axis-fits}
 use Rattle.stepping.specs.Zones.{rules}
-use Rattle.runs.specs.Requests.{newAxis}
+use Rattle.kept.specs.Requests.{newAxis}
 use Rattle.runs.specs.Asking.{scratchOf}
 use native.Mathlib.Omega.{arith}
 use Rattle.shape.proofs.Offsets.{entries-most}

@@ -9,10 +9,10 @@ use Rattle.runs.proofs.checks.numbers_found.Reads as numbers-found-read
 use Rattle.shape.proofs.Shape.core_size.Reads as core-size-reads
 use Rattle.shape.proofs.Shape.entries.Reads as entries-reads
 use Rattle.shape.proofs.Shaped.{shaped}
-use Rattle.runs.specs.Kept.{keptOf}
+use Rattle.kept.specs.Kept.{keptOf}
 use Rattle.runs.proofs.InRow.{found-stops, found-says, core-wrong, core-room, core-stops, core-fits}
 use Rattle.stepping.specs.Zones.{rules}
-use Rattle.runs.specs.Requests.{newCore}
+use Rattle.kept.specs.Requests.{newCore}
 use Rattle.runs.specs.Asking.{scratchOf}
 use native.Mathlib.Omega.{arith}
 use Rattle.shape.proofs.Offsets.{entries-most}

@@ -9,7 +9,7 @@ use Rattle.asking.proofs.ranks.kept_shape.Reads as kept-shape-reads
 use Rattle.runs.proofs.Asks.{lent-says, first-found}
 use Rattle.asking.proofs.Bonded.{ranked-inside}
 use Rattle.shape.proofs.Shaped.{shaped}
-use Rattle.runs.specs.Kept.{keptOf}
+use Rattle.kept.specs.Kept.{keptOf}
 use Rattle.runs.proofs.checks.first_bad_number.Statement.{statement}
 use Rattle.runs.proofs.checks.first_bad_number.Tie as tie
 

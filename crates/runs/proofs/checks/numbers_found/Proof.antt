@@ -10,7 +10,7 @@ use Rattle.runs.proofs.checks.lone_ok.Reads as lone-ok-reads
 use Rattle.stepping.proofs.checks.first_below_zero.Reads as first-below-zero-reads
 use Rattle.runs.proofs.Asks.{numbers-are}
 use Rattle.shape.proofs.Shaped.{shaped}
-use Rattle.runs.specs.Kept.{keptOf}
+use Rattle.kept.specs.Kept.{keptOf}
 use Rattle.runs.proofs.checks.numbers_found.Statement.{statement}
 use Rattle.runs.proofs.checks.numbers_found.Tie as tie
 

@@ -7,10 +7,10 @@ use Rattle.lists.proofs.all_finite.Reads as all-finite-reads
 use Rattle.runs.proofs.checks.numbers_found.Reads as numbers-found-reads
 use Rattle.shape.proofs.Shape.entries.Reads as entries-reads
 use Rattle.shape.proofs.Shaped.{shaped}
-use Rattle.runs.specs.Kept.{keptOf}
+use Rattle.kept.specs.Kept.{keptOf}
 use Rattle.runs.proofs.InRow.{found-stops, found-says, weights-wrong, weights-room, weights-fit}
 use Rattle.stepping.specs.Zones.{rules}
-use Rattle.runs.specs.Requests.{newWeights}
+use Rattle.kept.specs.Requests.{newWeights}
 use Rattle.runs.specs.Asking.{scratchOf}
 use native.Mathlib.Omega.{arith}
 use Rattle.shape.proofs.Offsets.{entries-most}

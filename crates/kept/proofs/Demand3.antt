@@ -15,15 +15,15 @@ use Rattle.shape.specs.Shapes.{entriesOf}
 use Rattle.axes.specs.declared.Axis.{Axis}
 use Rattle.stepping.specs.declared.Settings.{Settings}
 use Rattle.stepping.specs.Zones.{Rules, rules}
-use Rattle.runs.specs.Kept.{Inputs, Kept, recordOf}
-use Rattle.runs.specs.Checks.{scratchLent, freshRun}
-use Rattle.runs.specs.Requests.{Request, newCore, newAxis, newWeights, present, replace}
-use Rattle.runs.specs.Call.{Room, roomOk, freshEnd, freshBy, scratchPlace, replaceEnd, replaceBy, freshCall, replaceCoreCall, replaceAxisCall, replaceWeightsCall}
-use Rattle.runs.specs.Sequence.{keptAfterFresh, keptAfter, AsFresh, Asked, takenUp, endOf, keptAfterAll, presentAfterAll}
-use Rattle.runs.proofs.Sound.{Sound}
-use Rattle.runs.proofs.Rules.{rules-sound}
-use Rattle.runs.proofs.Found.{InOrder}
-use Rattle.runs.proofs.StaysFresh.{present-shape, first-fresh, answers-same, next-fresh}
+use Rattle.kept.specs.Kept.{Inputs, Kept, recordOf}
+use Rattle.kept.specs.Checks.{scratchLent, freshRun}
+use Rattle.kept.specs.Requests.{Request, newCore, newAxis, newWeights, present, replace}
+use Rattle.kept.specs.Call.{Room, roomOk, freshEnd, freshBy, scratchPlace, replaceEnd, replaceBy, freshCall, replaceCoreCall, replaceAxisCall, replaceWeightsCall}
+use Rattle.kept.specs.Sequence.{keptAfterFresh, keptAfter, AsFresh, Asked, takenUp, endOf, keptAfterAll, presentAfterAll}
+use Rattle.kept.proofs.Sound.{Sound}
+use Rattle.kept.proofs.Rules.{rules-sound}
+use Rattle.kept.proofs.Found.{InOrder}
+use Rattle.kept.proofs.StaysFresh.{present-shape, first-fresh, answers-same, next-fresh}
 
 -- ---- by any sound rules
 module _ (R : Rules) (S : Sound R) where

@@ -23,14 +23,14 @@ use Rattle.axes.specs.Axes.{axisOk}
 use Rattle.rounding.specs.Rounding.{Carry, Cut}
 use Rattle.stepping.specs.Zones.{axisAt, Rules}
 use Rattle.summing.specs.Sums.{sumSize}
-use Rattle.runs.specs.Kept.{Inputs, Summed, allCarries, allSums, bare, blank, keptCarry}
+use Rattle.kept.specs.Kept.{Inputs, Summed, allCarries, allSums, bare, blank, keptCarry}
 use Rattle.rounding.specs.Keeping.{Stepped, carrySize, rankAt, numbersIn, keepStep}
-use Rattle.runs.specs.Work.{keepSums}
-use Rattle.runs.specs.Checks.{rankOk, keptLent, loneFinite, zoneFinite, keptFinite, loneOk}
-use Rattle.runs.specs.Requests.{Request, zoneOf, present, partFits, partFinite, partOk, shiftsOk, numbersOk, replaceOk}
-use Rattle.runs.proofs.Sound.{Sound}
-use Rattle.runs.proofs.Trace.{Trace, steppedBy, summedBy, keptBy}
-use Rattle.runs.proofs.Held.{cuts-length, sums-length, rank-fits, carry-finite, core-finite, sum-finite, figure-finite}
+use Rattle.kept.specs.Work.{keepSums}
+use Rattle.kept.specs.Checks.{rankOk, keptLent, loneFinite, zoneFinite, keptFinite, loneOk}
+use Rattle.kept.specs.Requests.{Request, zoneOf, present, partFits, partFinite, partOk, shiftsOk, numbersOk, replaceOk}
+use Rattle.kept.proofs.Sound.{Sound}
+use Rattle.kept.proofs.Trace.{Trace, steppedBy, summedBy, keptBy}
+use Rattle.kept.proofs.Held.{cuts-length, sums-length, rank-fits, carry-finite, core-finite, sum-finite, figure-finite}
 
 -- the request names a zone of the run, and its part has that zone's length
 pub record InOrder (s : Shape) (q : Request) : Type 0 where

@@ -28,17 +28,17 @@ use Rattle.product.specs.Product.{startSums, sumAxis, sums, inner}
 use Rattle.stepping.specs.declared.Settings.{Settings}
 use Rattle.stepping.specs.Zones.{Zone, zone, axisAt, zonesOf, Rules, rules}
 use Rattle.stepping.specs.Steps.{holding, shiftZone, scaleZone, roundZone, stepFrom, step}
-use Rattle.runs.specs.Kept.{Inputs, Kept, running, blank, bare, zoneAt, zonesFrom, leftRank, rightRank, keptCore, carryAt, sumsAt, weighedAt, weighedFrom}
+use Rattle.kept.specs.Kept.{Inputs, Kept, running, blank, bare, zoneAt, zonesFrom, leftRank, rightRank, keptCore, carryAt, sumsAt, weighedAt, weighedFrom}
 use Rattle.rounding.specs.Keeping.{Stepped, rankAt}
-use Rattle.runs.specs.Work.{sumZone, restep, resum, sumFrom, workFrom}
-use Rattle.runs.specs.Checks.{freshOk, freshRun}
-use Rattle.runs.specs.Call.{Room, roomOk, freshEnd, freshBy, freshCall}
-use Rattle.runs.specs.StepThenInner.{paired, stepThenInner}
-use Rattle.runs.proofs.Sound.{Sound, Sized}
+use Rattle.kept.specs.Work.{sumZone, restep, resum, sumFrom, workFrom}
+use Rattle.kept.specs.Checks.{freshOk, freshRun}
+use Rattle.kept.specs.Call.{Room, roomOk, freshEnd, freshBy, freshCall}
+use Rattle.kept.specs.StepThenInner.{paired, stepThenInner}
+use Rattle.kept.proofs.Sound.{Sound, Sized}
 use Rattle.rounding.proofs.Cuts.{volume, rankOn}
-use Rattle.runs.proofs.Rules.{rules-sound, rules-sized}
-use Rattle.runs.proofs.Trace.{passed, lent-is, StepTrace, Trace, steppedBy, summedBy}
-use Rattle.runs.proofs.Held.{no-cut, sizes, cuts-length, rank-fits, right-fits, carry-read, core-slot, figure-read}
+use Rattle.kept.proofs.Rules.{rules-sound, rules-sized}
+use Rattle.kept.proofs.Trace.{passed, lent-is, StepTrace, Trace, steppedBy, summedBy}
+use Rattle.kept.proofs.Held.{no-cut, sizes, cuts-length, rank-fits, right-fits, carry-read, core-slot, figure-read}
 
 product-most : (a b c d f : ℕ) → a ≤ d → c ≤ f → a * b * c ≤ d * b * f
 product-most a b c d f p r = le-trans (mul-le-mul-right c (mul-le-mul-right b p)) (mul-le-mul-left (d * b) r)

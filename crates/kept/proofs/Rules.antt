@@ -21,7 +21,7 @@ use Rattle.rounding.proofs.Cuts.{volume, round-fine, round-carried, round-of}
 use Rattle.contraction.specs.Contract.{contract}
 use Rattle.product.specs.Product.{contractAt}
 use Rattle.stepping.specs.Zones.{rules}
-use Rattle.runs.proofs.Sound.{Sound, Sized}
+use Rattle.kept.proofs.Sound.{Sound, Sized}
 
 -- ---- shift and scaling
 module _ (k : ℕ) (c : Core) (l : List Float) where

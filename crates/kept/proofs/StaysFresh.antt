@@ -15,18 +15,18 @@ use Rattle.shape.specs.Limits.{mostAxes, scratchFor}
 use Rattle.shape.specs.Shapes.{entriesOf}
 use Rattle.rounding.specs.Call.{scratchAfter}
 use Rattle.stepping.specs.Zones.{Rules}
-use Rattle.runs.specs.Kept.{Inputs, Kept, allCarries, allSums, blank}
-use Rattle.runs.specs.Work.{workFrom}
-use Rattle.runs.specs.Checks.{keptLent, scratchLent, freshOk, freshRun}
-use Rattle.runs.specs.Requests.{Request, newCore, newAxis, newWeights, present, replace}
-use Rattle.runs.specs.Call.{FreshEnd, Room, roomOk, freshEnd, freshBy, scratchPlace, replaceEnd, replaceBy}
-use Rattle.runs.specs.Sequence.{keptAfterFresh, keptAfter, leaving, AsFresh, Asked, takenUp, endOf}
-use Rattle.runs.proofs.Sound.{Sound}
-use Rattle.runs.proofs.Trace.{passed, traced}
-use Rattle.runs.proofs.Held.{sizes}
-use Rattle.runs.proofs.Found.{InOrder}
-use Rattle.runs.proofs.OneRequest.{one-request}
-use Rattle.runs.proofs.Accepted.{accepted}
+use Rattle.kept.specs.Kept.{Inputs, Kept, allCarries, allSums, blank}
+use Rattle.kept.specs.Work.{workFrom}
+use Rattle.kept.specs.Checks.{keptLent, scratchLent, freshOk, freshRun}
+use Rattle.kept.specs.Requests.{Request, newCore, newAxis, newWeights, present, replace}
+use Rattle.kept.specs.Call.{FreshEnd, Room, roomOk, freshEnd, freshBy, scratchPlace, replaceEnd, replaceBy}
+use Rattle.kept.specs.Sequence.{keptAfterFresh, keptAfter, leaving, AsFresh, Asked, takenUp, endOf}
+use Rattle.kept.proofs.Sound.{Sound}
+use Rattle.kept.proofs.Trace.{passed, traced}
+use Rattle.kept.proofs.Held.{sizes}
+use Rattle.kept.proofs.Found.{InOrder}
+use Rattle.kept.proofs.OneRequest.{one-request}
+use Rattle.kept.proofs.Accepted.{accepted}
 
 -- the axis records stay as many
 pub present-axes : (i : Inputs) (q : Request) → length (present i q .axes) ≡ length (i .axes)

@@ -24,13 +24,13 @@ use Rattle.stepping.specs.Call.{reachesAt}
 use Rattle.stepping.specs.Steps.{shiftZone, scaleZone, roundZone, stepFrom}
 use Rattle.stepping.specs.Zones.{rules}
 use Rattle.summing.specs.Sums.{sumSize}
-use Rattle.runs.specs.Kept.{bare, blank, zoneAt, keptCore, carryAt, sumsAt, weighedAt}
+use Rattle.kept.specs.Kept.{bare, blank, zoneAt, keptCore, carryAt, sumsAt, weighedAt}
 use Rattle.rounding.specs.Keeping.{bondSize, carrySize, keepStep}
-use Rattle.runs.specs.Work.{keepSums, sumZone, restep, resum, sumFrom, workFrom}
-use Rattle.runs.specs.Checks.{rankOk, inputsLent, keptLent, scratchLent, loneFinite, zoneFinite, keptFinite, loneOk, inReachAt, freshOk, freshRun}
-use Rattle.runs.specs.Requests.{numbersOk, replaceOk, replace}
-use Rattle.runs.specs.Call.{roomOk, freshEnd, replaceEnd, freshBy, replaceBy}
-use Rattle.runs.specs.Cases.{cases, AllRight}
+use Rattle.kept.specs.Work.{keepSums, sumZone, restep, resum, sumFrom, workFrom}
+use Rattle.kept.specs.Checks.{rankOk, inputsLent, keptLent, scratchLent, loneFinite, zoneFinite, keptFinite, loneOk, inReachAt, freshOk, freshRun}
+use Rattle.kept.specs.Requests.{numbersOk, replaceOk, replace}
+use Rattle.kept.specs.Call.{roomOk, freshEnd, replaceEnd, freshBy, replaceBy}
+use Rattle.kept.specs.Cases.{cases, AllRight}
 
 pub all-right : AllRight cases
 unfolding cases add sub mul div neg lt le eq ofInt ofBits toBits demand demandEach rootIn wholeRoot rootOfUnits rootOf sumOn sumTo sumRows allFinite firstNotFinite stored pick listed flat first count pairs folded offset slot put fit laid write along every walk place entry block coreAt pointsAt sizeOk bondOk shapeOk coreSize pointSize axisFinite axisOk distance spacing shiftOf scaled gram divided leftFactor carryOf cutBond absorb eye offSum settled sweepsFrom diagonalized singularOf singulars rankIn indexAt order sorted thresholdOf keptRank coreFinite notBelowZero scratchAfter roundCore contract contractAt reachesAt shiftZone scaleZone roundZone stepFrom rules bondSize carrySize sumSize bare blank zoneAt keptCore carryAt sumsAt weighedAt keepStep keepSums sumZone restep resum sumFrom workFrom rankOk inputsLent keptLent scratchLent loneFinite zoneFinite keptFinite loneOk inReachAt freshOk freshRun numbersOk replaceOk replace roomOk freshEnd replaceEnd freshBy replaceBy

@@ -8,8 +8,8 @@ use Rattle.shape.specs.Cores.{Core, coresOf, pointsAt}
 use Rattle.rounding.specs.Rounding.{coresIn}
 use Rattle.product.specs.Product.{sums, inner}
 use Rattle.stepping.specs.Steps.{step}
-use Rattle.runs.specs.Kept.{Inputs, Kept, running, blank}
-use Rattle.runs.specs.Work.{keepSums}
+use Rattle.kept.specs.Kept.{Inputs, Kept, running, blank}
+use Rattle.kept.specs.Work.{keepSums}
 use Rattle.rounding.specs.Keeping.{keepStep}
 
 -- each core with its axis' weights, the first being number k

@@ -8,11 +8,11 @@ use Rattle.axes.specs.declared.Axis.{Axis}
 use Rattle.rounding.specs.Call.{scratchAfter}
 use Rattle.stepping.specs.declared.Settings.{Settings}
 use Rattle.stepping.specs.Zones.{Rules, rules}
-use Rattle.runs.specs.declared.Run.{Run}
-use Rattle.runs.specs.declared.Ran.{Ran}
-use Rattle.runs.specs.Kept.{Inputs, Kept, keptOf, recordOf, bare}
-use Rattle.runs.specs.Checks.{keptLent, scratchLent, freshRun}
-use Rattle.runs.specs.Requests.{Request, newCore, newAxis, newWeights, replace}
+use Rattle.kept.specs.declared.Run.{Run}
+use Rattle.kept.specs.declared.Ran.{Ran}
+use Rattle.kept.specs.Kept.{Inputs, Kept, keptOf, recordOf, bare}
+use Rattle.kept.specs.Checks.{keptLent, scratchLent, freshRun}
+use Rattle.kept.specs.Requests.{Request, newCore, newAxis, newWeights, replace}
 
 -- ---- a fresh run: slices are source, weights, chain, carries, sums, scratch; the first two are only read
 pub record FreshEnd : Type 0 where

@@ -18,9 +18,9 @@ use Rattle.rounding.specs.Call.{coreFinite, notBelowZero}
 use Rattle.stepping.specs.declared.Settings.{Settings}
 use Rattle.stepping.specs.Zones.{axisAt, Rules}
 use Rattle.stepping.specs.Call.{reachesAt}
-use Rattle.runs.specs.Kept.{Inputs, Summed, Kept, allCarries, allSums, blank, keptCore, keptCarry, keptSums}
+use Rattle.kept.specs.Kept.{Inputs, Summed, Kept, allCarries, allSums, blank, keptCore, keptCarry, keptSums}
 use Rattle.rounding.specs.Keeping.{Stepped, rankAt}
-use Rattle.runs.specs.Work.{workFrom}
+use Rattle.kept.specs.Work.{workFrom}
 
 -- ---- 3: a kept rank is at least 1 and at most its source's
 unfoldable pub rankOk : Shape → Stepped → ℕ → Bool

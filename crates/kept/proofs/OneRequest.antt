@@ -27,13 +27,13 @@ use Rattle.axes.specs.Axes.{axisFinite, axisOk}
 use Rattle.rounding.specs.Call.{coreFinite}
 use Rattle.stepping.specs.Zones.{zone, axisAt, Rules}
 use Rattle.stepping.specs.Call.{reachesAt}
-use Rattle.runs.specs.Kept.{Inputs, zoneAt}
-use Rattle.runs.specs.Checks.{loneFinite, zoneFinite, loneOk, inReachAt, freshOk, freshRun}
-use Rattle.runs.specs.Requests.{Request, newCore, newAxis, newWeights, present, partFinite, partOk, shiftsOk, replace}
-use Rattle.runs.proofs.Sound.{Sound}
-use Rattle.runs.proofs.Trace.{Lent, lent-is, lent-passes, fine-zone, Trace, keptBy}
-use Rattle.runs.proofs.Same.{changed, work-same, sums-same}
-use Rattle.runs.proofs.Found.{InOrder, partPasses, found-passes}
+use Rattle.kept.specs.Kept.{Inputs, zoneAt}
+use Rattle.kept.specs.Checks.{loneFinite, zoneFinite, loneOk, inReachAt, freshOk, freshRun}
+use Rattle.kept.specs.Requests.{Request, newCore, newAxis, newWeights, present, partFinite, partOk, shiftsOk, replace}
+use Rattle.kept.proofs.Sound.{Sound}
+use Rattle.kept.proofs.Trace.{Lent, lent-is, lent-passes, fine-zone, Trace, keptBy}
+use Rattle.kept.proofs.Same.{changed, work-same, sums-same}
+use Rattle.kept.proofs.Found.{InOrder, partPasses, found-passes}
 
 -- x holds at every place but z, and is y there
 at-zone : (k z : ℕ) (x y : Bool) → (k ≡ z → x ≡ y) → (¬ (k ≡ z) → x ≡ true) → x ≡ pick (eqb k z) y true

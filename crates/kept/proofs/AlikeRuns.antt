@@ -24,12 +24,12 @@ use Rattle.shape.specs.Cores.{Core, coreWith}
 use Rattle.shape.proofs.Shaped.{shape-same}
 use Rattle.rounding.specs.Rounding.{Carry, Cut}
 use Rattle.stepping.specs.Zones.{Rules}
-use Rattle.runs.specs.Kept.{Inputs, Summed, Kept, running, leftRank, rightRank, keptCore, keptCarry, keptSums}
+use Rattle.kept.specs.Kept.{Inputs, Summed, Kept, running, leftRank, rightRank, keptCore, keptCarry, keptSums}
 use Rattle.rounding.specs.Keeping.{Stepped, bondSize, carrySize, rankAt, rankIn, numbersIn, keepStep}
-use Rattle.runs.specs.Checks.{rankOk, inputsLent, keptLent, loneFinite, zoneFinite, keptFinite}
-use Rattle.runs.specs.Requests.{Request, zoneOf, partFits, partFinite, numbersOk, replaceOk}
+use Rattle.kept.specs.Checks.{rankOk, inputsLent, keptLent, loneFinite, zoneFinite, keptFinite}
+use Rattle.kept.specs.Requests.{Request, zoneOf, partFits, partFinite, numbersOk, replaceOk}
 use Rattle.rounding.proofs.Bonds.{bond-at}
-use Rattle.runs.proofs.Before.{Roomy, rank-before, core-before, carry-before}
+use Rattle.kept.proofs.Before.{Roomy, rank-before, core-before, carry-before}
 
 -- ---- two runs that agree in used room, their slices as long
 pub record AlikeSteps (s : Shape) (t t' : Stepped) : Type 0 where

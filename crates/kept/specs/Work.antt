@@ -15,7 +15,7 @@ use Rattle.rounding.specs.Keeping.{Stepped, keepStep, Stepped, bondSize, carryS
 use Rattle.stepping.specs.Zones.{Rules}
 use Rattle.stepping.specs.Steps.{stepFrom}
 use Rattle.summing.specs.Sums.{sumSize}
-use Rattle.runs.specs.Kept.{Inputs, Summed, Kept, running, zonesFrom, carryAt, sumsAt, weighedFrom}
+use Rattle.kept.specs.Kept.{Inputs, Summed, Kept, running, zonesFrom, carryAt, sumsAt, weighedFrom}
 
 -- the figure is the first number of the last axis' sums
 unfoldable pub keepSums : Shape → ℕ → List (List Float × Unit {0}) → Summed → Summed

@@ -13,15 +13,15 @@ use Rattle.lists.proofs.Tests.{ltb-yes, ltb-no, eqb-no}
 use Rattle.shape.specs.Limits.{scratchFor}
 use Rattle.shape.specs.Shapes.{entriesOf}
 use Rattle.stepping.specs.Zones.{Rules}
-use Rattle.runs.specs.Kept.{Inputs, Kept}
-use Rattle.runs.specs.Checks.{scratchLent}
-use Rattle.runs.specs.Requests.{Request, zoneOf, partFits, replaceOk, replace}
-use Rattle.runs.specs.Call.{scratchPlace, replaceEnd, replaceBy}
-use Rattle.runs.specs.Sequence.{AsFresh}
-use Rattle.runs.proofs.Sound.{Sound}
-use Rattle.runs.proofs.Trace.{Trace, traced, keptBy}
-use Rattle.runs.proofs.Found.{InOrder, shape-passes, slices-pass}
-use Rattle.runs.proofs.StaysFresh.{ran-fresh}
+use Rattle.kept.specs.Kept.{Inputs, Kept}
+use Rattle.kept.specs.Checks.{scratchLent}
+use Rattle.kept.specs.Requests.{Request, zoneOf, partFits, replaceOk, replace}
+use Rattle.kept.specs.Call.{scratchPlace, replaceEnd, replaceBy}
+use Rattle.kept.specs.Sequence.{AsFresh}
+use Rattle.kept.proofs.Sound.{Sound}
+use Rattle.kept.proofs.Trace.{Trace, traced, keptBy}
+use Rattle.kept.proofs.Found.{InOrder, shape-passes, slices-pass}
+use Rattle.kept.proofs.StaysFresh.{ran-fresh}
 
 module _ (R : Rules) (S : Sound R) (i : Inputs) (T : Trace R i) (q : Request) where
   found-zone : (room : Check) → i .shape .d ≤ zoneOf q → replace R room (keptBy T) q ≡ refused Zone

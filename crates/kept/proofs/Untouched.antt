@@ -27,16 +27,16 @@ use Rattle.stepping.specs.Zones.{Rules}
 use Rattle.stepping.specs.Steps.{stepFrom}
 use Rattle.stepping.proofs.Restart.{step-length}
 use Rattle.summing.specs.Sums.{sumSize}
-use Rattle.runs.specs.Kept.{Inputs, Summed, Kept, running, allCarries, allSums, zoneAt, zonesFrom, carryAt, sumsAt, weighedAt, weighedFrom}
+use Rattle.kept.specs.Kept.{Inputs, Summed, Kept, running, allCarries, allSums, zoneAt, zonesFrom, carryAt, sumsAt, weighedAt, weighedFrom}
 use Rattle.rounding.specs.Keeping.{Stepped, bondSize, carrySize, rankIn, numbersIn, keepStep}
-use Rattle.runs.specs.Work.{keepSums, sumZone, restep, resum, sumFrom, workFrom}
-use Rattle.runs.specs.Checks.{rankOk, keptLent, scratchLent}
-use Rattle.runs.specs.Requests.{Request, newCore, newAxis, newWeights, zoneOf, present, redo, replace}
-use Rattle.runs.specs.Call.{scratchPlace, replaceEnd, replaceBy}
-use Rattle.runs.specs.Sequence.{keptAfter}
-use Rattle.runs.proofs.Found.{InOrder}
-use Rattle.runs.proofs.Accepted.{accepted}
-use Rattle.runs.proofs.Before.{bond-count, Roomy}
+use Rattle.kept.specs.Work.{keepSums, sumZone, restep, resum, sumFrom, workFrom}
+use Rattle.kept.specs.Checks.{rankOk, keptLent, scratchLent}
+use Rattle.kept.specs.Requests.{Request, newCore, newAxis, newWeights, zoneOf, present, redo, replace}
+use Rattle.kept.specs.Call.{scratchPlace, replaceEnd, replaceBy}
+use Rattle.kept.specs.Sequence.{keptAfter}
+use Rattle.kept.proofs.Found.{InOrder}
+use Rattle.kept.proofs.Accepted.{accepted}
+use Rattle.kept.proofs.Before.{bond-count, Roomy}
 
 -- ---- what is left
 -- of the step, where the cores from z on are made anew: all that stands before zone z and behind the last, unused room too

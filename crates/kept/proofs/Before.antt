@@ -17,7 +17,7 @@ use Rattle.shape.specs.declared.Shape.{Shape}
 use Rattle.shape.specs.Shapes.{pointsOf, rightOf, coreSize}
 use Rattle.shape.specs.Cores.{Core, coreWith}
 use Rattle.rounding.specs.Rounding.{Carry, Cut}
-use Rattle.runs.specs.Kept.{leftRank, rightRank, keptCore, keptCarry}
+use Rattle.kept.specs.Kept.{leftRank, rightRank, keptCore, keptCarry}
 use Rattle.rounding.specs.Keeping.{Stepped, bondSize, carrySize, rankAt, rankIn, numbersIn, keepStep}
 use Rattle.rounding.proofs.Bonds.{bond-offset}
 

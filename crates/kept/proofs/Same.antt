@@ -27,13 +27,13 @@ use Rattle.stepping.specs.Zones.{Zone, Rules}
 use Rattle.stepping.specs.Steps.{stepFrom}
 use Rattle.stepping.proofs.Restart.{step-restart}
 use Rattle.summing.specs.Sums.{sumSize}
-use Rattle.runs.specs.Kept.{Inputs, Summed, Kept, running, bare, blank, zoneAt, zonesFrom, keptCore, carryAt, sumsAt, weighedAt, weighedFrom}
+use Rattle.kept.specs.Kept.{Inputs, Summed, Kept, running, bare, blank, zoneAt, zonesFrom, keptCore, carryAt, sumsAt, weighedAt, weighedFrom}
 use Rattle.rounding.specs.Keeping.{Stepped, bondSize, carrySize, rankIn, numbersIn, keepStep}
-use Rattle.runs.specs.Work.{keepSums, sumZone, restep, resum, sumFrom, workFrom}
-use Rattle.runs.proofs.Sound.{Sound}
-use Rattle.runs.proofs.Trace.{StepTrace, Trace, steppedBy, summedBy}
-use Rattle.runs.proofs.Held.{sizes, cuts-length, sums-length, carry-read, sums-read}
-use Rattle.runs.proofs.Before.{bond-count, Roomy, core-before}
+use Rattle.kept.specs.Work.{keepSums, sumZone, restep, resum, sumFrom, workFrom}
+use Rattle.kept.proofs.Sound.{Sound}
+use Rattle.kept.proofs.Trace.{StepTrace, Trace, steppedBy, summedBy}
+use Rattle.kept.proofs.Held.{sizes, cuts-length, sums-length, carry-read, sums-read}
+use Rattle.kept.proofs.Before.{bond-count, Roomy, core-before}
 
 -- ---- what was kept, and what is kept anew from z on
 pub keep-again : (s : Shape) (z : ℕ) (tr c : List (Carry × Cut)) (t : Stepped) → length tr ≡ s .d → z < s .d → keepStep s z c (keepStep s 0 tr t) ≡ keepStep s 0 (take z tr ++ c) t

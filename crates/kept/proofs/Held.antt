@@ -34,12 +34,12 @@ use Rattle.stepping.specs.Zones.{Zone, Rules}
 use Rattle.stepping.specs.Steps.{holding, shiftZone, scaleZone, roundZone, stepFrom}
 use Rattle.stepping.proofs.Restart.{step-length}
 use Rattle.summing.specs.Sums.{sumSize}
-use Rattle.runs.specs.Kept.{Inputs, blank, zoneAt, zonesFrom, leftRank, rightRank, keptCore, keptCarry, carryAt, keptSums, sumsAt, weighedAt, weighedFrom}
+use Rattle.kept.specs.Kept.{Inputs, blank, zoneAt, zonesFrom, leftRank, rightRank, keptCore, keptCarry, carryAt, keptSums, sumsAt, weighedAt, weighedFrom}
 use Rattle.rounding.specs.Keeping.{bondSize, carrySize, rankAt, rankIn, numbersIn, keepStep}
-use Rattle.runs.specs.Work.{keepSums, sumZone}
-use Rattle.runs.proofs.Sound.{Sound}
+use Rattle.kept.specs.Work.{keepSums, sumZone}
+use Rattle.kept.proofs.Sound.{Sound}
 use Rattle.rounding.proofs.Cuts.{Carried}
-use Rattle.runs.proofs.Trace.{StepTrace, Trace, fine-zone, steppedBy, summedBy}
+use Rattle.kept.proofs.Trace.{StepTrace, Trace, fine-zone, steppedBy, summedBy}
 
 -- a zone of which nothing is kept
 abbrev pub no-cut : Carry × Cut

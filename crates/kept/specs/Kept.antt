@@ -19,7 +19,7 @@ use Rattle.product.specs.Product.{startSums}
 use Rattle.summing.specs.Sums.{sumSize}
 use Rattle.stepping.specs.declared.Settings.{Settings}
 use Rattle.stepping.specs.Zones.{Zone, zone, axisAt}
-use Rattle.runs.specs.declared.Run.{Run}
+use Rattle.kept.specs.declared.Run.{Run}
 
 -- what a run is made from
 pub record Inputs : Type 0 where

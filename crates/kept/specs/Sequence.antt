@@ -9,9 +9,9 @@ use Rattle.answers.specs.Outcome.{done}
 use Rattle.lists.specs.Floats.{zeros}
 use Rattle.shape.specs.Limits.{mostAxes}
 use Rattle.stepping.specs.Zones.{Rules}
-use Rattle.runs.specs.Kept.{Inputs, Kept, keptOf, recordOf}
-use Rattle.runs.specs.Requests.{Request, present}
-use Rattle.runs.specs.Call.{FreshEnd, Room, roomOk, freshBy, ReplaceEnd, replaceBy}
+use Rattle.kept.specs.Kept.{Inputs, Kept, keptOf, recordOf}
+use Rattle.kept.specs.Requests.{Request, present}
+use Rattle.kept.specs.Call.{FreshEnd, Room, roomOk, freshBy, ReplaceEnd, replaceBy}
 
 -- the run that a call leaves: its record, and the slices
 abbrev pub keptAfterFresh : Inputs → FreshEnd → Kept

@@ -25,19 +25,19 @@ use Rattle.stepping.specs.Zones.{Rules}
 use Rattle.stepping.specs.Steps.{stepFrom}
 use Rattle.stepping.proofs.Restart.{step-length}
 use Rattle.summing.specs.Sums.{sumSize}
-use Rattle.runs.specs.Kept.{Inputs, Summed, Kept, running, allSums, zoneAt, zonesFrom, rightRank, carryAt, keptSums, sumsAt, weighedAt, weighedFrom}
+use Rattle.kept.specs.Kept.{Inputs, Summed, Kept, running, allSums, zoneAt, zonesFrom, rightRank, carryAt, keptSums, sumsAt, weighedAt, weighedFrom}
 use Rattle.rounding.specs.Keeping.{Stepped, rankAt, keepStep}
-use Rattle.runs.specs.Work.{keepSums, sumZone, restep, resum, sumFrom, workFrom}
-use Rattle.runs.proofs.Before.{Roomy, right-before}
+use Rattle.kept.specs.Work.{keepSums, sumZone, restep, resum, sumFrom, workFrom}
+use Rattle.kept.proofs.Before.{Roomy, right-before}
 use Rattle.answers.specs.declared.Verdict.the-variants.{Refused}
-use Rattle.runs.specs.Checks.{rankOk, scratchLent}
-use Rattle.runs.specs.Requests.{Request, newCore, newAxis, newWeights, present, replaceOk, redo, replace}
-use Rattle.runs.specs.Call.{ReplaceEnd, scratchPlace, replaceEnd, replaceBy}
-use Rattle.runs.specs.Sequence.{keptAfter}
-use Rattle.runs.proofs.Found.{InOrder}
-use Rattle.runs.proofs.Accepted.{checks-say}
-use Rattle.runs.proofs.Untouched.{Arrays, slices-are, roomy}
-use Rattle.runs.proofs.AlikeRuns.{AlikeSteps, Alike, AnswersAlike, bond-same, checks-same, steps-alike}
+use Rattle.kept.specs.Checks.{rankOk, scratchLent}
+use Rattle.kept.specs.Requests.{Request, newCore, newAxis, newWeights, present, replaceOk, redo, replace}
+use Rattle.kept.specs.Call.{ReplaceEnd, scratchPlace, replaceEnd, replaceBy}
+use Rattle.kept.specs.Sequence.{keptAfter}
+use Rattle.kept.proofs.Found.{InOrder}
+use Rattle.kept.proofs.Accepted.{checks-say}
+use Rattle.kept.proofs.Untouched.{Arrays, slices-are, roomy}
+use Rattle.kept.proofs.AlikeRuns.{AlikeSteps, Alike, AnswersAlike, bond-same, checks-same, steps-alike}
 
 -- the sums
 module _ (i : Inputs) (shp : Shaped (i .shape)) (t t' : Stepped) (steps : AlikeSteps (i .shape) t t') (u u' : Summed)

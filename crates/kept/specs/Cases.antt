@@ -16,10 +16,10 @@ use Rattle.shape.specs.Limits.{scratchFor}
 use Rattle.axes.specs.declared.Axis.{Axis}
 use Rattle.stepping.specs.declared.Settings.{Settings}
 use Rattle.stepping.specs.Zones.{rules}
-use Rattle.runs.specs.Kept.{Kept, keptOf}
-use Rattle.runs.specs.Requests.{Request, newCore, newAxis, newWeights}
-use Rattle.runs.specs.Call.{FreshEnd, freshCall, replaceBy}
-use Rattle.runs.specs.Sequence.{keptAfter}
+use Rattle.kept.specs.Kept.{Kept, keptOf}
+use Rattle.kept.specs.Requests.{Request, newCore, newAxis, newWeights}
+use Rattle.kept.specs.Call.{FreshEnd, freshCall, replaceBy}
+use Rattle.kept.specs.Sequence.{keptAfter}
 
 -- m * 2 ^ e
 abbrev number : ℕ → ℕ → Float

@@ -16,9 +16,9 @@ use Rattle.shape.specs.Shapes.{shapeOk, coreSize, pointSize}
 use Rattle.axes.specs.declared.Axis.{Axis}
 use Rattle.axes.specs.Axes.{axisFinite, axisOk}
 use Rattle.stepping.specs.Zones.{axisAt, Rules}
-use Rattle.runs.specs.Kept.{Inputs, Kept, running}
-use Rattle.runs.specs.Work.{sumFrom, workFrom}
-use Rattle.runs.specs.Checks.{rankOk, inputsLent, keptLent, loneFinite, zoneFinite, keptFinite, loneOk, inReachAt}
+use Rattle.kept.specs.Kept.{Inputs, Kept, running}
+use Rattle.kept.specs.Work.{sumFrom, workFrom}
+use Rattle.kept.specs.Checks.{rankOk, inputsLent, keptLent, loneFinite, zoneFinite, keptFinite, loneOk, inReachAt}
 
 -- a zone, and its new core's numbers, its new axis record or its new weights
 pub data Request : Type 0 where

@@ -21,10 +21,10 @@ use Rattle.rounding.specs.Call.{coreFinite}
 use Rattle.product.specs.Product.{startSums}
 use Rattle.stepping.specs.Zones.{axisAt, Rules}
 use Rattle.stepping.specs.Steps.{stepFrom}
-use Rattle.runs.specs.Kept.{Inputs, Summed, Kept, running, blank, bare, zonesFrom, carryAt, sumsAt, weighedFrom}
+use Rattle.kept.specs.Kept.{Inputs, Summed, Kept, running, blank, bare, zonesFrom, carryAt, sumsAt, weighedFrom}
 use Rattle.rounding.specs.Keeping.{Stepped, keepStep}
-use Rattle.runs.specs.Work.{keepSums, sumZone, restep, resum, sumFrom, workFrom}
-use Rattle.runs.specs.Checks.{inputsLent, loneFinite, zoneFinite, loneOk, inReachAt, freshOk, freshRun}
+use Rattle.kept.specs.Work.{keepSums, sumZone, restep, resum, sumFrom, workFrom}
+use Rattle.kept.specs.Checks.{inputsLent, loneFinite, zoneFinite, loneOk, inReachAt, freshOk, freshRun}
 
 -- ---- the checks
 pub record Passed (R : Rules) (i : Inputs) : Type 0 where
