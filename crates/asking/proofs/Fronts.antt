@@ -26,8 +26,8 @@ use Rattle.shape.specs.Sizes.{SizesWithin, Inside}
 use Rattle.shape.specs.Cores.{standing}
 use Rattle.shape.proofs.Insides.{inside-size}
 use Rattle.axes.specs.declared.Axis.{Axis}
-use Rattle.rounding.specs.Keeping.{carrySize}
-use Rattle.rounding.proofs.Bonds.{carry-bond}
+use Rattle.walking.specs.Keeping.{carrySize}
+use Rattle.walking.proofs.Bonds.{carry-bond}
 use Rattle.summing.specs.Sums.{sumSize}
 use Rattle.summing.proofs.Slotted.{sum-size}
 use Rattle.stepping.specs.declared.Settings.{Settings}

@@ -11,7 +11,7 @@ use Rattle.shape.specs.declared.Shape.{Shape}
 use Rattle.shape.specs.Shapes.{rightOf, atBond}
 use Rattle.shape.specs.Cores.{standing}
 use Rattle.axes.specs.declared.Axis.{Axis}
-use Rattle.rounding.specs.Keeping.{carrySize}
+use Rattle.walking.specs.Keeping.{carrySize}
 use Rattle.summing.specs.Sums.{sumSize}
 use Rattle.stepping.specs.declared.Settings.{Settings}
 use Rattle.stepping.specs.Over.{axisReaches}

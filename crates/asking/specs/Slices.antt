@@ -14,7 +14,7 @@ use Rattle.shape.specs.Cores.{pointsAt}
 use Rattle.axes.specs.declared.Axis.{Axis}
 use Rattle.axes.specs.Axes.{axisFinite, axisAt}
 use Rattle.rounding.specs.Call.{coreFinite}
-use Rattle.rounding.specs.Keeping.{carrySize}
+use Rattle.walking.specs.Keeping.{carrySize}
 use Rattle.summing.specs.Sums.{sumSize}
 use Rattle.asking.specs.Ranks.{rankHeld}
 use Rattle.asking.specs.Rooms.{coreHeld, carryHeld, sumsHeld}

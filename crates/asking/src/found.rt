@@ -10,7 +10,7 @@ ghost use Rattle.lists.specs.Lists.{pick, firstNot};
 ghost use Rattle.lists.specs.Slots.{offset};
 ghost use Rattle.shape.specs.Shapes.{entriesOf, allPoints};
 ghost use Rattle.shape.specs.Sizes.{SizesWithin, Inside};
-ghost use Rattle.rounding.specs.Keeping.{carrySize};
+ghost use Rattle.walking.specs.Keeping.{carrySize};
 ghost use Rattle.summing.specs.Sums.{sumSize};
 ghost use Rattle.asking.specs.Slices.{lentBy, foundBy, madeFinite, heldFinite};
 
@@ -39,7 +39,7 @@ pub fn lent(s: shape::Shape, l: Lengths) -> answers::Verdict
         return answers::Verdict::Refused(answers::Refusal::Length(2));
     }
     let d = s.d;
-    if l.carries != rounding::zones::carry_offset(s, d) {
+    if l.carries != walking::carry_offset(s, d) {
         return answers::Verdict::Refused(answers::Refusal::Length(3));
     }
     if l.sums != summing::sum_offset(s, d) {

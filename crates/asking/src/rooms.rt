@@ -9,7 +9,7 @@ ghost use Rattle.lists.specs.Slots.{offset};
 ghost use Rattle.lists.specs.Floats.{allFinite};
 ghost use Rattle.shape.specs.Shapes.{entriesOf};
 ghost use Rattle.shape.specs.Sizes.{PointsWithin, SizesWithin, Inside};
-ghost use Rattle.rounding.specs.Keeping.{carrySize};
+ghost use Rattle.walking.specs.Keeping.{carrySize};
 ghost use Rattle.summing.specs.Sums.{sumSize};
 ghost use Rattle.stepping.specs.Over.{axisReaches};
 ghost use Rattle.asking.specs.Rooms.{coreHeld, carryHeld, sumsHeld, reachFrom};
@@ -52,7 +52,7 @@ fn carry_held(s: shape::Shape, t: shape::Shape, carries: &[f64], k: usize) -> bo
     ensures { λ r. ⌜ r ≡ carryHeld s t (now (carries .entry)) k ⌝ }
 {
     if k + 1 < s.d {
-        let at = rounding::zones::carry_offset(s, k);
+        let at = walking::carry_offset(s, k);
         let used = t.right[k] * s.right[k];
         return front_finite(carries, at, used);
     }

@@ -18,11 +18,11 @@ use Rattle.shape.specs.Sizes.{Inside}
 use Rattle.shape.specs.Cores.{Core, standing}
 use Rattle.shape.proofs.Shaped.{Shaped, shaped}
 use Rattle.axes.specs.declared.Axis.{Axis}
-use Rattle.rounding.specs.declared.zones.Walked.{Walked}
-use Rattle.rounding.specs.Keeping.{Stepped}
-use Rattle.rounding.specs.Slots.{AtZone, heldBy}
-use Rattle.rounding.proofs.From.{at-start}
-use Rattle.rounding.proofs.Bonds.{carries-most}
+use Rattle.walking.specs.declared.Walked.{Walked}
+use Rattle.walking.specs.Keeping.{Stepped}
+use Rattle.walking.specs.Slots.{AtZone, heldBy}
+use Rattle.walking.proofs.From.{at-start}
+use Rattle.walking.proofs.Bonds.{carries-most}
 use Rattle.stepping.specs.declared.Settings.{Settings}
 use Rattle.stepping.specs.Steps.{step}
 use Rattle.stepping.specs.Over.{axisReaches, Stands, Rooms, Onward, standFrom}

@@ -26,8 +26,8 @@ use Rattle.shape.proofs.Shaped.{shaped, within-is}
 use Rattle.shape.proofs.Insides.{inside-itself, inside-size}
 use Rattle.axes.specs.declared.Axis.{Axis}
 use Rattle.rounding.specs.declared.Rounded.{Rounded}
-use Rattle.rounding.specs.declared.zones.Walked.{Walked}
-use Rattle.rounding.specs.Rounding.{Carry, Cut}
+use Rattle.walking.specs.declared.Walked.{Walked}
+use Rattle.cutting.specs.Rounding.{Carry, Cut}
 use Rattle.rounding.specs.Call.{notBelowZero, Ended, endedBy}
 use Rattle.rounding.proofs.Ends.{inside-entries}
 use Rattle.stepping.specs.declared.Settings.{Settings}

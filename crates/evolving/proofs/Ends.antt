@@ -29,8 +29,8 @@ use Rattle.shape.specs.Shapes.{leftOf, pointsOf, rightOf, chainOk, coreSize, en
 use Rattle.shape.specs.Cores.{Core, coreWith, coreAt, coresOf, standing, reshaped}
 use Rattle.axes.specs.declared.Axis.{Axis}
 use Rattle.rounding.specs.declared.Rounded.{Rounded}
-use Rattle.rounding.specs.declared.zones.Walked.{Walked}
-use Rattle.rounding.specs.Rounding.{Carry, Cut, coresIn, countsIn}
+use Rattle.walking.specs.declared.Walked.{Walked}
+use Rattle.cutting.specs.Rounding.{Carry, Cut, coresIn, countsIn}
 use Rattle.rounding.specs.Call.{lengthsOk, Ended, scratchAfter, endedBy}
 use Rattle.rounding.proofs.Early.{Early, early-demand, early-then, early-each, early-shape}
 use Rattle.rounding.proofs.Ends.{early-lengths}

@@ -36,9 +36,9 @@ use Rattle.axes.specs.Axes.{axisAt}
 use Rattle.shift.specs.declared.Shift.{Shift}
 use Rattle.shift.specs.declared.Shift.the-variants.{Stay, By}
 use Rattle.shift.specs.Shifts.{shiftOf, shifted, moveCore, scaled}
-use Rattle.rounding.specs.Rounding.{Carry, none, Cut, roundCore, coresIn}
-use Rattle.rounding.specs.Keeping.{bondSize, carrySize, Stepped, keepStep, carryLeft, roundFrom}
-use Rattle.rounding.proofs.Cuts.{volume}
+use Rattle.cutting.specs.Rounding.{Carry, none, Cut, roundCore, coresIn}
+use Rattle.walking.specs.Keeping.{bondSize, carrySize, Stepped, keepStep, carryLeft, roundFrom}
+use Rattle.cutting.proofs.Cuts.{volume}
 use Rattle.stepping.specs.declared.Settings.{Settings}
 use Rattle.stepping.specs.Zones.{Zone, zone, zonesOf, rules}
 use Rattle.stepping.specs.Steps.{holding, shiftZone, scaleZone, roundZone, stepFrom, step}

@@ -27,9 +27,9 @@ use Rattle.shape.specs.Cores.{Core, coreWith, standing, reshaped}
 use Rattle.shape.proofs.Insides.{inside-size}
 use Rattle.shape.proofs.Ranks.{reshaped-points}
 use Rattle.bond.specs.Bonds.{cutBond}
-use Rattle.rounding.specs.Rounding.{Carry, none, Cut, takenIn, cutIf, roundCore, coresIn, countsIn, flagsIn}
-use Rattle.rounding.specs.Keeping.{bondSize, Stepped, keepStep}
-use Rattle.rounding.proofs.Cuts.{volume, round-of}
+use Rattle.cutting.specs.Rounding.{Carry, none, Cut, takenIn, cutIf, roundCore, coresIn, countsIn, flagsIn}
+use Rattle.walking.specs.Keeping.{bondSize, Stepped, keepStep}
+use Rattle.cutting.proofs.Cuts.{volume, round-of}
 use Rattle.evolving.proofs.Reshapes.{reshaped-at}
 
 -- ---- lists as long as their slots, behind which o stands

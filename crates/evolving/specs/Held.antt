@@ -20,11 +20,11 @@ use Rattle.shape.specs.Shapes.{chainOk, coreSize, entriesOf}
 use Rattle.shape.specs.Sizes.{Inside}
 use Rattle.shape.specs.Cores.{standing, reshaped}
 use Rattle.axes.specs.declared.Axis.{Axis}
-use Rattle.rounding.specs.declared.zones.Walked.{Walked}
+use Rattle.walking.specs.declared.Walked.{Walked}
 use Rattle.rounding.specs.declared.Rounded.{Rounded}
 use Rattle.rounding.specs.Call.{Ended}
-use Rattle.rounding.specs.Rounding.{Carry, Cut, coresIn, countsIn, flagsIn}
-use Rattle.rounding.specs.Keeping.{Stepped, keepStep, carryLeft}
+use Rattle.cutting.specs.Rounding.{Carry, Cut, coresIn, countsIn, flagsIn}
+use Rattle.walking.specs.Keeping.{Stepped, keepStep, carryLeft}
 use Rattle.stepping.specs.declared.Settings.{Settings}
 use Rattle.stepping.specs.Zones.{rules}
 use Rattle.stepping.specs.Steps.{stepFrom}

@@ -13,9 +13,9 @@ ghost use Rattle.shape.specs.Limits.{mostAxes, within};
 ghost use Rattle.shape.specs.Shapes.{chainOk, entriesOf};
 ghost use Rattle.shape.specs.Sizes.{SizesWithin, Inside};
 ghost use Rattle.shape.specs.Cores.{standing, coresOf};
-ghost use Rattle.rounding.specs.Rounding.{Carry, Cut};
+ghost use Rattle.cutting.specs.Rounding.{Carry, Cut};
 ghost use Rattle.rounding.specs.Call.{notBelowZero, endedBy};
-ghost use Rattle.rounding.specs.Slots.{AtZone, heldBy};
+ghost use Rattle.walking.specs.Slots.{AtZone, heldBy};
 ghost use Rattle.stepping.specs.Steps.{step, stepsAndOne};
 ghost use Rattle.stepping.specs.Call.{mostSteps, settingsFor, stepCall, evolveCall};
 ghost use Rattle.stepping.specs.Over.{axisReaches, Stands, Rooms, stepOver, evolveOver};
@@ -39,10 +39,10 @@ const BLOCK: usize = 1024;
 const MOST_STEPS: usize = 10000;
 
 // What is held of a chain of shape t before its step: no rank, no count.
-fn held_none(t: shape::Shape) -> rounding::zones::Walked
+fn held_none(t: shape::Shape) -> walking::Walked
     ensures { λ r. ⌜ r ≡ noneHeld t ⌝ }
 {
-    rounding::zones::Walked {
+    walking::Walked {
         verdict: answers::Verdict::Fits,
         shape: t,
         ranks: [0; shape::MOST_AXES],
@@ -51,10 +51,10 @@ fn held_none(t: shape::Shape) -> rounding::zones::Walked
     }
 }
 
-fn refused_walk(q: answers::Refusal, t: shape::Shape) -> rounding::zones::Walked
+fn refused_walk(q: answers::Refusal, t: shape::Shape) -> walking::Walked
     ensures { λ r. ⌜ r .verdict ≡ Refused q ⌝ }
 {
-    rounding::zones::Walked {
+    walking::Walked {
         verdict: answers::Verdict::Refused(q),
         shape: t,
         ranks: [0; shape::MOST_AXES],
@@ -67,14 +67,14 @@ fn refused_walk(q: answers::Refusal, t: shape::Shape) -> rounding::zones::Walked
 pub fn step_from(
     z: usize,
     s: shape::Shape,
-    w: rounding::zones::Walked,
+    w: walking::Walked,
     set: stepping::Settings,
     xs: [axes::Axis; shape::MOST_AXES],
     work: &mut [f64],
     carries: &mut [f64],
     room: &mut [f64],
     block: &mut [f64],
-) -> rounding::zones::Walked
+) -> walking::Walked
     requires { ⌜ (Stands s (w .shape) (now work)) × (Rooms (now room) (now block)) ⌝ }
     requires { ⌜ (z ≤ s .d) × ((k : ℕ) → z ≤ k → k < s .d → axisReaches set s xs k ≡ true) ⌝ }
     requires { ⌜ (w .verdict ≡ Fits) × AtZone s z z (w .shape) (heldBy w (now work) (now carries)) ⌝ }
@@ -85,7 +85,7 @@ pub fn step_from(
     if let answers::Verdict::Refused(q) = moved {
         return refused_walk(q, t);
     }
-    rounding::zones::round_from(z, s, w, set.eps, work, carries, room)
+    walking::round_from(z, s, w, set.eps, work, carries, room)
 }
 
 // A step of a whole chain of shape t.
@@ -98,7 +98,7 @@ fn one_step(
     carries: &mut [f64],
     room: &mut [f64],
     block: &mut [f64],
-) -> rounding::zones::Walked
+) -> walking::Walked
     requires { ⌜ Ready set s xs (now carries) (now room) (now block) ⌝ }
     requires { ⌜ Placed s t (now work) ⌝ }
     ensures { λ r. ⌜ Came (step set xs (tab (s .d) (standing s t (now (work .entry))))) s t (r .verdict) (r .shape) (r .sweeps) (r .settled) (now (work .exit)) ⌝ }
@@ -116,7 +116,7 @@ fn steps_in(
     carries: &mut [f64],
     room: &mut [f64],
     block: &mut [f64],
-) -> rounding::zones::Walked
+) -> walking::Walked
     requires { ⌜ Ready set s xs (now carries) (now room) (now block) ⌝ }
     requires { ⌜ Placed s s (now work) ⌝ }
     ensures { λ r. ⌜ Came (stepsAndOne m set xs (tab (s .d) (standing s s (now (work .entry))))) s s (r .verdict) (r .shape) (r .sweeps) (r .settled) (now (work .exit)) ⌝ }
@@ -144,7 +144,7 @@ fn stepped(
     xs: [axes::Axis; shape::MOST_AXES],
     chain: &[f64],
     scratch: &mut [f64],
-) -> rounding::zones::Walked
+) -> walking::Walked
     requires { ⌜ (chainOk s ≡ done tt) × ((k : ℕ) → k < s .d → axisReaches set s xs k ≡ true) ⌝ }
     requires { ⌜ (length (now chain) ≡ entriesOf s) × (entriesOf s ≤ length (now scratch)) ⌝ }
     ensures { λ r. ⌜ Came (stepsAndOne m set xs (coresOf s (now (chain .entry)))) s s (r .verdict) (r .shape) (r .sweeps) (r .settled) (now (scratch .exit)) ⌝ }
@@ -169,7 +169,7 @@ fn refused_end(q: answers::Refusal, s: shape::Shape) -> rounding::Rounded
     }
 }
 
-fn made_end(w: rounding::zones::Walked) -> rounding::Rounded
+fn made_end(w: walking::Walked) -> rounding::Rounded
     ensures { λ r. ⌜ r ≡ record { verdict = Fits; shape = w .shape; sweeps = w .sweeps; settled = w .settled } ⌝ }
 {
     let t = w.shape;
@@ -186,7 +186,7 @@ fn made_end(w: rounding::zones::Walked) -> rounding::Rounded
 // The chain packed from where its cores stand, or as it was where the steps were refused; scratch all +0.
 fn finish(
     s: shape::Shape,
-    w: rounding::zones::Walked,
+    w: walking::Walked,
     chain: &mut [f64],
     scratch: &mut [f64],
 ) -> rounding::Rounded

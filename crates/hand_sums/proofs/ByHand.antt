@@ -21,7 +21,7 @@ use Rattle.rotation.specs.Rotation.{tangentOf, slopeOf, cosineOf, turnedAt, eye
 use Rattle.sweeps.specs.Sweeps.{turnColumns, turnRows, cleared, turned, skipped, rotate, sweep, offSum, settled, sweepsFrom, diagonalized}
 use Rattle.values.specs.Values.{singularOf, singulars, rankIn, indexAt, order, sorted, thresholdOf, keptRank}
 use Rattle.rounding.specs.Call.{lengthsOk, coreFinite, notBelowZero, roundFinite, roundOk, scratchAfter, endedBy, roundCall}
-use Rattle.rounding.specs.Rounding.{roundCore, rounding}
+use Rattle.cutting.specs.Rounding.{roundCore, rounding}
 use Rattle.product.specs.Call.{innerLent, innerFinite, innerOk, weighed, innerCall}
 use Rattle.contraction.specs.Contract.{contract}
 use Rattle.product.specs.Product.{contractAt, sumAxis, sums, inner}

@@ -22,13 +22,13 @@ use Rattle.shape.specs.Limits.{within}
 use Rattle.shape.specs.Shapes.{pointsOf, rightOf, coreSize}
 use Rattle.shape.specs.Cores.{Core, coreWith}
 use Rattle.shape.proofs.Shaped.{shape-same}
-use Rattle.rounding.specs.Rounding.{Carry, Cut}
+use Rattle.cutting.specs.Rounding.{Carry, Cut, rankIn, numbersIn}
 use Rattle.stepping.specs.Zones.{Rules}
 use Rattle.kept.specs.Kept.{Inputs, Summed, Kept, running, leftRank, rightRank, keptCore, keptCarry, keptSums}
-use Rattle.rounding.specs.Keeping.{Stepped, bondSize, carrySize, rankAt, rankIn, numbersIn, keepStep}
+use Rattle.walking.specs.Keeping.{Stepped, bondSize, carrySize, rankAt, keepStep}
 use Rattle.kept.specs.Checks.{rankOk, inputsLent, keptLent, loneFinite, zoneFinite, keptFinite}
 use Rattle.kept.specs.Requests.{Request, zoneOf, partFits, partFinite, numbersOk, replaceOk}
-use Rattle.rounding.proofs.Bonds.{bond-at}
+use Rattle.walking.proofs.Bonds.{bond-at}
 use Rattle.kept.proofs.Before.{Roomy, rank-before, core-before, carry-before}
 
 -- ---- two runs that agree in used room, their slices as long

@@ -16,10 +16,10 @@ use Rattle.lists.proofs.Slots.{offset-suc, offset-mono, slot-before, write-befo
 use Rattle.shape.specs.declared.Shape.{Shape}
 use Rattle.shape.specs.Shapes.{pointsOf, rightOf, coreSize}
 use Rattle.shape.specs.Cores.{Core, coreWith}
-use Rattle.rounding.specs.Rounding.{Carry, Cut}
+use Rattle.cutting.specs.Rounding.{Carry, Cut, rankIn, numbersIn}
 use Rattle.kept.specs.Kept.{leftRank, rightRank, keptCore, keptCarry}
-use Rattle.rounding.specs.Keeping.{Stepped, bondSize, carrySize, rankAt, rankIn, numbersIn, keepStep}
-use Rattle.rounding.proofs.Bonds.{bond-offset}
+use Rattle.walking.specs.Keeping.{Stepped, bondSize, carrySize, rankAt, keepStep}
+use Rattle.walking.proofs.Bonds.{bond-offset}
 
 -- d zones have d - 1 bonds
 pub bond-count : (s : Shape) → 1 ≤ s .d → offset (bondSize s) (s .d) ≡ s .d - 1

@@ -17,7 +17,7 @@ use Rattle.rotation.specs.Rotation.{eye}
 use Rattle.sweeps.specs.Sweeps.{offSum, settled, sweepsFrom, diagonalized}
 use Rattle.values.specs.Values.{singularOf, singulars, rankIn, indexAt, order, sorted, thresholdOf, keptRank}
 use Rattle.rounding.specs.Call.{coreFinite, notBelowZero, scratchAfter}
-use Rattle.rounding.specs.Rounding.{roundCore}
+use Rattle.cutting.specs.Rounding.{roundCore}
 use Rattle.contraction.specs.Contract.{contract}
 use Rattle.product.specs.Product.{contractAt}
 use Rattle.stepping.specs.Call.{reachesAt}
@@ -25,7 +25,7 @@ use Rattle.stepping.specs.Steps.{shiftZone, scaleZone, roundZone, stepFrom}
 use Rattle.stepping.specs.Zones.{rules}
 use Rattle.summing.specs.Sums.{sumSize}
 use Rattle.kept.specs.Kept.{bare, blank, zoneAt, keptCore, carryAt, sumsAt, weighedAt}
-use Rattle.rounding.specs.Keeping.{bondSize, carrySize, keepStep}
+use Rattle.walking.specs.Keeping.{bondSize, carrySize, keepStep}
 use Rattle.kept.specs.Work.{keepSums, sumZone, restep, resum, sumFrom, workFrom}
 use Rattle.kept.specs.Checks.{rankOk, inputsLent, keptLent, scratchLent, loneFinite, zoneFinite, keptFinite, loneOk, inReachAt, freshOk, freshRun}
 use Rattle.kept.specs.Requests.{numbersOk, replaceOk, replace}

@@ -20,11 +20,11 @@ use Rattle.shape.specs.Limits.{within}
 use Rattle.shape.specs.Shapes.{rightOf, shapeOk, coreSize, entriesOf}
 use Rattle.shape.proofs.Shaped.{shape-same}
 use Rattle.axes.specs.Axes.{axisOk}
-use Rattle.rounding.specs.Rounding.{Carry, Cut}
+use Rattle.cutting.specs.Rounding.{Carry, Cut, numbersIn}
 use Rattle.stepping.specs.Zones.{axisAt, Rules}
 use Rattle.summing.specs.Sums.{sumSize}
 use Rattle.kept.specs.Kept.{Inputs, Summed, allCarries, allSums, bare, blank, keptCarry}
-use Rattle.rounding.specs.Keeping.{Stepped, carrySize, rankAt, numbersIn, keepStep}
+use Rattle.walking.specs.Keeping.{Stepped, carrySize, rankAt, keepStep}
 use Rattle.kept.specs.Work.{keepSums}
 use Rattle.kept.specs.Checks.{rankOk, keptLent, loneFinite, zoneFinite, keptFinite, loneOk}
 use Rattle.kept.specs.Requests.{Request, zoneOf, present, partFits, partFinite, partOk, shiftsOk, numbersOk, replaceOk}

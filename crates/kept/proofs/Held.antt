@@ -26,19 +26,19 @@ use Rattle.shape.specs.declared.Shape.{Shape}
 use Rattle.shape.specs.Shapes.{pointsOf, rightOf, coreSize}
 use Rattle.shape.specs.Cores.{Core, coreWith, coreAt}
 use Rattle.shape.proofs.Shaped.{Shaped, shaped}
-use Rattle.rounding.specs.Rounding.{Carry, none, some, Cut}
+use Rattle.cutting.specs.Rounding.{Carry, none, some, Cut, rankIn, numbersIn}
 use Rattle.rounding.specs.Call.{coreFinite}
-use Rattle.rounding.proofs.Bonds.{bond-one, bond-at}
+use Rattle.walking.proofs.Bonds.{bond-one, bond-at}
 use Rattle.product.specs.Product.{startSums}
 use Rattle.stepping.specs.Zones.{Zone, Rules}
 use Rattle.stepping.specs.Steps.{holding, shiftZone, scaleZone, roundZone, stepFrom}
 use Rattle.stepping.proofs.Restart.{step-length}
 use Rattle.summing.specs.Sums.{sumSize}
 use Rattle.kept.specs.Kept.{Inputs, blank, zoneAt, zonesFrom, leftRank, rightRank, keptCore, keptCarry, carryAt, keptSums, sumsAt, weighedAt, weighedFrom}
-use Rattle.rounding.specs.Keeping.{bondSize, carrySize, rankAt, rankIn, numbersIn, keepStep}
+use Rattle.walking.specs.Keeping.{bondSize, carrySize, rankAt, keepStep}
 use Rattle.kept.specs.Work.{keepSums, sumZone}
 use Rattle.kept.proofs.Sound.{Sound}
-use Rattle.rounding.proofs.Cuts.{Carried}
+use Rattle.cutting.proofs.Cuts.{Carried}
 use Rattle.kept.proofs.Trace.{StepTrace, Trace, fine-zone, steppedBy, summedBy}
 
 -- a zone of which nothing is kept

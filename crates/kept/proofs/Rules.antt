@@ -17,7 +17,7 @@ use Rattle.shape.proofs.Places.{block-length}
 use Rattle.shift.specs.declared.Shift.{Shift}
 use Rattle.shift.specs.declared.Shift.the-variants.{Stay as stay, By as by}
 use Rattle.shift.specs.Shifts.{shiftOf, shifted, moveCore, scaled}
-use Rattle.rounding.proofs.Cuts.{volume, round-fine, round-carried, round-of}
+use Rattle.cutting.proofs.Cuts.{volume, round-fine, round-carried, round-of}
 use Rattle.contraction.specs.Contract.{contract}
 use Rattle.product.specs.Product.{contractAt}
 use Rattle.stepping.specs.Zones.{rules}

@@ -21,14 +21,14 @@ use Rattle.shape.specs.Limits.{mostAxes}
 use Rattle.shape.specs.Shapes.{coreSize}
 use Rattle.shape.specs.Cores.{Core, pointsAt}
 use Rattle.axes.specs.declared.Axis.{Axis}
-use Rattle.rounding.specs.Rounding.{Carry, none, Cut}
+use Rattle.cutting.specs.Rounding.{Carry, none, Cut, rankIn, numbersIn}
 use Rattle.product.specs.Product.{startSums}
 use Rattle.stepping.specs.Zones.{Zone, Rules}
 use Rattle.stepping.specs.Steps.{stepFrom}
 use Rattle.stepping.proofs.Restart.{step-restart}
 use Rattle.summing.specs.Sums.{sumSize}
 use Rattle.kept.specs.Kept.{Inputs, Summed, Kept, running, bare, blank, zoneAt, zonesFrom, keptCore, carryAt, sumsAt, weighedAt, weighedFrom}
-use Rattle.rounding.specs.Keeping.{Stepped, bondSize, carrySize, rankIn, numbersIn, keepStep}
+use Rattle.walking.specs.Keeping.{Stepped, bondSize, carrySize, keepStep}
 use Rattle.kept.specs.Work.{keepSums, sumZone, restep, resum, sumFrom, workFrom}
 use Rattle.kept.proofs.Sound.{Sound}
 use Rattle.kept.proofs.Trace.{StepTrace, Trace, steppedBy, summedBy}

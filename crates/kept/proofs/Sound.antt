@@ -8,8 +8,8 @@ use lib.Ieee.{Float}
 use Rattle.answers.specs.Outcome.{done}
 use Rattle.lists.specs.Floats.{allFinite}
 use Rattle.shape.specs.Cores.{Core}
-use Rattle.rounding.specs.Rounding.{Carry, Cut}
-use Rattle.rounding.proofs.Cuts.{Carried, volume, CutOf}
+use Rattle.cutting.specs.Rounding.{Carry, Cut}
+use Rattle.cutting.proofs.Cuts.{Carried, volume, CutOf}
 use Rattle.stepping.specs.declared.Settings.{Settings}
 use Rattle.stepping.specs.Zones.{Zone, Rules}
 

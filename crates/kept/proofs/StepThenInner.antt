@@ -23,19 +23,19 @@ use Rattle.shape.specs.declared.Shape.{Shape}
 use Rattle.shape.specs.Shapes.{leftOf, pointsOf, rightOf, atBond, coreSize}
 use Rattle.shape.specs.Cores.{Core, coreWith, coreAt, coresOf, pointsAt}
 use Rattle.axes.specs.declared.Axis.{Axis}
-use Rattle.rounding.specs.Rounding.{Carry, none, Cut, coresIn}
+use Rattle.cutting.specs.Rounding.{Carry, none, Cut, coresIn}
 use Rattle.product.specs.Product.{startSums, sumAxis, sums, inner}
 use Rattle.stepping.specs.declared.Settings.{Settings}
 use Rattle.stepping.specs.Zones.{Zone, zone, axisAt, zonesOf, Rules, rules}
 use Rattle.stepping.specs.Steps.{holding, shiftZone, scaleZone, roundZone, stepFrom, step}
 use Rattle.kept.specs.Kept.{Inputs, Kept, running, blank, bare, zoneAt, zonesFrom, leftRank, rightRank, keptCore, carryAt, sumsAt, weighedAt, weighedFrom}
-use Rattle.rounding.specs.Keeping.{Stepped, rankAt}
+use Rattle.walking.specs.Keeping.{Stepped, rankAt}
 use Rattle.kept.specs.Work.{sumZone, restep, resum, sumFrom, workFrom}
 use Rattle.kept.specs.Checks.{freshOk, freshRun}
 use Rattle.kept.specs.Call.{Room, roomOk, freshEnd, freshBy, freshCall}
 use Rattle.kept.specs.StepThenInner.{paired, stepThenInner}
 use Rattle.kept.proofs.Sound.{Sound, Sized}
-use Rattle.rounding.proofs.Cuts.{volume, rankOn}
+use Rattle.cutting.proofs.Cuts.{volume, rankOn}
 use Rattle.kept.proofs.Rules.{rules-sound, rules-sized}
 use Rattle.kept.proofs.Trace.{passed, lent-is, StepTrace, Trace, steppedBy, summedBy}
 use Rattle.kept.proofs.Held.{no-cut, sizes, cuts-length, rank-fits, right-fits, carry-read, core-slot, figure-read}

@@ -16,13 +16,13 @@ use Rattle.lists.proofs.Tests.{eqb-yes, eqb-is, both}
 use Rattle.shape.specs.Shapes.{chainOk, entriesOf, allPoints}
 use Rattle.shape.specs.Cores.{pointsAt}
 use Rattle.axes.specs.Axes.{axisFinite, axisOk}
-use Rattle.rounding.specs.Rounding.{Carry, none, Cut}
+use Rattle.cutting.specs.Rounding.{Carry, none, Cut}
 use Rattle.rounding.specs.Call.{coreFinite}
 use Rattle.product.specs.Product.{startSums}
 use Rattle.stepping.specs.Zones.{axisAt, Rules}
 use Rattle.stepping.specs.Steps.{stepFrom}
 use Rattle.kept.specs.Kept.{Inputs, Summed, Kept, running, blank, bare, zonesFrom, carryAt, sumsAt, weighedFrom}
-use Rattle.rounding.specs.Keeping.{Stepped, keepStep}
+use Rattle.walking.specs.Keeping.{Stepped, keepStep}
 use Rattle.kept.specs.Work.{keepSums, sumZone, restep, resum, sumFrom, workFrom}
 use Rattle.kept.specs.Checks.{inputsLent, loneFinite, zoneFinite, loneOk, inReachAt, freshOk, freshRun}
 

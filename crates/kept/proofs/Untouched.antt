@@ -22,13 +22,13 @@ use Rattle.shape.specs.declared.Shape.{Shape}
 use Rattle.shape.specs.Limits.{mostAxes}
 use Rattle.shape.specs.Shapes.{coreSize, entriesOf}
 use Rattle.shape.proofs.Shaped.{Shaped, shaped}
-use Rattle.rounding.specs.Rounding.{Carry, Cut}
+use Rattle.cutting.specs.Rounding.{Carry, Cut, rankIn, numbersIn}
 use Rattle.stepping.specs.Zones.{Rules}
 use Rattle.stepping.specs.Steps.{stepFrom}
 use Rattle.stepping.proofs.Restart.{step-length}
 use Rattle.summing.specs.Sums.{sumSize}
 use Rattle.kept.specs.Kept.{Inputs, Summed, Kept, running, allCarries, allSums, zoneAt, zonesFrom, carryAt, sumsAt, weighedAt, weighedFrom}
-use Rattle.rounding.specs.Keeping.{Stepped, bondSize, carrySize, rankIn, numbersIn, keepStep}
+use Rattle.walking.specs.Keeping.{Stepped, bondSize, carrySize, keepStep}
 use Rattle.kept.specs.Work.{keepSums, sumZone, restep, resum, sumFrom, workFrom}
 use Rattle.kept.specs.Checks.{rankOk, keptLent, scratchLent}
 use Rattle.kept.specs.Requests.{Request, newCore, newAxis, newWeights, zoneOf, present, redo, replace}

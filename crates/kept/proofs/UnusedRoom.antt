@@ -20,13 +20,13 @@ use Rattle.shape.specs.declared.Shape.{Shape}
 use Rattle.shape.specs.Shapes.{rightOf}
 use Rattle.shape.specs.Cores.{Core, pointsAt}
 use Rattle.shape.proofs.Shaped.{Shaped, shaped}
-use Rattle.rounding.specs.Rounding.{Carry, Cut}
+use Rattle.cutting.specs.Rounding.{Carry, Cut}
 use Rattle.stepping.specs.Zones.{Rules}
 use Rattle.stepping.specs.Steps.{stepFrom}
 use Rattle.stepping.proofs.Restart.{step-length}
 use Rattle.summing.specs.Sums.{sumSize}
 use Rattle.kept.specs.Kept.{Inputs, Summed, Kept, running, allSums, zoneAt, zonesFrom, rightRank, carryAt, keptSums, sumsAt, weighedAt, weighedFrom}
-use Rattle.rounding.specs.Keeping.{Stepped, rankAt, keepStep}
+use Rattle.walking.specs.Keeping.{Stepped, rankAt, keepStep}
 use Rattle.kept.specs.Work.{keepSums, sumZone, restep, resum, sumFrom, workFrom}
 use Rattle.kept.proofs.Before.{Roomy, right-before}
 use Rattle.answers.specs.declared.Verdict.the-variants.{Refused}

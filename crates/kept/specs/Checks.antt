@@ -19,7 +19,7 @@ use Rattle.stepping.specs.declared.Settings.{Settings}
 use Rattle.stepping.specs.Zones.{axisAt, Rules}
 use Rattle.stepping.specs.Call.{reachesAt}
 use Rattle.kept.specs.Kept.{Inputs, Summed, Kept, allCarries, allSums, blank, keptCore, keptCarry, keptSums}
-use Rattle.rounding.specs.Keeping.{Stepped, rankAt}
+use Rattle.walking.specs.Keeping.{Stepped, rankAt}
 use Rattle.kept.specs.Work.{workFrom}
 
 -- ---- 3: a kept rank is at least 1 and at most its source's

@@ -5,12 +5,12 @@ use lib.Ieee.{Float}
 use Rattle.answers.specs.Outcome.{Answer, done, bind}
 use Rattle.shape.specs.declared.Shape.{Shape}
 use Rattle.shape.specs.Cores.{Core, coresOf, pointsAt}
-use Rattle.rounding.specs.Rounding.{coresIn}
+use Rattle.cutting.specs.Rounding.{coresIn}
 use Rattle.product.specs.Product.{sums, inner}
 use Rattle.stepping.specs.Steps.{step}
 use Rattle.kept.specs.Kept.{Inputs, Kept, running, blank}
 use Rattle.kept.specs.Work.{keepSums}
-use Rattle.rounding.specs.Keeping.{keepStep}
+use Rattle.walking.specs.Keeping.{keepStep}
 
 -- each core with its axis' weights, the first being number k
 unfoldable pub paired : Shape → List Float → ℕ → List Core → List (Core × List Float)

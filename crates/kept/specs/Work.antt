@@ -11,7 +11,7 @@ use Rattle.lists.specs.Floats.{at}
 use Rattle.shape.specs.declared.Shape.{Shape}
 use Rattle.shape.specs.Shapes.{coreSize}
 use Rattle.shape.specs.Cores.{Core}
-use Rattle.rounding.specs.Keeping.{Stepped, keepStep, Stepped, bondSize, carrySize}
+use Rattle.walking.specs.Keeping.{Stepped, keepStep, Stepped, bondSize, carrySize}
 use Rattle.stepping.specs.Zones.{Rules}
 use Rattle.stepping.specs.Steps.{stepFrom}
 use Rattle.summing.specs.Sums.{sumSize}

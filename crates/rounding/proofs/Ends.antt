@@ -45,16 +45,17 @@ use Rattle.values.specs.Values.{singulars, order, sorted, keptRank}
 use Rattle.factors.specs.Factors.{leftFactor, carryOf}
 use Rattle.bond.specs.Bonds.{gram, cutBond, absorb}
 use Rattle.rounding.specs.declared.Rounded.{Rounded}
-use Rattle.rounding.specs.declared.zones.Walked.{Walked}
-use Rattle.rounding.specs.Rounding.{Carry, none, some, Cut, takenIn, cutIf, roundCore, rounding, coresIn, countsIn, flagsIn}
-use Rattle.rounding.specs.Keeping.{bondSize, Stepped, keepStep, carryLeft, roundFrom}
+use Rattle.walking.specs.declared.Walked.{Walked}
+use Rattle.cutting.specs.Rounding.{Carry, none, some, Cut, takenIn, cutIf, roundCore, rounding, coresIn, countsIn, flagsIn}
+use Rattle.walking.specs.Keeping.{bondSize, Stepped, keepStep, carryLeft, roundFrom}
 use Rattle.rounding.specs.Call.{Ended, scratchAfter, endedBy, lengthsOk, roundFinite, roundOk, roundCall}
-use Rattle.rounding.specs.Slots.{AtZone, heldBy, unrounded, finished}
-use Rattle.rounding.proofs.Bonds.{carries-most}
-use Rattle.rounding.proofs.From.{bonds-most, at-start}
+use Rattle.walking.specs.Slots.{AtZone, heldBy}
+use Rattle.rounding.specs.Slots.{unrounded, finished}
+use Rattle.walking.proofs.Bonds.{carries-most}
+use Rattle.walking.proofs.From.{bonds-most, at-start}
 use Rattle.rounding.proofs.Chains.{packed-is}
 use Rattle.rounding.proofs.Early.{Early, early-demand, early-then, early-each, early-shape}
-use Rattle.rounding.proofs.Cuts.{volume, round-of}
+use Rattle.cutting.proofs.Cuts.{volume, round-of}
 
 -- ---- what stands in the work before any turn is the chain
 module _ (eps : Float) (s : Shape) (l work : List Float) (long : length l ≡ entriesOf s) (same : take (entriesOf s) work ≡ l) where

@@ -1,4 +1,2 @@
-pub mod Rounding
-pub mod Keeping
 pub mod Call
 pub mod Slots

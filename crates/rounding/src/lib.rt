@@ -12,12 +12,11 @@ ghost use Rattle.shape.specs.Limits.{mostAxes};
 ghost use Rattle.shape.specs.Shapes.{chainOk, coreSize, entriesOf};
 ghost use Rattle.shape.specs.Sizes.{SizesWithin, Inside};
 ghost use Rattle.shape.specs.Cores.{coresOf};
-ghost use Rattle.rounding.specs.Rounding.{rounding};
+ghost use Rattle.cutting.specs.Rounding.{rounding};
 ghost use Rattle.rounding.specs.Call.{endedBy, roundCall};
 ghost use Rattle.rounding.specs.Slots.{unrounded, finished};
 
 pub mod checks;
-pub mod zones;
 
 // The chain's shape at the end; for each bond the sweeps made, and whether the sum is below 1e-30 at the end.
 pub struct Rounded {
@@ -62,10 +61,10 @@ pub fn pack(s: shape::Shape, t: shape::Shape, work: &[f64], chain: &mut [f64])
 }
 
 // A chain before any of its bonds is cut.
-pub fn unrounded(s: shape::Shape) -> zones::Walked
+pub fn unrounded(s: shape::Shape) -> walking::Walked
     ensures { λ w. ⌜ w ≡ unrounded s ⌝ }
 {
-    zones::Walked {
+    walking::Walked {
         verdict: answers::Verdict::Fits,
         shape: s,
         ranks: [0; shape::MOST_AXES],
@@ -74,7 +73,7 @@ pub fn unrounded(s: shape::Shape) -> zones::Walked
     }
 }
 
-fn rounded_of(w: zones::Walked) -> Rounded
+fn rounded_of(w: walking::Walked) -> Rounded
     ensures { λ r. ⌜ r ≡ record { verdict = Fits; shape = w .shape; sweeps = w .sweeps; settled = w .settled } ⌝ }
 {
     let shape = w.shape;
@@ -89,7 +88,12 @@ fn rounded_of(w: zones::Walked) -> Rounded
 }
 
 // The end of a call that rounds: where nothing was refused the chain is written, and scratch is +0 in any case.
-pub fn finish(s: shape::Shape, w: zones::Walked, chain: &mut [f64], scratch: &mut [f64]) -> Rounded
+pub fn finish(
+    s: shape::Shape,
+    w: walking::Walked,
+    chain: &mut [f64],
+    scratch: &mut [f64],
+) -> Rounded
     requires { ⌜ SizesWithin s ⌝ }
     requires { ⌜ (w .verdict ≡ Fits → Inside s (w .shape)) × (entriesOf s ≤ length (now chain)) × (entriesOf s ≤ length (now scratch)) ⌝ }
     ensures { λ r. ⌜ record { result = r; chain = now (chain .exit); scratch = now (scratch .exit) } ≡ finished s w (now (chain .entry)) (now (scratch .entry)) ⌝ }
@@ -128,7 +132,7 @@ fn round_all(s: shape::Shape, eps: f64, chain: &mut [f64], scratch: &mut [f64]) 
     let mut carries = [0.0; MOST_CARRIES];
     let mut room = [0.0; MOST_CORE];
     load(chain, scratch);
-    let w = zones::round_from(0, s, unrounded(s), eps, scratch, &mut carries, &mut room);
+    let w = walking::round_from(0, s, unrounded(s), eps, scratch, &mut carries, &mut room);
     finish(s, w, chain, scratch)
 }
 

@@ -24,7 +24,7 @@ use Rattle.shape.specs.Cores.{standing}
 use Rattle.axes.specs.Axes.{axisOk}
 use Rattle.stepping.specs.Zones.{axisAt}
 use Rattle.rounding.specs.Call.{notBelowZero}
-use Rattle.rounding.specs.Keeping.{Stepped, carrySize, rankAt}
+use Rattle.walking.specs.Keeping.{Stepped, carrySize, rankAt}
 use Rattle.summing.specs.Sums.{sumSize}
 use Rattle.stepping.specs.declared.Settings.{Settings}
 use Rattle.asking.specs.Ranks.{leftHeld, Ranked}

@@ -16,7 +16,7 @@ use Rattle.lists.proofs.Tables.{listed-same}
 use Rattle.shape.specs.declared.Shape.{Shape}
 use Rattle.shape.specs.Shapes.{leftOf}
 use Rattle.shape.specs.Cores.{Core, pointsAt}
-use Rattle.rounding.specs.Keeping.{Stepped}
+use Rattle.walking.specs.Keeping.{Stepped}
 use Rattle.product.specs.Product.{sumAxis}
 use Rattle.summing.specs.Sums.{sumSize, sumsLeft, weighedIn, sumsFrom}
 use Rattle.stepping.specs.Zones.{rules}

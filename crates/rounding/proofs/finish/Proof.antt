@@ -1,11 +1,5 @@
 -- `rounding::finish` meets its contract. Assumes nothing.
 use borrow.Author.Needs.{needs}
-use Rattle.rounding.proofs.finish.Reads as reads
-use Rattle.rounding.proofs.finish.Lts as lts
-use Rattle.lists.proofs.fill.Reads as fill-reads
-use Rattle.rounding.proofs.pack.Reads as pack-reads
-use Rattle.rounding.proofs.refused_rounding.Reads as refused-rounding-reads
-use Rattle.rounding.proofs.rounded_of.Reads as rounded-of-reads
 use Rattle.rounding.proofs.Ends.{finish-stops, finish-goes, inside-entries}
 use native.Mathlib.Omega.{arith}
 use Rattle.shape.proofs.Insides.{inside-size}

@@ -1,8 +1,5 @@
 -- `rounding::load` meets its contract. Assumes nothing.
 use borrow.Author.Needs.{needs}
-use Rattle.rounding.proofs.load.Reads as reads
-use Rattle.rounding.proofs.load.Lts as lts
-use Rattle.lists.proofs.copy.Reads as copy-reads
 use Rattle.rounding.proofs.Ends.{loaded}
 use Rattle.rounding.proofs.load.Statement.{statement}
 use Rattle.rounding.proofs.load.Tie as tie

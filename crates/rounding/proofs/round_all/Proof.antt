@@ -1,18 +1,12 @@
 -- `rounding::round_all` meets its contract. Assumes nothing.
 use borrow.Author.Needs.{needs}
-use Rattle.rounding.proofs.round_all.Reads as reads
-use Rattle.rounding.proofs.round_all.Lts as lts
-use Rattle.rounding.proofs.finish.Reads as finish-reads
-use Rattle.rounding.proofs.load.Reads as load-reads
-use Rattle.rounding.proofs.unrounded.Reads as unrounded-reads
-use Rattle.rounding.proofs.zones.round_from.Reads as round-from-reads
 use Rattle.rounding.proofs.Ends.{start-at, ended-is}
 use native.Mathlib.Omega.{arith}
 use mathlib.Core.Path.{_≡_, refl, sym, ap, _∙_}
 use lib.ListN.{length}
 use Rattle.shape.specs.Limits.{mostAxes}
 use Rattle.shape.proofs.Shaped.{shaped}
-use Rattle.rounding.specs.declared.zones.Walked.{Walked}
+use Rattle.walking.specs.declared.Walked.{Walked}
 use Rattle.rounding.proofs.round_all.Statement.{statement}
 use Rattle.rounding.proofs.round_all.Tie as tie
 

@@ -1,10 +1,5 @@
 -- `rounding::tt_round` meets its contract. Assumes nothing.
 use borrow.Author.Needs.{needs}
-use Rattle.rounding.proofs.tt_round.Reads as reads
-use Rattle.rounding.proofs.tt_round.Lts as lts
-use Rattle.rounding.proofs.checks.round_ok.Reads as round-ok-reads
-use Rattle.rounding.proofs.refused_rounding.Reads as refused-rounding-reads
-use Rattle.rounding.proofs.round_all.Reads as round-all-reads
 use Rattle.rounding.proofs.Ends.{round-stops, round-asks, round-goes}
 use Rattle.rounding.proofs.tt_round.Statement.{statement}
 use Rattle.rounding.proofs.tt_round.Tie as tie

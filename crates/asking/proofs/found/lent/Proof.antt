@@ -2,7 +2,7 @@
 use borrow.Author.Needs.{needs}
 use Rattle.asking.proofs.found.lent.Reads as reads
 use Rattle.asking.proofs.found.lent.Lts as lts
-use Rattle.rounding.proofs.zones.carry_offset.Reads as carry-offset-reads
+use Rattle.walking.proofs.carry_offset.Reads as carry-offset-reads
 use Rattle.shape.proofs.Shape.entries.Reads as entries-reads
 use Rattle.shape.proofs.Shape.points.Reads as points-reads
 use Rattle.summing.proofs.sum_offset.Reads as sum-offset-reads

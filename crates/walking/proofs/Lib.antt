@@ -1,0 +1,3 @@
+pub mod Bonds
+pub mod From
+pub mod Stands

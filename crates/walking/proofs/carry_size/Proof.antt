@@ -1,0 +1,18 @@
+-- `walking::carry_size` meets its contract. Assumes nothing.
+use borrow.Author.Needs.{needs}
+use Rattle.walking.proofs.Bonds.{carry-slots}
+use Rattle.walking.proofs.carry_size.Statement.{statement}
+use Rattle.walking.proofs.carry_size.Tie as tie
+
+ruleset ways = (needs, carry-slots)
+
+pub carry-size-spec : {M : Type 1} → statement M
+carry-size-spec = tie.close (tie.spec
+    (λ c. search ways)
+    (λ c. search ways)
+    (λ c. search ways)
+    (λ c. search ways)
+    (λ c. search ways)
+    (λ c. search ways)
+    (λ c. search ways)
+    (λ c. search ways))
