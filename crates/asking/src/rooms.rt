@@ -1,6 +1,6 @@
 // The numbers of a run in used room, and the shifts that are to be made: refusals 6 and 8.
 ghost use mathlib.Core.Path.{_≡_};
-ghost use Prim.Native.Nat.{ℕ, _+_, _-_, _≤_, _<_};
+ghost use Prim.Native.Nat.{_+_, _-_, _≤_, _<_};
 ghost use lib.ListN.{length, take, drop};
 ghost use Rattle.answers.specs.declared.Refusal.the-variants.{Reach};
 ghost use Rattle.answers.specs.Outcome.{verdictOf, demandEach};

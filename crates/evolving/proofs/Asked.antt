@@ -4,18 +4,16 @@ use Prim.Native.Nat.{ℕ, _≤_, _<_}
 use native.Mathlib.Omega.{arith}
 use mathlib.Core.Bool.{true}
 use mathlib.Core.List.{List}
-use lib.ListN.{length, length-replicate}
+use lib.ListN.{length}
 use lib.Ieee.{Float}
 use Rattle.answers.specs.declared.Refusal.{Refusal}
 use Rattle.answers.specs.declared.Verdict.{Verdict}
 use Rattle.answers.specs.declared.Verdict.the-variants.{Fits, Refused}
-use Rattle.answers.specs.Outcome.{Answer, answered}
+use Rattle.answers.specs.Outcome.{answered}
 use Rattle.lists.specs.Lists.{tab}
-use Rattle.lists.specs.Slots.{offset}
 use Rattle.shape.specs.declared.Shape.{Shape}
-use Rattle.shape.specs.Shapes.{entriesOf}
 use Rattle.shape.specs.Sizes.{Inside}
-use Rattle.shape.specs.Cores.{Core, standing}
+use Rattle.shape.specs.Cores.{standing}
 use Rattle.shape.proofs.Shaped.{Shaped, shaped}
 use Rattle.axes.specs.declared.Axis.{Axis}
 use Rattle.walking.specs.declared.Walked.{Walked}
@@ -25,9 +23,9 @@ use Rattle.walking.proofs.From.{at-start}
 use Rattle.walking.proofs.Bonds.{carries-most}
 use Rattle.stepping.specs.declared.Settings.{Settings}
 use Rattle.stepping.specs.Steps.{step}
-use Rattle.stepping.specs.Over.{axisReaches, Stands, Rooms, Onward, standFrom}
+use Rattle.stepping.specs.Over.{axisReaches, Stands, Rooms, standFrom}
 use Rattle.evolving.specs.Held.{stepHeld, Came, Placed, Ready, noneHeld}
-use Rattle.evolving.proofs.Steps.{with, moves, held-stops, held-goes, came-of}
+use Rattle.evolving.proofs.Steps.{with, moves, held-stops, came-of}
 
 pub not-fits : (v : Verdict) (q : Refusal) → v ≡ Refused q → v ≡ Fits → ⊥
 not-fits v q e f = let z : _≡_ {A = ℕ} 0 1 = cc in omega arith

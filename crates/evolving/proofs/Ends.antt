@@ -1,6 +1,6 @@
 -- A call by its parts: the checks, the chain taken into scratch, the steps, and the end. Assumes nothing.
 use mathlib.Core.Path.{_≡_, refl, sym, ap, _∙_, subst}
-use Prim.Native.Nat.{ℕ, zero, suc, _≤_, _<_}
+use Prim.Native.Nat.{ℕ, _≤_, _<_}
 use native.Mathlib.Omega.{arith}
 use mathlib.Core.Bool.{Bool, true, false}
 use mathlib.Core.List.{List, _++_, map}
@@ -13,10 +13,10 @@ use Rattle.answers.specs.declared.Refusal.{Refusal}
 use Rattle.answers.specs.declared.Refusal.the-variants.{Length, Number, Setting, Reach}
 use Rattle.answers.specs.declared.Verdict.{Verdict}
 use Rattle.answers.specs.declared.Verdict.the-variants.{Fits, Refused}
-use Rattle.answers.specs.Outcome.{Answer, done, refused, bind, Check, _then_, demand, demandEach, verdictOf}
+use Rattle.answers.specs.Outcome.{Answer, done, refused, Check, _then_, demand, demandEach, verdictOf}
 use Rattle.answers.specs.Table.{beforeWork}
 use Rattle.answers.proofs.Checks.{demand-is, then-is, each-is, verdict-passed, verdict-refused}
-use Rattle.lists.specs.Lists.{tab, joined, flat, pick}
+use Rattle.lists.specs.Lists.{tab, flat, pick}
 use Rattle.lists.specs.Slots.{offset, slot, fit}
 use Rattle.lists.specs.Floats.{zeros}
 use Rattle.lists.proofs.Tables.{listed-same, tab-map}
@@ -31,7 +31,7 @@ use Rattle.axes.specs.declared.Axis.{Axis}
 use Rattle.rounding.specs.declared.Rounded.{Rounded}
 use Rattle.walking.specs.declared.Walked.{Walked}
 use Rattle.cutting.specs.Rounding.{Carry, Cut, coresIn, countsIn}
-use Rattle.rounding.specs.Call.{lengthsOk, Ended, scratchAfter, endedBy}
+use Rattle.rounding.specs.Call.{lengthsOk, scratchAfter, endedBy}
 use Rattle.rounding.proofs.Early.{Early, early-demand, early-then, early-each, early-shape}
 use Rattle.rounding.proofs.Ends.{early-lengths}
 use Rattle.stepping.specs.declared.Settings.{Settings}

@@ -1,9 +1,9 @@
 -- A step by its parts: moves in place, then the rounding in place; and what came of it. Assumes nothing.
 use mathlib.Core.Path.{_≡_, refl, sym, ap, _∙_, subst}
 use Prim.Native.Nat.{ℕ, zero, suc, _-_, _≤_, _<_}
-use native.Mathlib.Nat.{sub-zero, le-refl}
+use native.Mathlib.Nat.{sub-zero}
 use native.Mathlib.Omega.{arith}
-use mathlib.Core.Bool.{Bool, false}
+use mathlib.Core.Bool.{false}
 use mathlib.Core.List.{List, _++_, map}
 use lib.Dec.{ltb}
 use lib.ListN.{length, take, drop, replicate, length-map}
@@ -26,26 +26,25 @@ use Rattle.lists.proofs.Slots.{offset-mono, slot-length}
 use Rattle.lists.proofs.Tables.{listed-length}
 use Rattle.shape.specs.declared.Shape.{Shape}
 use Rattle.shape.specs.Limits.{mostAxes}
-use Rattle.shape.specs.Shapes.{pointsOf, coreSize, entriesOf}
+use Rattle.shape.specs.Shapes.{coreSize, entriesOf}
 use Rattle.shape.specs.Sizes.{Inside}
-use Rattle.shape.specs.Cores.{Core, coreWith, standing, reshaped}
+use Rattle.shape.specs.Cores.{Core, standing, reshaped}
 use Rattle.shape.proofs.Places.{block-length}
 use Rattle.shape.proofs.Insides.{inside-size}
 use Rattle.axes.specs.declared.Axis.{Axis}
-use Rattle.axes.specs.Axes.{axisAt}
 use Rattle.shift.specs.declared.Shift.{Shift}
 use Rattle.shift.specs.declared.Shift.the-variants.{Stay, By}
 use Rattle.shift.specs.Shifts.{shiftOf, shifted, moveCore, scaled}
 use Rattle.cutting.specs.Rounding.{Carry, none, Cut, roundCore, coresIn}
-use Rattle.walking.specs.Keeping.{bondSize, carrySize, Stepped, keepStep, carryLeft, roundFrom}
+use Rattle.walking.specs.Keeping.{Stepped, keepStep, carryLeft, roundFrom}
 use Rattle.cutting.proofs.Cuts.{volume}
 use Rattle.stepping.specs.declared.Settings.{Settings}
-use Rattle.stepping.specs.Zones.{Zone, zone, zonesOf, rules}
+use Rattle.stepping.specs.Zones.{Zone, zonesOf, rules}
 use Rattle.stepping.specs.Steps.{holding, shiftZone, scaleZone, roundZone, stepFrom, step}
 use Rattle.stepping.specs.Over.{zoneIn, standFrom, Onward}
 use Rattle.stepping.proofs.Gathers.{zones-listed}
-use Rattle.evolving.specs.Held.{stepHeld, Ends, Came}
-use Rattle.evolving.proofs.Traces.{Found, trace-count, counts-front, flags-front, cores-stand}
+use Rattle.evolving.specs.Held.{stepHeld, Came}
+use Rattle.evolving.proofs.Traces.{Found, counts-front, flags-front, cores-stand}
 
 -- what is held, with another chain
 abbrev pub with : Stepped → List Float → Stepped

@@ -10,7 +10,7 @@ use lib.ListN.{length, take, drop, getD, replicate, length-map, List·getD-map}
 use lib.Seq.{take-at}
 use lib.Ieee.{Float}
 use Rattle.numbers.specs.Arithmetic.{zero64}
-use Rattle.answers.specs.Outcome.{done, bind}
+use Rattle.answers.specs.Outcome.{done}
 use Rattle.answers.proofs.Outcomes.{bind-done, done-inj}
 use Rattle.lists.specs.Lists.{tab, flat}
 use Rattle.lists.specs.Slots.{offset, slot, fit, laid, write}

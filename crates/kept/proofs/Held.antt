@@ -22,7 +22,6 @@ use Rattle.lists.proofs.Floats.{finite-take, finite-fit, finite-getD}
 use Rattle.lists.proofs.Slots.{fit-length, fit-used}
 use Rattle.lists.proofs.Written.{getD-slot, written-slot}
 use Rattle.lists.proofs.Walks.{All, all-at, listed-all, every-all, walk-all, walk-length, state-at}
-use Rattle.shape.specs.declared.Shape.{Shape}
 use Rattle.shape.specs.Shapes.{pointsOf, rightOf, coreSize}
 use Rattle.shape.specs.Cores.{Core, coreWith, coreAt}
 use Rattle.shape.proofs.Shaped.{Shaped, shaped}

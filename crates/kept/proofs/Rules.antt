@@ -1,18 +1,18 @@
 -- The rules of 000 and 001 are sound, and make as many numbers as they should.
-use mathlib.Core.Path.{_≡_, refl, sym, ap, _∙_, subst}
-use Prim.Native.Nat.{ℕ, _≤_}
-use mathlib.Core.Bool.{Bool, true, false, cond}
-use mathlib.Core.List.{List, [], _∷_, map}
+use mathlib.Core.Path.{_≡_, sym, ap, _∙_}
+use Prim.Native.Nat.{ℕ}
+use mathlib.Core.Bool.{true}
+use mathlib.Core.List.{List, map}
 use lib.ListN.{length, length-map}
 use lib.Ieee.{Float}
 use Rattle.numbers.specs.Arithmetic.{plus, times, one64}
-use Rattle.answers.specs.declared.Part.the-variants.{Entry, Factor, Sum}
-use Rattle.answers.specs.Outcome.{Answer, done, making}
-use Rattle.answers.proofs.Outcomes.{bind-done, done-inj}
-use Rattle.lists.specs.Floats.{allFinite, stored}
+use Rattle.answers.specs.declared.Part.the-variants.{Entry, Sum}
+use Rattle.answers.specs.Outcome.{done}
+use Rattle.answers.proofs.Outcomes.{done-inj}
+use Rattle.lists.specs.Floats.{allFinite}
 use Rattle.lists.proofs.Tables.{length-tab}
 use Rattle.lists.proofs.Floats.{making-stored}
-use Rattle.shape.specs.Cores.{Core, coreWith}
+use Rattle.shape.specs.Cores.{Core}
 use Rattle.shape.proofs.Places.{block-length}
 use Rattle.shift.specs.declared.Shift.{Shift}
 use Rattle.shift.specs.declared.Shift.the-variants.{Stay as stay, By as by}

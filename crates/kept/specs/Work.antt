@@ -1,7 +1,6 @@
 -- The work from zone z on, on any run: the step from the carry that the run holds left of z, then the sums from the sum that it holds there. Definitions only.
 use Prim.Native.Nat.{ℕ, _-_}
-use mathlib.Core.Bool.{false}
-use mathlib.Core.List.{List, [], _∷_, map}
+use mathlib.Core.List.{List, map}
 use lib.Ieee.{Float}
 use Rattle.numbers.specs.Arithmetic.{zero64}
 use Rattle.answers.specs.Outcome.{Answer, done, bind}
@@ -9,9 +8,8 @@ use Rattle.lists.specs.Slots.{offset, write}
 use Rattle.lists.specs.Walks.{walk}
 use Rattle.lists.specs.Floats.{at}
 use Rattle.shape.specs.declared.Shape.{Shape}
-use Rattle.shape.specs.Shapes.{coreSize}
 use Rattle.shape.specs.Cores.{Core}
-use Rattle.walking.specs.Keeping.{Stepped, keepStep, Stepped, bondSize, carrySize}
+use Rattle.walking.specs.Keeping.{Stepped, keepStep, Stepped}
 use Rattle.stepping.specs.Zones.{Rules}
 use Rattle.stepping.specs.Steps.{stepFrom}
 use Rattle.summing.specs.Sums.{sumSize}

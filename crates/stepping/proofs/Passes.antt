@@ -25,7 +25,7 @@ use Rattle.axes.specs.declared.Axis.{Axis}
 use Rattle.axes.specs.Axes.{axisAt}
 use Rattle.shift.specs.Shifts.{shiftOf, reaches}
 use Rattle.stepping.specs.declared.Settings.{Settings}
-use Rattle.stepping.specs.Zones.{Zone, zone, rules}
+use Rattle.stepping.specs.Zones.{zone, rules}
 use Rattle.stepping.specs.Steps.{shiftZone, scaleZone}
 use Rattle.stepping.specs.Over.{axisReaches, Onward, Elsewhere, zoneIn, standFrom, Stands, Rooms}
 use Rattle.stepping.proofs.Everys.{Left, left-none, left-done, left-stop, left-more, every-kept}

@@ -9,7 +9,6 @@ ghost use Rattle.lists.specs.Lists.{listed};
 ghost use Rattle.lists.specs.Walks.{every};
 ghost use Rattle.shape.specs.Shapes.{pointsOf};
 ghost use Rattle.shape.specs.Cores.{coreWith, standing};
-ghost use Rattle.axes.specs.Axes.{axisAt};
 ghost use Rattle.shift.specs.Shifts.{shiftOf, reaches, moveCore, scaled};
 ghost use Rattle.shift.specs.Doubled.{Lent};
 ghost use Rattle.stepping.specs.Zones.{zone, rules};

@@ -1,7 +1,7 @@
 -- `evolving::step` meets its contract: a walk of its MIR by hand, since the borrow checker covers no slice of records. The records are gathered, and `step_over` is called with the slices passed on for good.
 -- Assumes nothing.
 use mathlib.Core.Path.{_≡_, refl, ap, _∙_}
-use Prim.Native.Nat.{ℕ, _<_, _^_}
+use Prim.Native.Nat.{_<_, _^_}
 use mathlib.Core.List.{List, [], _∷_}
 use lib.Ieee.{Float}
 use lib.ListN.{length}

@@ -1,8 +1,5 @@
 -- `asking::found::either` meets its contract. Assumes nothing.
 use borrow.Author.Needs.{needs}
-use Rattle.asking.proofs.found.either.Reads as reads
-use Rattle.asking.proofs.found.either.Lts as lts
-use Rattle.asking.proofs.found.least.Reads as least-reads
 use Prim.Native.Nat.{_-_}
 use Rattle.asking.proofs.Guards.{least-fails}
 use Rattle.asking.proofs.found.either.Statement.{statement}

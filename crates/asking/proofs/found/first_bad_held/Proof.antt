@@ -1,11 +1,5 @@
 -- `asking::found::first_bad_held` meets its contract. Assumes nothing.
 use borrow.Author.Needs.{needs}
-use Rattle.asking.proofs.found.first_bad_held.Reads as reads
-use Rattle.asking.proofs.found.first_bad_held.Lts as lts
-use Rattle.asking.proofs.found.least.Reads as least-reads
-use Rattle.asking.proofs.rooms.first_bad_carry.Reads as first-bad-carry-reads
-use Rattle.asking.proofs.rooms.first_bad_core.Reads as first-bad-core-reads
-use Rattle.asking.proofs.rooms.first_bad_sum.Reads as first-bad-sum-reads
 use Prim.Native.Nat.{_-_}
 use Rattle.asking.proofs.Guards.{held-first}
 use Rattle.asking.proofs.found.first_bad_held.Statement.{statement}

@@ -1,11 +1,5 @@
 -- `asking::found::first_bad_made` meets its contract. Assumes nothing.
 use borrow.Author.Needs.{needs}
-use Rattle.asking.proofs.found.first_bad_made.Reads as reads
-use Rattle.asking.proofs.found.first_bad_made.Lts as lts
-use Rattle.asking.proofs.found.least.Reads as least-reads
-use Rattle.shape.proofs.Shape.first_not_finite_axis.Reads as first-not-finite-axis-reads
-use Rattle.shape.proofs.Shape.first_not_finite_core.Reads as first-not-finite-core-reads
-use Rattle.stepping.proofs.checks.first_not_finite.Reads as first-not-finite-reads
 use Prim.Native.Nat.{_-_}
 use Rattle.asking.proofs.Guards.{made-first}
 use Rattle.asking.proofs.found.first_bad_made.Statement.{statement}

@@ -1,9 +1,5 @@
 -- `asking::found::found_ok` meets its contract. Assumes nothing.
 use borrow.Author.Needs.{needs}
-use Rattle.asking.proofs.found.found_ok.Reads as reads
-use Rattle.asking.proofs.found.found_ok.Lts as lts
-use Rattle.asking.proofs.found.lent.Reads as lent-reads
-use Rattle.asking.proofs.ranks.shape_ok.Reads as shape-ok-reads
 use Prim.Native.Nat.{_-_}
 use Rattle.asking.proofs.Guards.{sized}
 use Rattle.shape.proofs.Shaped.{fits-sizes}

@@ -1,6 +1,4 @@
 -- `asking::found::numbers_ok` meets its contract. Assumes nothing.
-use Rattle.asking.proofs.found.numbers_ok.Reads as reads
-use Rattle.asking.proofs.found.numbers_ok.Lts as lts
 use borrow.Author.Needs.{needs}
 use Prim.Native.Nat.{_-_}
 use Rattle.asking.proofs.Guards.{numbers-found}

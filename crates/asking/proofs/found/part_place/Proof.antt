@@ -1,6 +1,4 @@
 -- `asking::found::part_place` meets its contract. Assumes nothing.
-use Rattle.asking.proofs.found.part_place.Reads as reads
-use Rattle.asking.proofs.found.part_place.Lts as lts
 use borrow.Author.Needs.{needs}
 use mathlib.Core.Path.{_≡_}
 use mathlib.Core.Bool.{true, false}

@@ -1,9 +1,5 @@
 -- `asking::found::with_part` meets its contract. Assumes nothing.
 use borrow.Author.Needs.{needs}
-use Rattle.asking.proofs.found.with_part.Reads as reads
-use Rattle.asking.proofs.found.with_part.Lts as lts
-use Rattle.asking.proofs.found.least.Reads as least-reads
-use Rattle.asking.proofs.found.part_place.Reads as part-place-reads
 use mathlib.Core.Bool.{true}
 use lib.Dec.{eqb}
 use Rattle.lists.specs.Lists.{pick}

@@ -1,8 +1,4 @@
 -- `asking::ranks::first_bad_bond` meets its contract. Assumes nothing.
-use Rattle.asking.proofs.ranks.first_bad_bond.Reads as reads
-use Rattle.asking.proofs.ranks.first_bad_bond.Lts as lts
-use Rattle.asking.proofs.ranks.rank_ok.Reads as rank-ok-reads
-use Rattle.shape.proofs.Shape.bond_ok.Reads as bond-ok-reads
 use borrow.Author.Needs.{needs}
 use Rattle.asking.proofs.Bonded.{both-found}
 use Rattle.lists.proofs.Demands.{Passed, passing}

@@ -1,9 +1,4 @@
 -- `asking::ranks::kept_shape` meets its contract. Assumes nothing.
-use Rattle.asking.proofs.ranks.kept_shape.Reads as reads
-use Rattle.asking.proofs.ranks.kept_shape.Lts as lts
-use Rattle.asking.proofs.ranks.left_rank.Reads as left-rank-reads
-use Rattle.asking.proofs.ranks.right_rank.Reads as right-rank-reads
-use Rattle.shape.proofs.Shape.with_core.Reads as with-core-reads
 use borrow.Author.Needs.{needs}
 use Rattle.asking.proofs.Bonded.{ranked-none, ranked-more, ranked-all}
 use Prim.Native.Nat.{_-_, _≤_}

@@ -1,7 +1,5 @@
 -- `asking::ranks::left_rank` meets its contract. Assumes nothing.
 use borrow.Author.Needs.{needs}
-use Rattle.asking.proofs.ranks.left_rank.Reads as reads
-use Rattle.asking.proofs.ranks.left_rank.Lts as lts
 use Rattle.asking.proofs.Bonded.{left-first, left-next}
 use Prim.Native.Nat.{_-_}
 use Rattle.asking.proofs.ranks.left_rank.Statement.{statement}

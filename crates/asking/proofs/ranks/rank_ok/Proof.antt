@@ -1,8 +1,5 @@
 -- `asking::ranks::rank_ok` meets its contract. Assumes nothing.
 use borrow.Author.Needs.{needs}
-use Rattle.asking.proofs.ranks.rank_ok.Reads as reads
-use Rattle.asking.proofs.ranks.rank_ok.Lts as lts
-use Rattle.shape.proofs.within.Reads as within-reads
 use Rattle.asking.proofs.Bonded.{rank-bond, rank-end}
 use Prim.Native.Nat.{_-_}
 use Rattle.asking.proofs.ranks.rank_ok.Statement.{statement}

@@ -1,7 +1,5 @@
 -- `asking::ranks::right_rank` meets its contract. Assumes nothing.
 use borrow.Author.Needs.{needs}
-use Rattle.asking.proofs.ranks.right_rank.Reads as reads
-use Rattle.asking.proofs.ranks.right_rank.Lts as lts
 use Rattle.asking.proofs.Bonded.{right-bond, right-end}
 use Prim.Native.Nat.{_-_}
 use Rattle.asking.proofs.ranks.right_rank.Statement.{statement}

@@ -1,10 +1,5 @@
 -- `asking::ranks::shape_ok` meets its contract. Assumes nothing.
 use borrow.Author.Needs.{needs}
-use Rattle.asking.proofs.ranks.shape_ok.Reads as reads
-use Rattle.asking.proofs.ranks.shape_ok.Lts as lts
-use Rattle.asking.proofs.ranks.first_bad_bond.Reads as first-bad-bond-reads
-use Rattle.shape.proofs.Shape.first_bad_size.Reads as first-bad-size-reads
-use Rattle.shape.proofs.within.Reads as within-reads
 use Rattle.shape.proofs.Verdicts.{verdicts}
 use Rattle.asking.proofs.ranks.shape_ok.Statement.{statement}
 use Rattle.asking.proofs.ranks.shape_ok.Tie as tie

@@ -1,9 +1,5 @@
 -- `asking::rooms::carry_held` meets its contract. Assumes nothing.
 use borrow.Author.Needs.{needs}
-use Rattle.asking.proofs.rooms.carry_held.Reads as reads
-use Rattle.asking.proofs.rooms.carry_held.Lts as lts
-use Rattle.asking.proofs.rooms.front_finite.Reads as front-finite-reads
-use Rattle.walking.proofs.carry_offset.Reads as carry-offset-reads
 use Rattle.asking.proofs.Fronts.{carry-used-fits, carry-room, carry-found, carry-none}
 use Prim.Native.Nat.{_-_}
 use Rattle.asking.proofs.rooms.carry_held.Statement.{statement}

@@ -1,7 +1,4 @@
 -- `asking::rooms::first_bad_carry` meets its contract. Assumes nothing.
-use Rattle.asking.proofs.rooms.first_bad_carry.Reads as reads
-use Rattle.asking.proofs.rooms.first_bad_carry.Lts as lts
-use Rattle.asking.proofs.rooms.carry_held.Reads as carry-held-reads
 use borrow.Author.Needs.{needs}
 use Rattle.lists.proofs.Demands.{Passed, passing}
 use Prim.Native.Nat.{_-_, _≤_}

@@ -1,7 +1,4 @@
 -- `asking::rooms::first_bad_core` meets its contract. Assumes nothing.
-use Rattle.asking.proofs.rooms.first_bad_core.Reads as reads
-use Rattle.asking.proofs.rooms.first_bad_core.Lts as lts
-use Rattle.asking.proofs.rooms.core_held.Reads as core-held-reads
 use borrow.Author.Needs.{needs}
 use Rattle.lists.proofs.Demands.{Passed, passing}
 use Prim.Native.Nat.{_-_, _≤_}

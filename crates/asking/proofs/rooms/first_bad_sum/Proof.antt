@@ -1,7 +1,4 @@
 -- `asking::rooms::first_bad_sum` meets its contract. Assumes nothing.
-use Rattle.asking.proofs.rooms.first_bad_sum.Reads as reads
-use Rattle.asking.proofs.rooms.first_bad_sum.Lts as lts
-use Rattle.asking.proofs.rooms.sums_held.Reads as sums-held-reads
 use borrow.Author.Needs.{needs}
 use Rattle.lists.proofs.Demands.{Passed, passing}
 use Prim.Native.Nat.{_-_, _≤_}

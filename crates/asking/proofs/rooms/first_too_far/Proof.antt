@@ -1,7 +1,4 @@
 -- `asking::rooms::first_too_far` meets its contract. Assumes nothing.
-use Rattle.asking.proofs.rooms.first_too_far.Reads as reads
-use Rattle.asking.proofs.rooms.first_too_far.Lts as lts
-use Rattle.asking.proofs.rooms.reach_ok.Reads as reach-ok-reads
 use borrow.Author.Needs.{needs}
 use Rattle.lists.proofs.Demands.{Passed, passing}
 use Prim.Native.Nat.{_-_, _≤_}

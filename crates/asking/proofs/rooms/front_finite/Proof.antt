@@ -1,8 +1,5 @@
 -- `asking::rooms::front_finite` meets its contract. Assumes nothing.
 use borrow.Author.Needs.{needs}
-use Rattle.asking.proofs.rooms.front_finite.Reads as reads
-use Rattle.asking.proofs.rooms.front_finite.Lts as lts
-use Rattle.lists.proofs.all_finite.Reads as all-finite-reads
 use Rattle.asking.proofs.Fronts.{front-found}
 use Prim.Native.Nat.{_-_}
 use Rattle.asking.proofs.rooms.front_finite.Statement.{statement}

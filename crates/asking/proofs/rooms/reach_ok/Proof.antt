@@ -1,8 +1,5 @@
 -- `asking::rooms::reach_ok` meets its contract. Assumes nothing.
 use borrow.Author.Needs.{needs}
-use Rattle.asking.proofs.rooms.reach_ok.Reads as reads
-use Rattle.asking.proofs.rooms.reach_ok.Lts as lts
-use Rattle.stepping.proofs.checks.axis_reaches.Reads as axis-reaches-reads
 use Rattle.asking.proofs.Fronts.{reach-before, reach-found}
 use Prim.Native.Nat.{_-_}
 use Rattle.asking.proofs.rooms.reach_ok.Statement.{statement}

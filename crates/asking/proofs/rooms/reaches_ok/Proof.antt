@@ -1,8 +1,5 @@
 -- `asking::rooms::reaches_ok` meets its contract. Assumes nothing.
 use borrow.Author.Needs.{needs}
-use Rattle.asking.proofs.rooms.reaches_ok.Reads as reads
-use Rattle.asking.proofs.rooms.reaches_ok.Lts as lts
-use Rattle.asking.proofs.rooms.first_too_far.Reads as first-too-far-reads
 use Rattle.asking.proofs.Fronts.{far-wrong, far-right}
 use Prim.Native.Nat.{_-_}
 use Rattle.asking.proofs.rooms.reaches_ok.Statement.{statement}

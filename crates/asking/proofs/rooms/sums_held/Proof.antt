@@ -1,9 +1,5 @@
 -- `asking::rooms::sums_held` meets its contract. Assumes nothing.
 use borrow.Author.Needs.{needs}
-use Rattle.asking.proofs.rooms.sums_held.Reads as reads
-use Rattle.asking.proofs.rooms.sums_held.Lts as lts
-use Rattle.asking.proofs.rooms.front_finite.Reads as front-finite-reads
-use Rattle.summing.proofs.sum_offset.Reads as sum-offset-reads
 use Rattle.asking.proofs.Fronts.{sums-room, sums-found}
 use Prim.Native.Nat.{_-_}
 use Rattle.asking.proofs.rooms.sums_held.Statement.{statement}

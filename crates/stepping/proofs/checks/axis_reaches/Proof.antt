@@ -1,10 +1,5 @@
 -- `stepping::checks::axis_reaches` meets its contract. Assumes nothing.
 use borrow.Author.Needs.{needs}
-use Rattle.stepping.proofs.checks.axis_reaches.Reads as reads
-use Rattle.stepping.proofs.checks.axis_reaches.Lts as lts
-use Rattle.axes.proofs.axis_in.Reads as axis-in-reads
-use Rattle.shift.proofs.reaches.Reads as reaches-reads
-use Rattle.shift.proofs.shift_of.Reads as shift-of-reads
 use Rattle.stepping.proofs.Verdicts.{reaches-found}
 use Rattle.stepping.proofs.checks.axis_reaches.Statement.{statement}
 use Rattle.stepping.proofs.checks.axis_reaches.Tie as tie

@@ -1,8 +1,4 @@
 -- `stepping::checks::first_below_zero` meets its contract. Assumes nothing.
-use Rattle.stepping.proofs.checks.first_below_zero.Reads as reads
-use Rattle.stepping.proofs.checks.first_below_zero.Lts as lts
-use Rattle.axes.proofs.axis_in.Reads as axis-in-reads
-use Rattle.axes.proofs.axis_ok.Reads as axis-ok-reads
 use borrow.Author.Needs.{needs}
 use mathlib.Core.Path.{ap, _∙_}
 use Rattle.lists.proofs.Demands.{Passed, passing}

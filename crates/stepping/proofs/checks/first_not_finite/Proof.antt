@@ -1,8 +1,4 @@
 -- `stepping::checks::first_not_finite` meets its contract. Assumes nothing.
-use Rattle.stepping.proofs.checks.first_not_finite.Reads as reads
-use Rattle.stepping.proofs.checks.first_not_finite.Lts as lts
-use Rattle.axes.proofs.axis_finite.Reads as axis-finite-reads
-use Rattle.axes.proofs.axis_in.Reads as axis-in-reads
 use borrow.Author.Needs.{needs}
 use mathlib.Core.Path.{ap, _∙_}
 use Rattle.lists.proofs.Demands.{Passed, passing}

@@ -1,7 +1,4 @@
 -- `stepping::checks::first_too_far` meets its contract. Assumes nothing.
-use Rattle.stepping.proofs.checks.first_too_far.Reads as reads
-use Rattle.stepping.proofs.checks.first_too_far.Lts as lts
-use Rattle.stepping.proofs.checks.axis_reaches.Reads as axis-reaches-reads
 use borrow.Author.Needs.{needs}
 use Rattle.lists.proofs.Demands.{Passed, passing}
 use Rattle.stepping.specs.Over.{axisReaches}

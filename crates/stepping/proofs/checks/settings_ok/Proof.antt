@@ -1,9 +1,5 @@
 -- `stepping::checks::settings_ok` meets its contract. Assumes nothing.
 use borrow.Author.Needs.{needs}
-use Rattle.stepping.proofs.checks.settings_ok.Reads as reads
-use Rattle.stepping.proofs.checks.settings_ok.Lts as lts
-use Rattle.stepping.proofs.checks.first_below_zero.Reads as first-below-zero-reads
-use Rattle.stepping.proofs.checks.first_too_far.Reads as first-too-far-reads
 use Rattle.stepping.proofs.Verdicts.{settings-found}
 use Rattle.stepping.proofs.checks.settings_ok.Statement.{statement}
 use Rattle.stepping.proofs.checks.settings_ok.Tie as tie

@@ -1,9 +1,5 @@
 -- `stepping::checks::zones_finite` meets its contract. Assumes nothing.
 use borrow.Author.Needs.{needs}
-use Rattle.stepping.proofs.checks.zones_finite.Reads as reads
-use Rattle.stepping.proofs.checks.zones_finite.Lts as lts
-use Rattle.shape.proofs.Shape.first_not_finite_core.Reads as first-not-finite-core-reads
-use Rattle.stepping.proofs.checks.first_not_finite.Reads as first-not-finite-reads
 use Rattle.stepping.proofs.Verdicts.{zones-found}
 use Rattle.stepping.proofs.checks.zones_finite.Statement.{statement}
 use Rattle.stepping.proofs.checks.zones_finite.Tie as tie

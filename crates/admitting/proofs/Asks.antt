@@ -33,7 +33,7 @@ use Rattle.asking.specs.Slices.{lentBy, madeFinite, heldFinite}
 use Rattle.asking.proofs.Bonded.{right-bond}
 use Rattle.kept.specs.Kept.{Summed, Kept, leftRank, rightRank, keptCore, keptCarry}
 use Rattle.kept.specs.Checks.{loneFinite, loneOk, zoneFinite, keptFinite}
-use Rattle.runs.specs.Asking.{zoneFound, foundNumbers}
+use Rattle.admitting.specs.Asking.{zoneFound, foundNumbers}
 
 -- ---- the lone settings
 pub lone-found : (t : Settings) (figure : Float) (a b c e : Bool) → a ≡ finite (t .tau) → b ≡ finite (t .c) → c ≡ finite (t .eps) → e ≡ finite figure → (a && (b && c)) && e ≡ (loneFinite t && finite figure)

@@ -31,7 +31,7 @@ use Rattle.asking.proofs.Guards.{size-stops, size-passes}
 use Rattle.kept.specs.Kept.{Inputs, Kept, allCarries, allSums}
 use Rattle.kept.specs.Checks.{rankOk, inputsLent, keptLent, inReachAt, loneFinite, loneOk}
 use Rattle.kept.specs.Requests.{Request, newCore, newAxis, newWeights, zoneOf, partFits, present, numbersOk, replaceOk}
-use Rattle.runs.specs.Asking.{zoneFound, foundNumbers, scratchOf}
+use Rattle.admitting.specs.Asking.{zoneFound, foundNumbers, scratchOf}
 
 -- seven checks and what follows, however they are grouped
 row : (a b c d e f g o : Check) → a then (b then ((c then d) then ((e then (f then g)) then o))) ≡ (a then (b then (c then (d then (e then (f then g)))))) then o

@@ -1,21 +1,15 @@
 -- `runs::checks::weights_ok` meets its contract. Assumes nothing.
 use borrow.Author.Needs.{needs}
-use Rattle.runs.proofs.checks.weights_ok.Reads as reads
-use Rattle.runs.proofs.checks.weights_ok.Lts as lts
-use Rattle.asking.proofs.found.found_ok.Reads as found-ok-reads
-use Rattle.lists.proofs.all_finite.Reads as all-finite-reads
-use Rattle.runs.proofs.checks.numbers_found.Reads as numbers-found-reads
-use Rattle.shape.proofs.Shape.entries.Reads as entries-reads
 use Rattle.shape.proofs.Shaped.{shaped}
 use Rattle.kept.specs.Kept.{keptOf}
-use Rattle.runs.proofs.InRow.{found-stops, found-says, weights-wrong, weights-room, weights-fit}
+use Rattle.admitting.proofs.InRow.{found-stops, found-says, weights-wrong, weights-room, weights-fit}
 use Rattle.stepping.specs.Zones.{rules}
 use Rattle.kept.specs.Requests.{newWeights}
-use Rattle.runs.specs.Asking.{scratchOf}
+use Rattle.admitting.specs.Asking.{scratchOf}
 use native.Mathlib.Omega.{arith}
 use Rattle.shape.proofs.Offsets.{entries-most}
-use Rattle.runs.proofs.checks.weights_ok.Statement.{statement}
-use Rattle.runs.proofs.checks.weights_ok.Tie as tie
+use Rattle.admitting.proofs.checks.weights_ok.Statement.{statement}
+use Rattle.admitting.proofs.checks.weights_ok.Tie as tie
 
 returns : tie.Need-returns
 returns c = let i = c .before .before .before .before .before .before .before .before .before .before .before .before in found-stops rules (scratchOf (i .args .r .shape) 6 (i .args .scratch)) (keptOf (i .args .r) (i .args .source .now) (i .args .weights .now) (i .args .chain .now) (i .args .carries .now) (i .args .sums .now)) (newWeights (i .args .z) (i .args .part .now)) _ (c .before .before .before .found-ok .ensures) _ (c .before .found .given .1)

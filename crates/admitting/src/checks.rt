@@ -13,7 +13,7 @@ ghost use Rattle.kept.specs.Kept.{keptOf};
 ghost use Rattle.kept.specs.Checks.{loneFinite, loneOk};
 ghost use Rattle.stepping.specs.Zones.{rules};
 ghost use Rattle.kept.specs.Requests.{newCore, newAxis, newWeights, replaceOk};
-ghost use Rattle.runs.specs.Asking.{zoneFound, foundNumbers, scratchOf};
+ghost use Rattle.admitting.specs.Asking.{zoneFound, foundNumbers, scratchOf};
 
 // What scratch has beside four times the chain's numbers.
 const SCRATCH_BESIDE: usize = 2048;

@@ -1,18 +1,10 @@
 -- `runs::checks::numbers_found` meets its contract. Assumes nothing.
 use borrow.Author.Needs.{needs}
-use Rattle.runs.proofs.checks.numbers_found.Reads as reads
-use Rattle.runs.proofs.checks.numbers_found.Lts as lts
-use Rattle.asking.proofs.found.numbers_ok.Reads as numbers-ok-reads
-use Rattle.asking.proofs.found.with_part.Reads as with-part-reads
-use Rattle.runs.proofs.checks.first_bad_number.Reads as first-bad-number-reads
-use Rattle.runs.proofs.checks.lone_finite.Reads as lone-finite-reads
-use Rattle.runs.proofs.checks.lone_ok.Reads as lone-ok-reads
-use Rattle.stepping.proofs.checks.first_below_zero.Reads as first-below-zero-reads
-use Rattle.runs.proofs.Asks.{numbers-are}
+use Rattle.admitting.proofs.Asks.{numbers-are}
 use Rattle.shape.proofs.Shaped.{shaped}
 use Rattle.kept.specs.Kept.{keptOf}
-use Rattle.runs.proofs.checks.numbers_found.Statement.{statement}
-use Rattle.runs.proofs.checks.numbers_found.Tie as tie
+use Rattle.admitting.proofs.checks.numbers_found.Statement.{statement}
+use Rattle.admitting.proofs.checks.numbers_found.Tie as tie
 
 first-bad-number-requires : tie.Need-first-bad-number-requires
 first-bad-number-requires c κs = (c .before .before .before .before .before .before .before .before .pre .0 .1, c .before .before .before .before .before .before .before .before .pre .1)

@@ -24,7 +24,7 @@ use Rattle.asking.specs.Ranks.{Ranked}
 use Rattle.asking.proofs.Bonded.{right-bond}
 use Rattle.kept.specs.Kept.{Inputs, Summed, sumsAt, weighedAt, weighedFrom}
 use Rattle.kept.specs.Work.{keepSums, sumZone, resum}
-use Rattle.runs.proofs.Asks.{core-kept}
+use Rattle.admitting.proofs.Asks.{core-kept}
 
 module _ (i : Inputs) (h : Stepped) (t : Shape) (R : Ranked (i .shape) (h .ranks) t (i .shape .d)) where
   abbrev s : Shape

@@ -1,17 +1,11 @@
 -- `runs::checks::first_bad_number` meets its contract. Assumes nothing.
 use borrow.Author.Needs.{needs}
-use Rattle.runs.proofs.checks.first_bad_number.Reads as reads
-use Rattle.runs.proofs.checks.first_bad_number.Lts as lts
-use Rattle.asking.proofs.found.either.Reads as either-reads
-use Rattle.asking.proofs.found.first_bad_held.Reads as first-bad-held-reads
-use Rattle.asking.proofs.found.first_bad_made.Reads as first-bad-made-reads
-use Rattle.asking.proofs.ranks.kept_shape.Reads as kept-shape-reads
-use Rattle.runs.proofs.Asks.{lent-says, first-found}
+use Rattle.admitting.proofs.Asks.{lent-says, first-found}
 use Rattle.asking.proofs.Bonded.{ranked-inside}
 use Rattle.shape.proofs.Shaped.{shaped}
 use Rattle.kept.specs.Kept.{keptOf}
-use Rattle.runs.proofs.checks.first_bad_number.Statement.{statement}
-use Rattle.runs.proofs.checks.first_bad_number.Tie as tie
+use Rattle.admitting.proofs.checks.first_bad_number.Statement.{statement}
+use Rattle.admitting.proofs.checks.first_bad_number.Tie as tie
 
 kept-shape-requires : tie.Need-kept-shape-requires
 kept-shape-requires c κs = shaped _ _ (c .before .before .before .before .before .before .before .before .pre .0) .most

@@ -1,0 +1,2 @@
+// Whether a replacement is admitted: its checks, in their order, on any run that it finds.
+pub mod checks;

@@ -1,2 +1,0 @@
-// A kept run: the fresh one, and the replacement of one zone's core, weights or axis record.
-pub mod checks;
