@@ -1,51 +1,38 @@
 -- The calls by their parts. Assumes nothing.
 use mathlib.Core.Path.{_≡_, refl, sym, ap, _∙_, subst}
-use Prim.Native.Nat.{ℕ, _-_, _≤_, _<_}
-use native.Mathlib.Omega.{arith}
+use Prim.Native.Nat.{ℕ, _-_, _≤_}
 use mathlib.Core.Bool.{Bool, true, false, _&&_, true≢false}
-use mathlib.Core.List.{List, _++_}
-use lib.ListN.{length, take, replicate, length-append}
+use mathlib.Core.List.{List}
+use lib.ListN.{length, replicate}
 use lib.Ieee.{Float}
-use Rattle.numbers.specs.Arithmetic.{zero64}
 use Rattle.numbers.specs.Finite.{finite}
 use Rattle.answers.specs.declared.Refusal.{Refusal}
 use Rattle.answers.specs.declared.Verdict.{Verdict}
 use Rattle.answers.specs.declared.Verdict.the-variants.{Fits, Refused}
 use Rattle.answers.specs.Outcome.{Answer, Check, _then_, demand, done, verdictOf}
 use Rattle.answers.proofs.Outcomes.{fits-done, bind-cong}
-use Rattle.lists.specs.Lists.{tab, joined}
-use Rattle.lists.specs.Slots.{slot, fit}
-use Rattle.lists.specs.Floats.{zeros}
 use Rattle.lists.proofs.Tests.{both}
 use Rattle.shape.specs.declared.Shape.{Shape}
 use Rattle.shape.specs.Limits.{mostAxes, within}
-use Rattle.shape.specs.Shapes.{chainOk, coreSize, entriesOf}
+use Rattle.shape.specs.Shapes.{chainOk}
 use Rattle.shape.specs.Sizes.{SizesWithin, Inside}
-use Rattle.shape.specs.Cores.{Core, coresOf, standing}
+use Rattle.shape.specs.Cores.{coresOf}
 use Rattle.shape.proofs.Shaped.{shaped, within-is}
-use Rattle.shape.proofs.Insides.{inside-itself, inside-size}
 use Rattle.axes.specs.declared.Axis.{Axis}
 use Rattle.rounding.specs.declared.Rounded.{Rounded}
 use Rattle.walking.specs.declared.Walked.{Walked}
 use Rattle.cutting.specs.Rounding.{Carry, Cut}
 use Rattle.rounding.specs.Call.{notBelowZero, Ended, endedBy}
-use Rattle.rounding.proofs.Ends.{inside-entries}
+use Rattle.rounding.specs.Slots.{finishedBy, finished}
 use Rattle.stepping.specs.declared.Settings.{Settings}
 use Rattle.stepping.specs.Steps.{step, stepsAndOne}
 use Rattle.stepping.specs.Call.{mostSteps, settingsFor}
 use Rattle.stepping.specs.Over.{settingsOk, overOk, stepOver, evolveOver}
-use Rattle.evolving.specs.Held.{Came, Placed, Finished, Answers}
-use Rattle.evolving.proofs.Asked.{not-fits}
+use Rattle.striding.specs.Held.{Came}
+use Rattle.evolving.specs.Held.{Finished, Answers}
+use Rattle.striding.proofs.Asked.{not-fits}
 use Rattle.evolving.proofs.Late.{late-steps}
-use Rattle.evolving.proofs.Ends.{taken-over, finished-is, over-stops, over-goes, over-passed}
-
--- ---- the steps over the chain in scratch
-pub placed-own : (s : Shape) (l x r : List Float) → chainOk s ≡ done tt → x ≡ l → length l ≡ entriesOf s → length (s .left) ≡ mostAxes → length (s .right) ≡ mostAxes → Placed s s (x ++ r)
-placed-own s l x r ok e n a b = record { inside = inside-itself s (shaped s (λ (k : ℕ). true) ok); lefts = a; rights = b; long = omega (arith, length-append x r, ap length e) }
-
-pub came-own : (m : ℕ) (set : Settings) (s : Shape) (xs : List Axis) (l x r : List Float) → x ≡ l → length l ≡ entriesOf s → (v : Verdict) (u : Shape) (sweeps : List ℕ) (settled : List Bool) (w : List Float)
-    → Came (stepsAndOne m set xs (tab (s .d) (standing s s (x ++ r)))) s s v u sweeps settled w → Came (stepsAndOne m set xs (coresOf s l)) s s v u sweeps settled w
-came-own m set s xs l x r e n v u sweeps settled w C = subst (λ (cs : List Core). Came (stepsAndOne m set xs cs) s s v u sweeps settled w) (taken-over s l x r e n) C
+use Rattle.evolving.proofs.Ends.{finished-is, over-stops, over-goes, over-passed}
 
 pub came-inside : (T : Answer (List (Carry × Cut))) (s t : Shape) (v : Verdict) (u : Shape) (sweeps : List ℕ) (settled : List Bool) (w : List Float) → Came T s t v u sweeps settled w → v ≡ Fits → Inside s u
 came-inside T s t v u sweeps settled w C h = let D = fits-done T (sym (C .verdict) ∙ h) in C .ends (D .0) (D .1) .inside
@@ -54,16 +41,13 @@ pub ok-sizes : (s : Shape) → chainOk s ≡ done tt → SizesWithin s
 ok-sizes s e = shaped s (λ (k : ℕ). true) e .sizes
 
 -- ---- the end
-module _ (s : Shape) (w : Walked) (l v : List Float) (r : Rounded) (v' : List Float) (c : v' ≡ zeros (length v)) where
-  pub finish-refused : (q : Refusal) → w .verdict ≡ Refused q → r ≡ record { verdict = Refused q; shape = s; sweeps = replicate mostAxes 0; settled = replicate mostAxes false } → Finished s w l v r l v'
-  finish-refused q e f = record { cleared = c; refused = λ p g. let z : q ≡ p = cc in (f ∙ ap (λ (y : Refusal). record { verdict = Refused y; shape = s; sweeps = replicate mostAxes 0; settled = replicate mostAxes false }) z, refl); made = λ g. absurd (not-fits (w .verdict) q e g) }
-
-  pub finish-made : w .verdict ≡ Fits → (l' : List Float) → l' ≡ fit zero64 (length l) (joined (s .d) (λ (k : ℕ). take (coreSize (w .shape) k) (slot (coreSize s) k v))) → r ≡ record { verdict = Fits; shape = w .shape; sweeps = w .sweeps; settled = w .settled } → Finished s w l v r l' v'
-  finish-made e l' p f = record { cleared = c; refused = λ q g. absurd (not-fits (w .verdict) q g e); made = λ g. (f, p) }
-
-pub pack-asks : (s t : Shape) (work chain : List Float) → SizesWithin s → Inside s t → length chain ≡ entriesOf s → entriesOf s ≤ length work
-    → ((SizesWithin s) × (SizesWithin t) × (t .d ≡ s .d)) × (((k : ℕ) → k < s .d → coreSize t k ≤ coreSize s k) × ((entriesOf s ≤ length work) × (entriesOf t ≤ length chain)))
-pack-asks s t work chain w I n l = ((w, I .sizes, I .axes), ((λ k q. inside-size s t I k q), (l, omega (arith, inside-entries s t I))))
+-- the call's end as `finish` answers it
+pub finished-as : (s : Shape) (w : Walked) (l v : List Float) (e : Ended) → e ≡ finished s w l v → Finished s w l v (e .result) (e .chain) (e .scratch)
+finished-as s w l v e p = go (w .verdict) refl p
+  where
+    go : (x : Verdict) → w .verdict ≡ x → e ≡ finishedBy x s w l v → Finished s w l v (e .result) (e .chain) (e .scratch)
+    go Fits h p = record { cleared = ap (λ (y : Ended). y .scratch) p; refused = λ q g. absurd (not-fits (w .verdict) q g h); made = λ g. (ap (λ (y : Ended). y .result) p, ap (λ (y : Ended). y .chain) p) }
+    go (Refused q) h p = record { cleared = ap (λ (y : Ended). y .scratch) p; refused = λ r g. let z : q ≡ r = cc in (ap (λ (y : Ended). y .result) p ∙ ap (λ (y : Refusal). record { verdict = Refused y; shape = s; sweeps = replicate mostAxes 0; settled = replicate mostAxes false }) z, ap (λ (y : Ended). y .chain) p); made = λ g. absurd (not-fits (w .verdict) q h g) }
 
 pub work-done : (m : ℕ) (set : Settings) (s : Shape) (xs : List Axis) (w : Walked) (l u x : List Float) (r : Rounded) (l' v' : List Float) → length u ≡ length x
     → Came (stepsAndOne m set xs (coresOf s l)) s s (w .verdict) (w .shape) (w .sweeps) (w .settled) u → Finished s w l u r l' v' → Answers (endedBy s l x (stepsAndOne m set xs (coresOf s l))) r l' v'

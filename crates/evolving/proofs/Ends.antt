@@ -3,10 +3,9 @@ use mathlib.Core.Path.{_≡_, refl, sym, ap, _∙_, subst}
 use Prim.Native.Nat.{ℕ, _≤_, _<_}
 use native.Mathlib.Omega.{arith}
 use mathlib.Core.Bool.{Bool, true, false}
-use mathlib.Core.List.{List, _++_, map}
+use mathlib.Core.List.{List, map}
 use lib.Dec.{eqb}
-use lib.ListN.{length, take, drop, replicate}
-use lib.Seq.{take-at, take-take, take-length}
+use lib.ListN.{length, replicate}
 use lib.Ieee.{Float}
 use Rattle.numbers.specs.Arithmetic.{zero64}
 use Rattle.answers.specs.declared.Refusal.{Refusal}
@@ -16,17 +15,16 @@ use Rattle.answers.specs.declared.Verdict.the-variants.{Fits, Refused}
 use Rattle.answers.specs.Outcome.{Answer, done, refused, Check, _then_, demand, demandEach, verdictOf}
 use Rattle.answers.specs.Table.{beforeWork}
 use Rattle.answers.proofs.Checks.{demand-is, then-is, each-is, verdict-passed, verdict-refused}
-use Rattle.lists.specs.Lists.{tab, flat, pick}
-use Rattle.lists.specs.Slots.{offset, slot, fit}
+use Rattle.lists.specs.Lists.{flat, pick}
+use Rattle.lists.specs.Slots.{fit}
 use Rattle.lists.specs.Floats.{zeros}
-use Rattle.lists.proofs.Tables.{listed-same, tab-map}
-use Rattle.lists.proofs.Slots.{slot-before}
+use Rattle.lists.proofs.Tables.{tab-map}
 use Rattle.lists.proofs.Asked.{lengths-say}
 use Rattle.lists.proofs.Picks.{pick-true, pick-false}
 use Rattle.shape.specs.declared.Shape.{Shape}
 use Rattle.shape.specs.Limits.{mostAxes, scratchFor}
-use Rattle.shape.specs.Shapes.{leftOf, pointsOf, rightOf, chainOk, coreSize, entriesOf}
-use Rattle.shape.specs.Cores.{Core, coreWith, coreAt, coresOf, standing, reshaped}
+use Rattle.shape.specs.Shapes.{chainOk, entriesOf}
+use Rattle.shape.specs.Cores.{Core, standing, reshaped}
 use Rattle.axes.specs.declared.Axis.{Axis}
 use Rattle.rounding.specs.declared.Rounded.{Rounded}
 use Rattle.walking.specs.declared.Walked.{Walked}
@@ -36,26 +34,8 @@ use Rattle.rounding.proofs.Early.{Early, early-demand, early-then, early-each, 
 use Rattle.rounding.proofs.Ends.{early-lengths}
 use Rattle.stepping.specs.declared.Settings.{Settings}
 use Rattle.stepping.specs.Over.{axisReaches, zonesFinite, settingsOk, overOk}
-use Rattle.evolving.specs.Held.{Came, Late, Finished, Answers}
-
--- ---- the chain taken into scratch
--- a chain stands in its own room
-stand-own : (s : Shape) (w : List Float) (k : ℕ) → standing s s w k ≡ coreAt s w k
-unfolding standing coreAt slot
-stand-own s w k = ap (coreWith (leftOf s k) (pointsOf s k) (rightOf s k)) (take-take (coreSize s k) (coreSize s k) (drop (offset (coreSize s) k) w) (omega arith))
-
--- x is the chain l, copied to the front
-pub taken-over : (s : Shape) (l x r : List Float) → x ≡ l → length l ≡ entriesOf s → tab (s .d) (standing s s (x ++ r)) ≡ coresOf s l
-unfolding coresOf coreAt
-taken-over s l x r e n =
-    listed-same (s .d) 0 (standing s s (x ++ r)) (coreAt s l) (λ k a b.
-    stand-own s (x ++ r) k
-    ∙ ap (coreWith (leftOf s k) (pointsOf s k) (rightOf s k))
-    (slot-before (coreSize s) k (s .d) (x ++ r) l (omega arith)
-    (ap (λ (y : List Float). take (entriesOf s) (y ++ r)) e ∙ take-at l r (entriesOf s) n ∙ sym (take-all l (entriesOf s) n))))
-  where
-    take-all : (l : List Float) (m : ℕ) → length l ≡ m → take m l ≡ l
-    take-all l m n = ap (λ (i : ℕ). take i l) (sym n) ∙ take-length l
+use Rattle.striding.specs.Held.{Came, Late}
+use Rattle.evolving.specs.Held.{Finished, Answers}
 
 -- ---- the end
 -- the steps came to w and left u in scratch, which was x

@@ -1,8 +1,3 @@
 pub mod Late
-pub mod Reshapes
-pub mod Traces
-pub mod Steps
-pub mod Evolves
-pub mod Asked
 pub mod Ends
 pub mod Calls

@@ -27,7 +27,7 @@ pub struct Rounded {
 }
 
 // A refusal leaves the shape as it was and counts no sweeps.
-fn refused_rounding(r: answers::Refusal, s: shape::Shape) -> Rounded
+pub fn refused_rounding(r: answers::Refusal, s: shape::Shape) -> Rounded
     ensures { λ o. ⌜ o ≡ record { verdict = Refused r; shape = s; sweeps = replicate mostAxes 0; settled = replicate mostAxes false } ⌝ }
 {
     Rounded {

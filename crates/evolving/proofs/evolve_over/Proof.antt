@@ -7,7 +7,7 @@ use Rattle.evolving.proofs.evolve_over.Statement.{statement}
 use Rattle.evolving.proofs.evolve_over.Tie as tie
 
 returns : tie.Need-returns
-returns c = evolve-stops _ _ _ _ _ _ _ _ _ _ _ _ (c .before .before .before .before .before .before .before .before .course-finite .ensures) (c .before .before .before .before .before .before .before .course-mild .ensures) (c .before .before .before .before .before .before .course-settings .ensures) _ (c .before .before .before .before .step-ok .ensures) _ (c .before .before .ok .given .1) _ (c .refused-end .ensures)
+returns c = evolve-stops _ _ _ _ _ _ _ _ _ _ _ _ (c .before .before .before .before .before .before .before .before .course-finite .ensures) (c .before .before .before .before .before .before .before .course-mild .ensures) (c .before .before .before .before .before .before .course-settings .ensures) _ (c .before .before .before .before .step-ok .ensures) _ (c .before .before .ok .given .1) _ (c .refused-rounding .ensures)
 
 sub-work : tie.Need-sub-work
 sub-work c = accepted (notBelowZero (c .before .before .before .before .before .before .before .before .before .before .args .p .«t_final»)) (notBelowZero (c .before .before .before .before .before .before .before .before .before .before .args .p .eps)) _ _ (c .before .before .before .before .before .before .course-mild .ensures) ((over-passed _ _ _ _ _ _ _ _ _ (c .before .before .before .step-ok .ensures) (c .before .enum-told .given .1)) .within) .0

@@ -6,7 +6,7 @@ use Rattle.evolving.proofs.step_over.Statement.{statement}
 use Rattle.evolving.proofs.step_over.Tie as tie
 
 returns : tie.Need-returns
-returns c = step-stops _ _ _ _ _ _ _ _ (c .before .before .before .before .before .before .before .step-finite .ensures) (c .before .before .before .before .before .before .step-mild .ensures) _ (c .before .before .before .before .step-ok .ensures) _ (c .before .before .ok .given .1) _ (c .refused-end .ensures)
+returns c = step-stops _ _ _ _ _ _ _ _ (c .before .before .before .before .before .before .before .step-finite .ensures) (c .before .before .before .before .before .before .step-mild .ensures) _ (c .before .before .before .before .step-ok .ensures) _ (c .before .before .ok .given .1) _ (c .refused-rounding .ensures)
 
 work-requires : tie.Need-work-requires
 work-requires c κs = (((over-passed _ _ _ _ _ _ _ _ _ (c .before .before .before .before .step-ok .ensures) (c .before .before .enum-told .given .1)) .shape, (over-passed _ _ _ _ _ _ _ _ _ (c .before .before .before .before .step-ok .ensures) (c .before .before .enum-told .given .1)) .reach), ((over-passed _ _ _ _ _ _ _ _ _ (c .before .before .before .before .step-ok .ensures) (c .before .before .enum-told .given .1)) .long, (over-passed _ _ _ _ _ _ _ _ _ (c .before .before .before .before .step-ok .ensures) (c .before .before .enum-told .given .1)) .wide))

@@ -1,10 +1,10 @@
--- `evolving::step_from` meets its contract. Assumes nothing.
+-- `striding::step_from` meets its contract. Assumes nothing.
 use borrow.Author.Needs.{needs}
-use Rattle.evolving.proofs.Asked.{at-again, step-stops}
-use Rattle.evolving.proofs.Steps.{held-goes}
+use Rattle.striding.proofs.Asked.{at-again, step-stops}
+use Rattle.striding.proofs.Steps.{held-goes}
 use native.Mathlib.Omega.{arith}
-use Rattle.evolving.proofs.step_from.Statement.{statement}
-use Rattle.evolving.proofs.step_from.Tie as tie
+use Rattle.striding.proofs.step_from.Statement.{statement}
+use Rattle.striding.proofs.step_from.Tie as tie
 
 returns : tie.Need-returns
 returns c = step-stops _ _ _ _ _ _ _ _ (c .before .before .before .before .before .before .before .before .before .before .move-from .ensures .0) _ (c .before .before .moved .given .1) _ (c .refused-walk .ensures) _

@@ -24,8 +24,9 @@ use Rattle.walking.proofs.Bonds.{carries-most}
 use Rattle.stepping.specs.declared.Settings.{Settings}
 use Rattle.stepping.specs.Steps.{step}
 use Rattle.stepping.specs.Over.{axisReaches, Stands, Rooms, standFrom}
-use Rattle.evolving.specs.Held.{stepHeld, Came, Placed, Ready, noneHeld}
-use Rattle.evolving.proofs.Steps.{with, moves, held-stops, came-of}
+use Rattle.rounding.specs.Slots.{unrounded}
+use Rattle.striding.specs.Held.{stepHeld, Came, Placed, Ready}
+use Rattle.striding.proofs.Steps.{with, moves, held-stops, came-of}
 
 pub not-fits : (v : Verdict) (q : Refusal) → v ≡ Refused q → v ≡ Fits → ⊥
 not-fits v q e f = let z : _≡_ {A = ℕ} 0 1 = cc in omega arith
@@ -64,10 +65,10 @@ module _ (set : Settings) (s t : Shape) (xs : List Axis) (work carries room bloc
   chain : Shaped s
   chain = shaped s (λ (k : ℕ). true) (R .ok)
 
-  at-first : AtZone s 0 0 t (heldBy (noneHeld t) work carries)
-  at-first = at-start s t (heldBy (noneHeld t) work carries) (chain .joins) (P .inside) (chain .least) (P .lefts) (P .rights) refl refl refl (P .long) (omega (arith, carries-most s (chain .sizes) (s .d) (omega arith), R .carried))
+  at-first : AtZone s 0 0 t (heldBy (unrounded t) work carries)
+  at-first = at-start s t (heldBy (unrounded t) work carries) (chain .joins) (P .inside) (chain .least) (P .lefts) (P .rights) refl refl refl (P .long) (omega (arith, carries-most s (chain .sizes) (s .d) (omega arith), R .carried))
 
-  module _ (w : Walked) (e : w ≡ noneHeld t) where
+  module _ (w : Walked) (e : w ≡ unrounded t) where
     pub one-asks : ((Stands s (w .shape) work) × (Rooms room block)) × (((0 ≤ s .d) × ((k : ℕ) → 0 ≤ k → k < s .d → axisReaches set s xs k ≡ true)) × ((w .verdict ≡ Fits) × AtZone s 0 0 (w .shape) (heldBy w work carries)))
     one-asks = subst (λ (x : Walked). ((Stands s (x .shape) work) × (Rooms room block)) × (((0 ≤ s .d) × ((k : ℕ) → 0 ≤ k → k < s .d → axisReaches set s xs k ≡ true)) × ((x .verdict ≡ Fits) × AtZone s 0 0 (x .shape) (heldBy x work carries)))) (sym e)
         ((record { inside = P .inside; within = chain .sizes; long = P .long }, R .rooms), ((omega arith, λ k a b. R .reach k b), (refl, at-first)))
@@ -75,5 +76,5 @@ module _ (set : Settings) (s t : Shape) (xs : List Axis) (work carries room bloc
     pub one-came : (r : Walked) (work' carries' : List Float) → stepHeld set s 0 xs (w .shape) (heldBy w work carries) ≡ answered (r .verdict) (r .shape, heldBy r work' carries') → (_≡_ {A = ℕ} 0 0 → r .verdict ≡ Fits → Inside s (r .shape))
         → Came (step set xs (tab (s .d) (standing s t work))) s t (r .verdict) (r .shape) (r .sweeps) (r .settled) work'
     one-came r work' carries' f g =
-        came-of set s t xs (heldBy (noneHeld t) work carries) (P .inside) (P .long) (P .lefts) (P .rights) refl refl (r .verdict) (r .shape) (heldBy r work' carries')
+        came-of set s t xs (heldBy (unrounded t) work carries) (P .inside) (P .long) (P .lefts) (P .rights) refl refl (r .verdict) (r .shape) (heldBy r work' carries')
         (subst (λ (x : Walked). stepHeld set s 0 xs (x .shape) (heldBy x work carries) ≡ answered (r .verdict) (r .shape, heldBy r work' carries')) e f) (g refl)

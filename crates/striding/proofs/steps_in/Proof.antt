@@ -1,14 +1,14 @@
--- `evolving::steps_in` meets its contract. Assumes nothing.
+-- `striding::steps_in` meets its contract. Assumes nothing.
 use borrow.Author.Needs.{needs}
 use mathlib.Core.Path.{_≡_, refl, _∙_}
-use Rattle.evolving.proofs.Evolves.{Going, going-first, going-more, going-stops, going-ends, going-placed, ready-on}
+use Rattle.striding.proofs.Evolves.{Going, going-first, going-more, going-stops, going-ends, going-placed, ready-on}
 use native.Mathlib.Omega.{arith}
 use lib.ListN.{length}
 use Rattle.lists.specs.Lists.{tab}
 use Rattle.shape.specs.Cores.{standing}
 use Rattle.stepping.specs.Steps.{stepsAndOne}
-use Rattle.evolving.proofs.steps_in.Statement.{statement}
-use Rattle.evolving.proofs.steps_in.Tie as tie
+use Rattle.striding.proofs.steps_in.Statement.{statement}
+use Rattle.striding.proofs.steps_in.Tie as tie
 
 abbrev Inv-loop : tie.InvT-loop
 Inv-loop m s set xs work₀ carries₀ room₀ block₀ t₀ left₀ work carries room block t left = (Going set s xs (stepsAndOne m set xs (tab (s .d) (standing s s work₀))) left t work) × (length work ≡ length work₀) × (length carries ≡ length carries₀) × (length room ≡ length room₀) × (length block ≡ length block₀)

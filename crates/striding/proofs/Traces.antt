@@ -30,7 +30,7 @@ use Rattle.bond.specs.Bonds.{cutBond}
 use Rattle.cutting.specs.Rounding.{Carry, none, Cut, takenIn, cutIf, roundCore, coresIn, countsIn, flagsIn}
 use Rattle.walking.specs.Keeping.{bondSize, Stepped, keepStep}
 use Rattle.cutting.proofs.Cuts.{volume, round-of}
-use Rattle.evolving.proofs.Reshapes.{reshaped-at}
+use Rattle.striding.proofs.Reshapes.{reshaped-at}
 
 -- ---- lists as long as their slots, behind which o stands
 module _ {A : Type 0} (size : ℕ → ℕ) (o : A) where

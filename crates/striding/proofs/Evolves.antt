@@ -23,8 +23,8 @@ use Rattle.axes.specs.declared.Axis.{Axis}
 use Rattle.cutting.specs.Rounding.{Carry, Cut, coresIn}
 use Rattle.stepping.specs.declared.Settings.{Settings}
 use Rattle.stepping.specs.Steps.{step, stepsAndOne}
-use Rattle.evolving.specs.Held.{Ends, Came, Placed, Ready}
-use Rattle.evolving.proofs.Reshapes.{reshaped-again}
+use Rattle.striding.specs.Held.{Ends, Came, Placed, Ready}
+use Rattle.striding.proofs.Reshapes.{reshaped-again}
 
 refused-by : {A : Type 0} (T : Answer A) (v : Verdict) (q : Refusal) → v ≡ verdictOf T → v ≡ Refused q → T ≡ refused q
 refused-by (done a) v q e h = let z : _≡_ {A = ℕ} 0 1 = cc in let n : ⊥ = omega arith in absurd n

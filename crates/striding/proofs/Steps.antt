@@ -43,8 +43,8 @@ use Rattle.stepping.specs.Zones.{Zone, zonesOf, rules}
 use Rattle.stepping.specs.Steps.{holding, shiftZone, scaleZone, roundZone, stepFrom, step}
 use Rattle.stepping.specs.Over.{zoneIn, standFrom, Onward}
 use Rattle.stepping.proofs.Gathers.{zones-listed}
-use Rattle.evolving.specs.Held.{stepHeld, Came}
-use Rattle.evolving.proofs.Traces.{Found, counts-front, flags-front, cores-stand}
+use Rattle.striding.specs.Held.{stepHeld, Came}
+use Rattle.striding.proofs.Traces.{Found, counts-front, flags-front, cores-stand}
 
 -- what is held, with another chain
 abbrev pub with : Stepped → List Float → Stepped

@@ -1,8 +1,8 @@
--- `evolving::stepped` meets its contract. Assumes nothing.
+-- `striding::stepped` meets its contract. Assumes nothing.
 use borrow.Author.Needs.{needs}
-use Rattle.evolving.proofs.Calls.{placed-own, came-own}
-use Rattle.evolving.proofs.stepped.Statement.{statement}
-use Rattle.evolving.proofs.stepped.Tie as tie
+use Rattle.striding.proofs.Taken.{placed-own, came-own}
+use Rattle.striding.proofs.stepped.Statement.{statement}
+use Rattle.striding.proofs.stepped.Tie as tie
 
 steps-in-requires : tie.Need-steps-in-requires
 steps-in-requires c κs = (record { ok = c .before .before .before .before .before .before .before .before .before .before .pre .0 .0; reach = c .before .before .before .before .before .before .before .before .before .before .pre .0 .1; carried = search needs; rooms = record { core = search needs; twice = search needs } }, placed-own _ _ _ _ (c .before .before .before .before .before .before .before .before .before .before .pre .0 .0) (c .before .before .before .before .before .before .copy .ensures) (c .before .before .before .before .before .before .before .before .before .before .pre .1 .0) (search needs) (search needs))
