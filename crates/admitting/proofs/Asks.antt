@@ -7,7 +7,6 @@ use mathlib.Core.Bool.{Bool, true, false, cond, _&&_}
 use mathlib.Core.List.{List}
 use lib.Dec.{ltb, eqb}
 use lib.ListN.{getD, take}
-use lib.Ieee.{Float}
 use Rattle.numbers.specs.Finite.{finite}
 use Rattle.answers.specs.declared.Refusal.the-variants.{Length, Number, Setting}
 use Rattle.answers.specs.declared.Verdict.{Verdict}
@@ -31,14 +30,14 @@ use Rattle.asking.specs.Ranks.{leftHeld, Ranked}
 use Rattle.asking.specs.Rooms.{coreHeld, carryHeld, sumsHeld}
 use Rattle.asking.specs.Slices.{lentBy, madeFinite, heldFinite}
 use Rattle.asking.proofs.Bonded.{right-bond}
-use Rattle.kept.specs.Kept.{Summed, Kept, leftRank, rightRank, keptCore, keptCarry}
+use Rattle.kept.specs.Kept.{Inputs, Summed, Kept, leftRank, rightRank, keptCore, keptCarry}
 use Rattle.kept.specs.Checks.{loneFinite, loneOk, zoneFinite, keptFinite}
-use Rattle.admitting.specs.Asking.{zoneFound, foundNumbers}
+use Rattle.admitting.specs.Asking.{zoneFound, foundNumbers, madeNumbers}
 
 -- ---- the lone settings
-pub lone-found : (t : Settings) (figure : Float) (a b c e : Bool) → a ≡ finite (t .tau) → b ≡ finite (t .c) → c ≡ finite (t .eps) → e ≡ finite figure → (a && (b && c)) && e ≡ (loneFinite t && finite figure)
+pub lone-found : (t : Settings) (a b c : Bool) → a ≡ finite (t .tau) → b ≡ finite (t .c) → c ≡ finite (t .eps) → a && (b && c) ≡ loneFinite t
 unfolding loneFinite
-lone-found t figure a b c e p q r s = cc (p, q, r, s)
+lone-found t a b c p q r = cc (p, q, r)
 
 pub mild-found : (t : Settings) (a b : Bool) → a ≡ notBelowZero (t .tau) → b ≡ notBelowZero (t .eps) → a && b ≡ loneOk t
 unfolding loneOk
@@ -115,8 +114,14 @@ first-found k t n R e =
     (λ j l. ap (λ (b : Bool). madeFinite (k .inputs .shape) (k .inputs .axes) (k .inputs .source) (k .inputs .weights) j && b) (held-kept (k .inputs .shape) (k .stepped) t R j l (k .summed))) e
 
 -- 6 and 7 of it
-pub numbers-are : (k : Kept) (z : ℕ) (part axis : Bool) (v : Verdict) (lone mild : Bool) → lone ≡ (loneFinite (k .inputs .set) && finite (k .summed .figure)) → mild ≡ loneOk (k .inputs .set)
-    → v ≡ verdictOf (demand lone (Number 0) then demandEach Number (λ (j : ℕ). zoneFound k j && pick (eqb j z) part true) (k .inputs .shape .d) 0 then demand mild (Setting 0) then demandEach Setting (λ (j : ℕ). axisOk (axisAt (k .inputs .axes) j) && pick (eqb j z) axis true) (k .inputs .shape .d) 0)
+pub numbers-are : (k : Kept) (z : ℕ) (part axis : Bool) (v : Verdict) (lone figure mild : Bool) → lone ≡ loneFinite (k .inputs .set) → figure ≡ finite (k .summed .figure) → mild ≡ loneOk (k .inputs .set)
+    → v ≡ verdictOf (demand (lone && figure) (Number 0) then demandEach Number (λ (j : ℕ). zoneFound k j && pick (eqb j z) part true) (k .inputs .shape .d) 0 then demand mild (Setting 0) then demandEach Setting (λ (j : ℕ). axisOk (axisAt (k .inputs .axes) j) && pick (eqb j z) axis true) (k .inputs .shape .d) 0)
     → v ≡ verdictOf (foundNumbers k z part axis)
 unfolding foundNumbers
-numbers-are k z part axis v lone mild a b h = rw (← a, ← b) h
+numbers-are k z part axis v lone figure mild a f b h = rw (← a, ← f, ← b) h
+
+pub made-are : (i : Inputs) (v : Verdict) (lone mild : Bool) → lone ≡ loneFinite (i .set) → mild ≡ loneOk (i .set)
+    → v ≡ verdictOf (demand lone (Number 0) then demandEach Number (madeFinite (i .shape) (i .axes) (i .source) (i .weights)) (i .shape .d) 0 then demand mild (Setting 0) then demandEach Setting (λ (k : ℕ). axisOk (axisAt (i .axes) k)) (i .shape .d) 0)
+    → v ≡ verdictOf (madeNumbers i)
+unfolding madeNumbers zoneFinite madeFinite
+made-are i v lone mild a b h = rw (← a, ← b) h

@@ -126,7 +126,7 @@ module _ (R : Rules) (k : Kept) (z : ℕ) (ws : List Float) where
           go w (size-passes (numbersOk R k (newWeights z ws)) (Length 6) n (scratchFor (entriesOf (k .inputs .shape))) (4 * m + 2048) (ap (λ (x : ℕ). 4 * x + 2048) g) o w
           (y ∙ ap (λ (b : Bool). verdictOf (foundNumbers k z b true)) p ∙ ap verdictOf (sym weights-numbers)))
 
-four : (a b c e o : Check) → a then b then c then e then o ≡ (a then b then c then e) then o
+pub four : (a b c e o : Check) → a then b then c then e then o ≡ (a then b then c then e) then o
 four (refused r) b c e o = refl
 four (done t1) (refused r) c e o = refl
 four (done t1) (done t2) (refused r) e o = refl

@@ -1,4 +1,4 @@
--- What a replacement asks of the run that it finds, whatever its request is. Definitions for code only.
+-- What a replacement asks of the run that it finds, whatever its request is, and a fresh run of what it is made from. Definitions for code only.
 use Prim.Native.Nat.{ℕ}
 use mathlib.Core.Bool.{Bool, true, _&&_}
 use lib.Dec.{eqb}
@@ -11,7 +11,7 @@ use Rattle.shape.specs.Limits.{scratchFor}
 use Rattle.shape.specs.Shapes.{entriesOf}
 use Rattle.axes.specs.Axes.{axisOk}
 use Rattle.stepping.specs.Zones.{axisAt}
-use Rattle.kept.specs.Kept.{Kept}
+use Rattle.kept.specs.Kept.{Inputs, Kept, allCarries, allSums}
 use Rattle.kept.specs.Checks.{loneFinite, zoneFinite, keptFinite, loneOk}
 
 -- 6 of zone j, as it is found
@@ -29,3 +29,19 @@ foundNumbers k z part axis =
 -- 5 of scratch, which is slice j, by its length
 unfoldable pub scratchOf : Shape → ℕ → ℕ → Check
 scratchOf s j scratch = demand (eqb scratch (scratchFor (entriesOf s))) (Length j)
+
+-- 5 of the slices that a fresh run writes, by their lengths
+unfoldable pub roomOf : Shape → ℕ → ℕ → ℕ → ℕ → Check
+roomOf s chain carries sums scratch =
+    demand (eqb chain (entriesOf s)) (Length 2)
+    then demand (eqb carries (allCarries s)) (Length 3)
+    then demand (eqb sums (allSums s)) (Length 4)
+    then scratchOf s 5 scratch
+
+-- 6 and 7 of what a fresh run is made from
+unfoldable pub madeNumbers : Inputs → Check
+madeNumbers i =
+    demand (loneFinite (i .set)) (Number 0)
+    then demandEach Number (zoneFinite i) (i .shape .d) 0
+    then demand (loneOk (i .set)) (Setting 0)
+    then demandEach Setting (λ (k : ℕ). axisOk (axisAt (i .axes) k)) (i .shape .d) 0

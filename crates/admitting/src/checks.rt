@@ -1,93 +1,52 @@
-// What a replacement asks of the run that it finds: refusals 6 and 7 over every number in used room.
+// All that a fresh run and each replacement ask, in their order.
 ghost use mathlib.Core.Path.{_≡_};
-ghost use mathlib.Core.Bool.{_&&_};
-ghost use Prim.Native.Nat.{_<_};
-ghost use lib.ListN.{length};
-ghost use Rattle.answers.specs.Outcome.{verdictOf, done};
-ghost use Rattle.lists.specs.Lists.{firstNot};
-ghost use Rattle.numbers.specs.Finite.{finite};
-ghost use Rattle.shape.specs.Shapes.{shapeOk};
-ghost use Rattle.asking.specs.Ranks.{rankHeld};
-ghost use Rattle.asking.specs.Slices.{lentBy};
+ghost use Rattle.answers.specs.Outcome.{verdictOf};
 ghost use Rattle.kept.specs.Kept.{keptOf};
-ghost use Rattle.kept.specs.Checks.{loneFinite, loneOk};
+ghost use Rattle.kept.specs.Checks.{freshOk};
 ghost use Rattle.stepping.specs.Zones.{rules};
 ghost use Rattle.kept.specs.Requests.{newCore, newAxis, newWeights, replaceOk};
-ghost use Rattle.admitting.specs.Asking.{zoneFound, foundNumbers, scratchOf};
+ghost use Rattle.admitting.specs.Asking.{scratchOf, roomOf};
 
 // What scratch has beside four times the chain's numbers.
 const SCRATCH_BESIDE: usize = 2048;
 
-// The lone settings and the figure are finite.
-fn lone_finite(set: stepping::Settings, figure: f64) -> bool
-    ensures { λ r. ⌜ r ≡ (loneFinite set && finite figure) ⌝ }
-{
-    let tau = numbers::is_finite(set.tau);
-    let c = numbers::is_finite(set.c);
-    let eps = numbers::is_finite(set.eps);
-    let last = numbers::is_finite(figure);
-    tau & (c & eps) & last
-}
-
-// tau and eps are not below zero.
-fn lone_ok(set: stepping::Settings) -> bool
-    ensures { λ r. ⌜ r ≡ loneOk set ⌝ }
-{
-    let tau = rounding::checks::not_below_zero(set.tau);
-    let eps = rounding::checks::not_below_zero(set.eps);
-    tau & eps
-}
-
-// The first zone with a number that isn't finite, in what it is made from or in what is kept of it, or d.
-fn first_bad_number(
-    r: kept::Run,
+// All that a fresh run asks.
+pub fn fresh_ok(
+    s: shape::Shape,
+    xs: [axes::Axis; shape::MOST_AXES],
+    set: stepping::Settings,
     source: &[f64],
     weights: &[f64],
-    chain: &[f64],
-    carries: &[f64],
-    sums: &[f64],
-) -> usize
-    requires { ⌜ shapeOk (r .shape) (rankHeld (r .shape) (r .ranks)) ≡ done tt ⌝ }
-    requires { ⌜ lentBy (r .shape) (length (now source)) (length (now weights)) (length (now chain)) (length (now carries)) (length (now sums)) ≡ done tt ⌝ }
-    ensures { λ n. ⌜ n ≡ firstNot (zoneFound (keptOf r (now (source .entry)) (now (weights .entry)) (now (chain .entry)) (now (carries .entry)) (now (sums .entry)))) (r .shape .d) ⌝ }
-{
-    let s = r.shape;
-    let xs = r.axes;
-    let ranks = r.ranks;
-    let d = s.d;
-    let t = asking::ranks::kept_shape(s, ranks);
-    let made = asking::found::first_bad_made(s, xs, source, weights);
-    let held = asking::found::first_bad_held(s, t, chain, carries, sums);
-    asking::found::either(made, held, d)
-}
-
-// Refusals 6 and 7 of a run and a new part at zone z, which is finite or not, and an axis record not below zero or not.
-pub fn numbers_found(
-    r: kept::Run,
-    z: usize,
-    part: bool,
-    axis: bool,
-    source: &[f64],
-    weights: &[f64],
-    chain: &[f64],
-    carries: &[f64],
-    sums: &[f64],
+    chain: usize,
+    carries: usize,
+    sums: usize,
+    scratch: usize,
 ) -> answers::Verdict
-    requires { ⌜ (z < r .shape .d) × (shapeOk (r .shape) (rankHeld (r .shape) (r .ranks)) ≡ done tt) ⌝ }
-    requires { ⌜ lentBy (r .shape) (length (now source)) (length (now weights)) (length (now chain)) (length (now carries)) (length (now sums)) ≡ done tt ⌝ }
-    ensures { λ v. ⌜ v ≡ verdictOf (foundNumbers (keptOf r (now (source .entry)) (now (weights .entry)) (now (chain .entry)) (now (carries .entry)) (now (sums .entry))) z part axis) ⌝ }
+    ensures { λ v. ⌜ v ≡ verdictOf (freshOk rules (roomOf s chain carries sums scratch) (record { shape = s; axes = xs; set = set; source = now (source .entry); weights = now (weights .entry) })) ⌝ }
 {
-    let s = r.shape;
-    let xs = r.axes;
-    let set = r.set;
-    let d = s.d;
-    let first = first_bad_number(r, source, weights, chain, carries, sums);
-    let number = asking::found::with_part(first, part, z, d);
-    let below = stepping::checks::first_below_zero(d, xs);
-    let setting = asking::found::with_part(below, axis, z, d);
-    let lone = lone_finite(set, r.figure);
-    let mild = lone_ok(set);
-    asking::found::numbers_ok(lone, number, mild, setting, d)
+    let shaped = s.check();
+    if let answers::Verdict::Refused(q) = shaped {
+        return answers::Verdict::Refused(q);
+    }
+    let l = asking::found::Lengths {
+        source: source.len(),
+        weights: weights.len(),
+        chain,
+        carries,
+        sums,
+    };
+    let lent = asking::found::lent(s, l);
+    if let answers::Verdict::Refused(q) = lent {
+        return answers::Verdict::Refused(q);
+    }
+    if scratch != 4 * s.entries() + SCRATCH_BESIDE {
+        return answers::Verdict::Refused(answers::Refusal::Length(5));
+    }
+    let numbers = super::numeric::numbers_made(s, xs, set, source, weights);
+    if let answers::Verdict::Refused(q) = numbers {
+        return answers::Verdict::Refused(q);
+    }
+    asking::rooms::reaches_ok(0, set, s, xs)
 }
 
 // All that new weights ask.
@@ -124,7 +83,7 @@ pub fn weights_ok(
         return answers::Verdict::Refused(answers::Refusal::Length(6));
     }
     let finite = lists::all_finite(part);
-    numbers_found(r, z, finite, true, source, weights, chain, carries, sums)
+    super::numeric::numbers_found(r, z, finite, true, source, weights, chain, carries, sums)
 }
 
 // All that a new core asks.
@@ -161,7 +120,17 @@ pub fn core_ok(
         return answers::Verdict::Refused(answers::Refusal::Length(6));
     }
     let finite = lists::all_finite(part);
-    let numbers = numbers_found(r, z, finite, true, source, weights, chain, carries, sums);
+    let numbers = super::numeric::numbers_found(
+        r,
+        z,
+        finite,
+        true,
+        source,
+        weights,
+        chain,
+        carries,
+        sums,
+    );
     if let answers::Verdict::Refused(q) = numbers {
         return answers::Verdict::Refused(q);
     }
@@ -202,7 +171,17 @@ pub fn axis_ok(
     }
     let finite = axes::axis_finite(a);
     let mild = axes::axis_ok(a);
-    let numbers = numbers_found(r, z, finite, mild, source, weights, chain, carries, sums);
+    let numbers = super::numeric::numbers_found(
+        r,
+        z,
+        finite,
+        mild,
+        source,
+        weights,
+        chain,
+        carries,
+        sums,
+    );
     if let answers::Verdict::Refused(q) = numbers {
         return answers::Verdict::Refused(q);
     }

@@ -1,4 +1,4 @@
--- `runs::checks::weights_ok` meets its contract. Assumes nothing.
+-- `admitting::checks::weights_ok` meets its contract. Assumes nothing.
 use borrow.Author.Needs.{needs}
 use Rattle.shape.proofs.Shaped.{shaped}
 use Rattle.kept.specs.Kept.{keptOf}

@@ -1,8 +1,8 @@
--- `runs::checks::lone_ok` meets its contract. Assumes nothing.
+-- `admitting::numeric::lone_ok` meets its contract. Assumes nothing.
 use borrow.Author.Needs.{needs}
 use Rattle.admitting.proofs.Asks.{mild-found}
-use Rattle.admitting.proofs.checks.lone_ok.Statement.{statement}
-use Rattle.admitting.proofs.checks.lone_ok.Tie as tie
+use Rattle.admitting.proofs.numeric.lone_ok.Statement.{statement}
+use Rattle.admitting.proofs.numeric.lone_ok.Tie as tie
 
 ruleset ways = (needs, mild-found)
 

@@ -1,11 +1,11 @@
--- `runs::checks::first_bad_number` meets its contract. Assumes nothing.
+-- `admitting::numeric::first_bad_number` meets its contract. Assumes nothing.
 use borrow.Author.Needs.{needs}
 use Rattle.admitting.proofs.Asks.{lent-says, first-found}
 use Rattle.asking.proofs.Bonded.{ranked-inside}
 use Rattle.shape.proofs.Shaped.{shaped}
 use Rattle.kept.specs.Kept.{keptOf}
-use Rattle.admitting.proofs.checks.first_bad_number.Statement.{statement}
-use Rattle.admitting.proofs.checks.first_bad_number.Tie as tie
+use Rattle.admitting.proofs.numeric.first_bad_number.Statement.{statement}
+use Rattle.admitting.proofs.numeric.first_bad_number.Tie as tie
 
 kept-shape-requires : tie.Need-kept-shape-requires
 kept-shape-requires c κs = shaped _ _ (c .before .before .before .before .before .before .before .before .pre .0) .most

@@ -1,14 +1,13 @@
--- `runs::checks::lone_finite` meets its contract. Assumes nothing.
+-- `admitting::numeric::lone_finite` meets its contract. Assumes nothing.
 use borrow.Author.Needs.{needs}
 use Rattle.admitting.proofs.Asks.{lone-found}
-use Rattle.admitting.proofs.checks.lone_finite.Statement.{statement}
-use Rattle.admitting.proofs.checks.lone_finite.Tie as tie
+use Rattle.admitting.proofs.numeric.lone_finite.Statement.{statement}
+use Rattle.admitting.proofs.numeric.lone_finite.Tie as tie
 
 ruleset ways = (needs, lone-found)
 
 pub lone-finite-spec : {M : Type 1} → statement M
 lone-finite-spec = tie.close (tie.spec
-    (λ c κs. search ways)
     (λ c κs. search ways)
     (λ c κs. search ways)
     (λ c κs. search ways)

@@ -1,0 +1,4 @@
+-- for the code
+pub mod Copied
+-- slots
+pub mod Committed
