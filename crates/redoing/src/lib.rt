@@ -9,11 +9,6 @@ ghost use Rattle.stepping.specs.Zones.{rules};
 ghost use Rattle.kept.specs.Work.{restep, workFrom};
 ghost use Rattle.redoing.specs.InPlace.{inPlace, heldIn, RanksWithin, Steps, Sums};
 
-// The most numbers that one core has, and that one of its blocks has twice.
-const ROOM: usize = 4096;
-
-const BLOCK: usize = 1024;
-
 // The step from zone z on, of the sources in the work, from the carry that is held left of z.
 fn step_again(
     z: usize,
@@ -27,8 +22,8 @@ fn step_again(
     ensures { λ r. ⌜ ((weights : List Float) → restep rules (inPlace (w .shape) xs set (now (work .entry)) weights) (heldBy w (now (work .entry)) (now (carries .entry))) z ≡ answered (r .verdict) (heldBy r (now (work .exit)) (now (carries .exit)))) × (r .verdict ≡ Fits → RanksWithin (w .shape) (r .ranks) (w .shape .d)) ⌝ }
 {
     let s = w.shape;
-    let mut room = [0.0; ROOM];
-    let mut block = [0.0; BLOCK];
+    let mut room = [0.0; rounding::MOST_CORE];
+    let mut block = [0.0; striding::MOST_BLOCK];
     striding::step_from(z, s, w, set, xs, work, carries, &mut room, &mut block)
 }
 

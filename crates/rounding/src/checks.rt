@@ -8,7 +8,7 @@ ghost use Rattle.shape.specs.Sizes.{SizesWithin};
 ghost use Rattle.rounding.specs.Call.{lengthsOk, notBelowZero, roundFinite, roundOk};
 
 // What scratch has beside four times the chain's numbers.
-const SCRATCH_BESIDE: usize = 2048;
+pub const SCRATCH_BESIDE: usize = 2048;
 
 // Refusal 5: the chain is slice i, scratch slice j.
 pub fn lengths_ok(

@@ -15,12 +15,8 @@ ghost use Rattle.stepping.specs.Over.{axisReaches, Stands, Rooms};
 ghost use Rattle.rounding.specs.Slots.{unrounded};
 ghost use Rattle.striding.specs.Held.{stepHeld, Came, Placed, Ready};
 
-// The most numbers that all carries of a chain have, that one core has, and that one of its blocks has twice.
-const CARRIES: usize = 1024;
-
-const ROOM: usize = 4096;
-
-const BLOCK: usize = 1024;
+// The most numbers that one block of a core has twice.
+pub const MOST_BLOCK: usize = 2 * (shape::MOST_POINTS * shape::MOST_RANK);
 
 fn refused_walk(q: answers::Refusal, t: shape::Shape) -> walking::Walked
     ensures { λ r. ⌜ r .verdict ≡ Refused q ⌝ }
@@ -130,9 +126,9 @@ pub fn stepped(
     requires { ⌜ (length (now chain) ≡ entriesOf s) × (entriesOf s ≤ length (now scratch)) ⌝ }
     ensures { λ r. ⌜ Came (stepsAndOne m set xs (coresOf s (now (chain .entry)))) s s (r .verdict) (r .shape) (r .sweeps) (r .settled) (now (scratch .exit)) ⌝ }
 {
-    let mut carries = [0.0; CARRIES];
-    let mut room = [0.0; ROOM];
-    let mut block = [0.0; BLOCK];
+    let mut carries = [0.0; rounding::MOST_CARRIES];
+    let mut room = [0.0; rounding::MOST_CORE];
+    let mut block = [0.0; MOST_BLOCK];
     let entries = chain.len();
     lists::copy(chain, &mut scratch[0..entries]);
     steps_in(m, s, set, xs, scratch, &mut carries, &mut room, &mut block)
