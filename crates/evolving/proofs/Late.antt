@@ -28,14 +28,14 @@ use Rattle.stepping.specs.Steps.{holding, shiftZone, scaleZone, roundZone, step
 abbrev pub Late : {A : Type 0} → Answer A → Type 0
 Late o = (q : Refusal) → o ≡ refused q → beforeWork q ≡ false
 
-late-done : {A : Type 0} (a : A) → Late (done a)
+pub late-done : {A : Type 0} (a : A) → Late (done a)
 late-done a q e = absurd (done-refused e)
 
-late-making : {A : Type 0} (p : Part) (k : ℕ) (m : Made A) → Late (making p k m)
+pub late-making : {A : Type 0} (p : Part) (k : ℕ) (m : Made A) → Late (making p k m)
 late-making p k (done a) q e = absurd (done-refused e)
 late-making p k (refused i) q e = ap beforeWork (sym (refused-inj e))
 
-late-bind : {A B : Type 0} (o : Answer A) (f : A → Answer B) → Late o → ((a : A) → Late (f a)) → Late (bind o f)
+pub late-bind : {A B : Type 0} (o : Answer A) (f : A → Answer B) → Late o → ((a : A) → Late (f a)) → Late (bind o f)
 late-bind (done a) f h g = g a
 late-bind (refused r) f h g = λ q e. ap beforeWork (sym (refused-inj e)) ∙ h r refl
 
