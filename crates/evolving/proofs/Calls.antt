@@ -31,7 +31,7 @@ use Rattle.stepping.specs.Over.{settingsOk, overOk, stepOver, evolveOver}
 use Rattle.striding.specs.Held.{Came}
 use Rattle.evolving.specs.Held.{Finished, Answers}
 use Rattle.striding.proofs.Asked.{not-fits}
-use Rattle.evolving.proofs.Late.{late-steps}
+use Rattle.striding.proofs.Late.{late-steps}
 use Rattle.evolving.proofs.Ends.{finished-is, over-stops, over-goes, over-passed}
 
 pub came-inside : (T : Answer (List (Carry × Cut))) (s t : Shape) (v : Verdict) (u : Shape) (sweeps : List ℕ) (settled : List Bool) (w : List Float) → Came T s t v u sweeps settled w → v ≡ Fits → Inside s u

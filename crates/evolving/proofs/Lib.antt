@@ -1,3 +1,2 @@
-pub mod Late
 pub mod Ends
 pub mod Calls

@@ -2,8 +2,8 @@
 use mathlib.Core.Path.{_≡_}
 use Prim.Native.Nat.{ℕ, suc, _-_, _≤_, _<_}
 use mathlib.Core.Bool.{true}
-use mathlib.Core.List.{List}
-use lib.ListN.{length, getD}
+use mathlib.Core.List.{List, _++_}
+use lib.ListN.{length, take, drop, getD}
 use lib.Ieee.{Float}
 use Rattle.answers.specs.declared.Verdict.the-variants.{Fits}
 use Rattle.answers.specs.Outcome.{done}
@@ -13,6 +13,7 @@ use Rattle.shape.specs.declared.Shape.{Shape}
 use Rattle.shape.specs.Shapes.{rightOf, chainOk, entriesOf, allPoints}
 use Rattle.axes.specs.declared.Axis.{Axis}
 use Rattle.walking.specs.declared.Walked.{Walked}
+use Rattle.walking.specs.Keeping.{Stepped}
 use Rattle.walking.specs.Slots.{heldBy}
 use Rattle.summing.specs.Sums.{sumSize}
 use Rattle.stepping.specs.declared.Settings.{Settings}
@@ -49,3 +50,15 @@ pub record Steps (z : ℕ) (w : Walked) (set : Settings) (xs : List Axis) (work 
 pub record Sums (s : Shape) (weights sums : List Float) : Type 0 where
   pub points : allPoints s ≤ length weights
   pub summed : allSums s ≤ length sums
+
+-- ---- what is committed
+-- l with what w holds from place `at` on
+abbrev pub over : ℕ → List Float → List Float → List Float
+over at l w = take at l ++ drop at (take (length l) w)
+
+-- what a run kept, with what the work t left of each zone from one on: its core stands at a, its carry at b; its sums at c
+abbrev pub steppedOver : ℕ → ℕ → Stepped → Stepped → Stepped
+steppedOver a b h t = record { ranks = t .ranks; sweeps = t .sweeps; settled = t .settled; chain = over a (h .chain) (t .chain); carries = over b (h .carries) (t .carries) }
+
+abbrev pub summedOver : Shape → ℕ → List Float → List Float → Summed
+summedOver s c sums sums' = record { sums = over c sums sums'; figure = at sums' (offset (sumSize s) (s .d - 1)) }

@@ -29,7 +29,7 @@ use Rattle.rounding.specs.Call.{scratchAfter}
 use Rattle.summing.specs.Sums.{sumSize, sumsLeft, weighedIn, sumsFrom}
 use Rattle.stepping.specs.Zones.{rules}
 use Rattle.asking.specs.Ranks.{rankHeld, Ranked}
-use Rattle.evolving.proofs.Late.{Late, late-done, late-making, late-bind}
+use Rattle.striding.proofs.Late.{Late, late-done, late-making, late-bind}
 use Rattle.kept.specs.declared.Run.{Run}
 use Rattle.kept.specs.declared.Ran.{Ran}
 use Rattle.kept.specs.Kept.{Inputs, Summed, Kept, running, keptOf}

@@ -4,3 +4,4 @@ pub mod Steps
 pub mod Evolves
 pub mod Asked
 pub mod Taken
+pub mod Late
