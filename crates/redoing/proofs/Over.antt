@@ -32,7 +32,7 @@ use Rattle.stepping.proofs.Restart.{step-length}
 use Rattle.committing.proofs.Committed.{committed-from}
 use Rattle.kept.specs.Kept.{Inputs, Summed, Kept, running, allCarries, allSums, zoneAt, zonesFrom, leftRank, rightRank, keptCore, carryAt, sumsAt, weighedAt, weighedFrom}
 use Rattle.kept.specs.Work.{keepSums, sumZone, restep, resum, sumFrom, workFrom}
-use Rattle.redoing.specs.InPlace.{inPlace, summedIn, over, steppedOver, summedOver}
+use Rattle.redoing.specs.InPlace.{inPlace, summedIn, Beside, Memory, over, steppedOver, summedOver}
 
 abbrev Traces : Type 0
 Traces = List (Carry × Cut) × List (List Float × Unit {0})
@@ -73,22 +73,6 @@ run-same : {i : Inputs} {a a' b b' : List ℕ} {c c' : List Bool} {d d' e e' f f
 run-same p q r s t u v = cc
 
 -- ---- the run that a call works for, and the memory that it works in
--- slots left of zone z: the one beside it
-abbrev pub Beside : (ℕ → ℕ) → ℕ → List Float → List Float → Type 0
-Beside size zero l l' = Unit {0}
-Beside size (suc k) l l' = slot size k l' ≡ slot size k l
-
-pub record Memory (i : Inputs) (h : Stepped) (u : Summed) (z : ℕ) (work carries sums : List Float) : Type 0 where
-  pub sources : (k : ℕ) → z ≤ k → k < i .shape .d → slot (coreSize (i .shape)) k work ≡ slot (coreSize (i .shape)) k (i .source)
-  pub carry : Beside (carrySize (i .shape)) z (h .carries) carries
-  pub sum : Beside (sumSize (i .shape)) z (u .sums) sums
-  pub cores : entriesOf (i .shape) ≤ length work
-  pub carried : allCarries (i .shape) ≤ length carries
-  pub summed : allSums (i .shape) ≤ length sums
-  pub chain-long : length (h .chain) ≡ entriesOf (i .shape)
-  pub carries-long : length (h .carries) ≡ allCarries (i .shape)
-  pub sums-long : length (u .sums) ≡ allSums (i .shape)
-
 module _ (i : Inputs) (shp : Shaped (i .shape)) (h : Stepped) (u : Summed) (z : ℕ) (inside : z < i .shape .d) (work carries sums : List Float) (M : Memory i h u z work carries sums) where
   abbrev s : Shape
   s = i .shape

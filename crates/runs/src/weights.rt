@@ -68,10 +68,10 @@ fn commit(
     ensures { λ f. ⌜ (now (weights .exit) ≡ put (pointSize s) z (now (part .entry)) (now (weights .entry))) × (now (sums .exit) ≡ take (offset (sumSize s) z) (now (sums .entry)) ++ drop (offset (sumSize s) z) (take (length (now (sums .entry))) (now (held .entry)))) × (f ≡ at (now (sums .exit)) (offset (sumSize s) (s .d - 1))) ⌝ }
 {
     let point = s.points_offset(z);
-    committing::put_at(point, part, weights);
     let from = summing::sum_offset(s, z);
-    committing::copy_from(from, held, sums);
     let last = summing::sum_offset(s, s.d - 1);
+    committing::put_at(point, part, weights);
+    committing::copy_from(from, held, sums);
     sums[last]
 }
 
