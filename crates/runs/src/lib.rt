@@ -1,19 +1,6 @@
 // A kept run: the fresh one, and the replacement of one zone's core, weights or axis record.
 ghost use mathlib.Core.Path.{_≡_};
-ghost use Rattle.answers.specs.declared.Verdict.the-variants.{Refused};
 ghost use Rattle.kept.specs.Call.{replaceWeightsCall};
-
-mod weights;
-
-// A refusal leaves the run as it was.
-fn refused(q: answers::Refusal, r: kept::Run) -> kept::Ran
-    ensures { λ a. ⌜ a ≡ record { verdict = Refused q; run = r } ⌝ }
-{
-    kept::Ran {
-        verdict: answers::Verdict::Refused(q),
-        run: r,
-    }
-}
 
 // New weights for zone z: the sums from z on and the figure are made anew, and nothing is rounded.
 pub fn replace_weights(
@@ -41,9 +28,9 @@ pub fn replace_weights(
         scratch.len(),
     );
     if let answers::Verdict::Refused(q) = ok {
-        return refused(q, r);
+        return admitting::refused(q, r);
     }
-    let ran = weights::resummed(r, z, weights, chain, sums, part);
+    let ran = reweighing::resummed(r, z, weights, chain, sums, part);
     lists::fill(scratch, 0.0);
     ran
 }

@@ -4,7 +4,7 @@ use mathlib.Core.Path.{refl}
 use Rattle.kept.specs.Kept.{keptOf}
 use Rattle.kept.specs.Requests.{newWeights}
 use Rattle.runs.proofs.Replaced.{replace-stops}
-use Rattle.runs.proofs.Resummed.{weights-lent, weights-worked}
+use Rattle.runs.proofs.Reweighed.{weights-lent, weights-worked}
 use Rattle.runs.proofs.replace_weights.Statement.{statement}
 use Rattle.runs.proofs.replace_weights.Tie as tie
 

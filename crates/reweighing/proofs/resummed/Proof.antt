@@ -1,14 +1,14 @@
--- `runs::weights::resummed` meets its contract. Assumes nothing.
+-- `reweighing::resummed` meets its contract. Assumes nothing.
 use borrow.Author.Needs.{needs}
 use mathlib.Core.Path.{sym}
 use native.Mathlib.Nat.{le-of-eq}
 use native.Mathlib.Omega.{arith}
 use Rattle.shape.proofs.Shaped.{shaped}
 use Rattle.asking.proofs.Bonded.{ranked-inside}
-use Rattle.runs.proofs.Placed.{sums-fit}
-use Rattle.runs.proofs.Resummed.{resum-stops, resum-ends}
-use Rattle.runs.proofs.weights.resummed.Statement.{statement}
-use Rattle.runs.proofs.weights.resummed.Tie as tie
+use Rattle.reweighing.proofs.Placed.{sums-fit}
+use Rattle.reweighing.proofs.Ended.{resum-stops, resum-ends}
+use Rattle.reweighing.proofs.resummed.Statement.{statement}
+use Rattle.reweighing.proofs.resummed.Tie as tie
 
 kept-shape-requires : tie.Need-kept-shape-requires
 kept-shape-requires c κs = let i = c .before .before .before .before .before .before in shaped _ _ (i .pre .0) .most

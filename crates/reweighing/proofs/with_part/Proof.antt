@@ -1,9 +1,9 @@
--- `runs::weights::with_part` meets its contract. Assumes nothing.
+-- `reweighing::with_part` meets its contract. Assumes nothing.
 use borrow.Author.Needs.{needs}
 use native.Mathlib.Omega.{arith}
-use Rattle.runs.proofs.Placed.{part-ends, front-in}
-use Rattle.runs.proofs.weights.with_part.Statement.{statement}
-use Rattle.runs.proofs.weights.with_part.Tie as tie
+use Rattle.reweighing.proofs.Placed.{part-ends, front-in}
+use Rattle.reweighing.proofs.with_part.Statement.{statement}
+use Rattle.reweighing.proofs.with_part.Tie as tie
 
 put-at-requires-2 : tie.Need-put-at-requires-2
 put-at-requires-2 c κs = let i = c .before .before .before .before .before .before .before .before .before in omega (arith, part-ends (i .args .s) (i .args .z) (i .args .part .now) (i .args .weights .now) (i .pre .1 .0) (i .pre .1 .1) (i .pre .1 .2) _ (c .before .points-offset .ensures), i .pre .1 .3, c .before .before .before .before .put-at .kept)

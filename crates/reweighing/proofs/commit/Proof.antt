@@ -1,4 +1,4 @@
--- `runs::weights::commit` meets its contract. Assumes nothing.
+-- `reweighing::commit` meets its contract. Assumes nothing.
 use borrow.Author.Needs.{needs}
 use native.Mathlib.Omega.{arith}
 use mathlib.Core.Path.{ap, _∙_}
@@ -8,9 +8,9 @@ use lib.ListN.{length, take, drop}
 use Rattle.lists.specs.Floats.{at}
 use Rattle.summing.specs.Sums.{sumSize}
 use Rattle.lists.proofs.Slots.{offset-mono}
-use Rattle.runs.proofs.Placed.{part-ends, part-in, figure-fits, figure-in}
-use Rattle.runs.proofs.weights.commit.Statement.{statement}
-use Rattle.runs.proofs.weights.commit.Tie as tie
+use Rattle.reweighing.proofs.Placed.{part-ends, part-in, figure-fits, figure-in}
+use Rattle.reweighing.proofs.commit.Statement.{statement}
+use Rattle.reweighing.proofs.commit.Tie as tie
 
 put-at-requires : tie.Need-put-at-requires
 put-at-requires c κs = let i = c .before .before .before .before .before .before .before .before .before in part-ends (i .args .s) (i .args .z) (i .args .part .now) (i .args .weights .now) (i .pre .1 .0) (i .pre .1 .1) (i .pre .1 .2) _ (c .before .before .before .before .points-offset .ensures)

@@ -12,7 +12,7 @@ ghost use Rattle.shape.specs.Shapes.{shapeOk, pointSize, entriesOf, allPoints};
 ghost use Rattle.shape.specs.Sizes.{PointsWithin, SizesWithin, Inside};
 ghost use Rattle.summing.specs.Sums.{sumSize, sumsFrom};
 ghost use Rattle.asking.specs.Ranks.{rankHeld};
-ghost use Rattle.runs.specs.Weights.{Lent, weightsEnd};
+ghost use Rattle.reweighing.specs.Weights.{Lent, weightsEnd};
 
 // The most numbers that the weights of a run have, and its sums.
 const WEIGHTS: usize = shape::MOST_AXES * shape::MOST_POINTS;
@@ -104,7 +104,7 @@ pub fn resummed(
     let mut held = [0.0; SUMS];
     let made = sums_anew(z, s, t, chain, weights, part, sums, &mut held);
     if let answers::Verdict::Refused(q) = made {
-        return super::refused(q, r);
+        return admitting::refused(q, r);
     }
     let figure = commit(s, z, part, &held, weights, sums);
     fitted(r, figure)

@@ -1,10 +1,10 @@
--- `runs::weights::sums_anew` meets its contract. Assumes nothing.
+-- `reweighing::sums_anew` meets its contract. Assumes nothing.
 use borrow.Author.Needs.{needs}
 use native.Mathlib.Omega.{arith}
 use Rattle.shape.proofs.Offsets.{all-points-most}
-use Rattle.runs.proofs.Placed.{stands, summed-front}
-use Rattle.runs.proofs.weights.sums_anew.Statement.{statement}
-use Rattle.runs.proofs.weights.sums_anew.Tie as tie
+use Rattle.reweighing.proofs.Placed.{stands, summed-front}
+use Rattle.reweighing.proofs.sums_anew.Statement.{statement}
+use Rattle.reweighing.proofs.sums_anew.Tie as tie
 
 with-part-requires : tie.Need-with-part-requires
 with-part-requires c κs = let i = c .before .before .before .before .before .before in (i .pre .0 .0 .axes, (i .pre .1 .0 .0, i .pre .1 .0 .1, i .pre .1 .0 .2, omega (arith, i .pre .1 .0 .2, all-points-most _ (i .pre .0 .0 .axes))))

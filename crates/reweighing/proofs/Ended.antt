@@ -1,49 +1,41 @@
 -- The end of new weights by what the sums from their zone on came to. Assumes nothing.
-use mathlib.Core.Path.{_≡_, refl, sym, ap, _∙_}
+use mathlib.Core.Path.{_≡_, sym, ap, _∙_}
 use Prim.Native.Nat.{ℕ, suc, _-_, _≤_, _<_}
 use native.Mathlib.Omega.{arith}
 use mathlib.Core.Bool.{Bool}
 use mathlib.Core.List.{List, [], _∷_, _++_, map}
-use lib.ListN.{length, take, drop, replicate, take-append-drop}
+use lib.ListN.{length, take, drop, take-append-drop}
 use lib.Ieee.{Float}
 use Rattle.numbers.specs.Arithmetic.{zero64}
 use Rattle.answers.specs.declared.Part.the-variants.{Sum}
 use Rattle.answers.specs.declared.Refusal.{Refusal}
 use Rattle.answers.specs.declared.Verdict.{Verdict}
 use Rattle.answers.specs.declared.Verdict.the-variants.{Fits, Refused}
-use Rattle.answers.specs.Outcome.{Answer, done, refused, bind, Check, _then_, answered, verdictOf}
-use Rattle.answers.proofs.Checks.{verdict-passed}
+use Rattle.answers.specs.Outcome.{Answer, done, refused, bind, answered}
 use Rattle.answers.proofs.Outcomes.{bind-assoc, bind-done, done-inj}
 use Rattle.lists.specs.Lists.{pick, listed}
 use Rattle.lists.specs.Slots.{offset, put}
 use Rattle.lists.specs.Walks.{walk}
 use Rattle.lists.specs.Floats.{at, zeros, stored}
-use Rattle.lists.proofs.Tests.{eqb-is}
 use Rattle.lists.proofs.Slots.{offset-mono, write-before}
 use Rattle.shape.specs.declared.Shape.{Shape}
-use Rattle.shape.specs.Shapes.{shapeOk, leftOf, pointSize}
+use Rattle.shape.specs.Shapes.{leftOf, pointSize}
 use Rattle.shape.specs.Cores.{Core}
 use Rattle.contraction.specs.Contract.{contract}
 use Rattle.product.specs.Product.{contractAt, sumAxis}
 use Rattle.rounding.specs.Call.{scratchAfter}
 use Rattle.summing.specs.Sums.{sumSize, sumsLeft, weighedIn, sumsFrom}
 use Rattle.stepping.specs.Zones.{rules}
-use Rattle.asking.specs.Ranks.{rankHeld, Ranked}
+use Rattle.asking.specs.Ranks.{Ranked}
 use Rattle.striding.proofs.Late.{Late, late-done, late-making, late-bind}
 use Rattle.kept.specs.declared.Run.{Run}
 use Rattle.kept.specs.declared.Ran.{Ran}
-use Rattle.kept.specs.Kept.{Inputs, Summed, Kept, running, keptOf}
-use Rattle.kept.specs.Work.{resum, sumFrom}
-use Rattle.kept.specs.Checks.{rankOk, scratchLent}
-use Rattle.kept.specs.Requests.{newWeights, present, replaceOk, replace}
-use Rattle.kept.specs.Call.{ReplaceEnd, replaceEnd, replaceBy, replaceWeightsCall}
-use Rattle.kept.proofs.Trace.{lent-is}
-use Rattle.kept.proofs.Accepted.{checks-say}
-use Rattle.kept.proofs.Untouched.{slices-are}
-use Rattle.admitting.specs.Asking.{scratchOf}
+use Rattle.kept.specs.Kept.{Summed, Kept, running, keptOf}
+use Rattle.kept.specs.Work.{sumFrom}
+use Rattle.kept.specs.Requests.{newWeights, present}
+use Rattle.kept.specs.Call.{ReplaceEnd, replaceEnd}
 use Rattle.admitting.proofs.Resums.{resum-is}
-use Rattle.runs.specs.Weights.{Lent, weightsEnd}
-use Rattle.runs.proofs.Replaced.{replace-goes}
+use Rattle.reweighing.specs.Weights.{weightsEnd}
 
 -- ---- sums are refused with 9 alone
 late-walk : {S X Y : Type 0} (f : ℕ → S → X → Answer (S × Y)) → ((k : ℕ) (s : S) (x : X) → Late (f k s x)) → (k : ℕ) (s : S) (xs : List X) → Late (walk f k s xs)
@@ -120,42 +112,3 @@ module _ (r : Run) (z : ℕ) (weights chain sums part : List Float) (t : Shape) 
       let n = offset (sumSize (r .shape)) z in
       let b : y ≡ p = i ∙ ap (λ (u : List Float). u ++ drop n p) (sym (sums-before (r .shape) t chain (put (pointSize (r .shape)) z part weights) z sums p o (omega arith) held)) ∙ take-append-drop n p in
       rw (l, j, g, b) (sym (opened ∙ ap (λ (w : Verdict). replaceEnd before scratch (bind (answered w p) (λ l. done (running (anew .inputs) (anew .stepped) (summedAs (r .shape) l))))) h))
-
--- ---- the call
-module _ (r : Run) (z : ℕ) (source weights chain carries sums part scratch : List Float) (v : Verdict)
-    (e : v ≡ verdictOf (replaceOk rules (scratchOf (r .shape) 6 (length scratch)) (keptOf r source weights chain carries sums) (newWeights z part))) (h : v ≡ Fits) where
-  -- what the checks let the work ask
-  pub weights-lent : (shapeOk (r .shape) (rankHeld (r .shape) (r .ranks)) ≡ done tt) × Lent (r .shape) z part weights chain sums
-  unfolding rankOk rankHeld
-  weights-lent =
-      let k = keptOf r source weights chain carries sums in
-      let A = checks-say rules (scratchOf (r .shape) 6 (length scratch)) k (newWeights z part) (verdict-passed _ v e h) in
-      let S = slices-are (r .shape) chain carries sums (A .slices) in
-      (A .shape, record { zone = A .order .inside; part-long = eqb-is (length part) (pointSize (r .shape) z) (A .order .fits); weights-long = lent-is (k .inputs) (A .inputs) .weights; chain-long = S .chain-long; sums-long = S .sums-long })
-
-  -- u is scratch at the end
-  pub weights-worked : (a : Ran) (x y u : List Float) (n : ℕ) → record { result = a; source = source; weights = x; chain = chain; carries = carries; sums = y; scratch = zeros (length scratch) } ≡ weightsEnd r z source weights chain carries sums part scratch
-      → u ≡ replicate n zero64 → n ≡ length scratch
-      → record { result = a; source = source; weights = x; chain = chain; carries = carries; sums = y; scratch = u } ≡ replaceWeightsCall r z source weights chain carries sums part scratch
-  unfolding weightsEnd
-  weights-worked a x y u n f g i =
-      ap (λ (l : List Float). record { result = a; source = source; weights = x; chain = chain; carries = carries; sums = y; scratch = l }) (g ∙ ap zeros i)
-      ∙ f
-      ∙ replace-goes (keptOf r source weights chain carries sums) (newWeights z part) scratch v e h
-
--- ---- whatever it is lent, source, chain and carries are as they were
-pub weights-leave : (r : Run) (z : ℕ) (source weights chain carries sums part scratch : List Float) → let e = replaceWeightsCall r z source weights chain carries sums part scratch in (e .source ≡ source) × (e .chain ≡ chain) × (e .carries ≡ carries)
-unfolding replaceBy replace replaceEnd sumFrom
-weights-leave r z source weights chain carries sums part scratch =
-    go (replaceOk rules (scratchLent (r .shape) 6 scratch) k (newWeights z part)) (resum rules i (k .stepped) (k .summed) z)
-  where
-    k : Kept
-    k = keptOf r source weights chain carries sums
-
-    i : Inputs
-    i = present (k .inputs) (newWeights z part)
-
-    go : (c : Check) (m : Answer Summed) → let e = replaceEnd k scratch (c then bind m (λ u. done (running i (k .stepped) u))) in (e .source ≡ source) × (e .chain ≡ chain) × (e .carries ≡ carries)
-    go (refused q) m = (refl, refl, refl)
-    go (done tt) (refused q) = (refl, refl, refl)
-    go (done tt) (done u) = (refl, refl, refl)

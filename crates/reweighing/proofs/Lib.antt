@@ -1,0 +1,3 @@
+-- what goes where, and the end
+pub mod Placed
+pub mod Ended
