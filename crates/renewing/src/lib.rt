@@ -3,19 +3,51 @@ ghost use mathlib.Core.Path.{_≡_};
 ghost use Prim.Native.Nat.{_-_, _≤_, _<_};
 ghost use lib.ListN.{length};
 ghost use Rattle.answers.specs.declared.Verdict.the-variants.{Fits, Refused};
-ghost use Rattle.lists.specs.Slots.{offset};
+ghost use Rattle.lists.specs.Slots.{offset, put};
 ghost use Rattle.lists.specs.Floats.{at, zeros};
 ghost use Rattle.shape.specs.Shapes.{coreSize, entriesOf};
 ghost use Rattle.shape.specs.Sizes.{SizesWithin};
 ghost use Rattle.walking.specs.Keeping.{carrySize};
 ghost use Rattle.summing.specs.Sums.{sumSize};
 ghost use Rattle.redoing.specs.InPlace.{Beside, over};
-ghost use Rattle.renewing.specs.Renewed.{Asked, Renewed, walkedOf, runWith};
+ghost use Rattle.renewing.specs.Renewed.{SourcesFrom, Asked, Renewed, walkedOf, runWith};
 
 // The most numbers that all carries of a run have, and all its sums.
 const CARRIES: usize = 1024;
 
 const SUMS: usize = 128;
+
+// The sources of the zones from z on, where they stand.
+pub fn take_sources(z: usize, s: shape::Shape, source: &[f64], work: &mut [f64])
+    requires { ⌜ SizesWithin s ⌝ }
+    requires { ⌜ (z ≤ s .d) × (length (now source) ≡ entriesOf s) × (length (now source) ≤ length (now work)) ⌝ }
+    ensures { λ _. ⌜ SourcesFrom s z (now (source .entry)) (now (work .exit)) ⌝ }
+{
+    let at = s.offset(z);
+    let end = source.len();
+    committing::put_at(at, &source[at..end], work);
+}
+
+// The same, with a new core for zone z.
+pub fn take_core(z: usize, s: shape::Shape, source: &[f64], part: &[f64], work: &mut [f64])
+    requires { ⌜ SizesWithin s ⌝ }
+    requires { ⌜ (z < s .d) × (length (now source) ≡ entriesOf s) × (length (now part) ≡ coreSize s z) × (length (now source) ≤ length (now work)) ⌝ }
+    ensures { λ _. ⌜ SourcesFrom s z (put (coreSize s) z (now (part .entry)) (now (source .entry))) (now (work .exit)) ⌝ }
+{
+    take_sources(z + 1, s, source, work);
+    let at = s.offset(z);
+    committing::put_at(at, part, work);
+}
+
+// A new core goes into the source.
+pub fn put_core(z: usize, s: shape::Shape, part: &[f64], source: &mut [f64])
+    requires { ⌜ SizesWithin s ⌝ }
+    requires { ⌜ (z < s .d) × (length (now source) ≡ entriesOf s) × (length (now part) ≡ coreSize s z) ⌝ }
+    ensures { λ _. ⌜ now (source .exit) ≡ put (coreSize s) z (now (part .entry)) (now (source .entry)) ⌝ }
+{
+    let at = s.offset(z);
+    committing::put_at(at, part, source);
+}
 
 // The carry left of zone z, in its slot of held; left of zone 0 there is none.
 fn take_carry(z: usize, s: shape::Shape, carries: &[f64], held: &mut [f64])
@@ -87,16 +119,6 @@ fn walked_of(r: kept::Run) -> walking::Walked
     }
 }
 
-// A refusal leaves the run as it was.
-pub fn refused(q: answers::Refusal, r: kept::Run) -> kept::Ran
-    ensures { λ a. ⌜ a ≡ record { verdict = Refused q; run = r } ⌝ }
-{
-    kept::Ran {
-        verdict: answers::Verdict::Refused(q),
-        run: r,
-    }
-}
-
 fn fitted(mut r: kept::Run, w: walking::Walked, figure: f64) -> kept::Ran
     ensures { λ a. ⌜ a ≡ record { verdict = Fits; run = runWith r w figure } ⌝ }
 {
@@ -145,7 +167,7 @@ fn worked(
     );
     let verdict = w.verdict;
     if let answers::Verdict::Refused(q) = verdict {
-        return refused(q, r);
+        return admitting::refused(q, r);
     }
     let figure = commit(z, s, scratch, &held, &summed, chain, carries, sums);
     fitted(r, w, figure)
