@@ -1,9 +1,8 @@
 -- The work from zone z on is refused with 9 alone: no refusal of it leaves scratch unwritten. Assumes nothing.
-use Prim.Native.Nat.{ℕ, suc}
-use mathlib.Core.List.{List, [], _∷_}
+use Prim.Native.Nat.{ℕ}
+use mathlib.Core.List.{List}
 use lib.Ieee.{Float}
 use Rattle.answers.specs.declared.Part.the-variants.{Sum}
-use Rattle.answers.specs.Outcome.{Answer}
 use Rattle.lists.specs.Walks.{walk}
 use Rattle.lists.specs.Floats.{stored}
 use Rattle.shape.specs.Cores.{Core}
@@ -12,18 +11,13 @@ use Rattle.product.specs.Product.{contractAt}
 use Rattle.walking.specs.Keeping.{keepStep}
 use Rattle.stepping.specs.Zones.{rules}
 use Rattle.stepping.specs.Steps.{stepFrom}
-use Rattle.striding.proofs.Late.{Late, late-done, late-making, late-bind, late-from}
+use Rattle.striding.proofs.Late.{Late, late-done, late-making, late-bind, late-walk, late-from}
 use Rattle.kept.specs.Kept.{Kept, running, zonesFrom, carryAt, sumsAt, weighedFrom}
 use Rattle.kept.specs.Work.{keepSums, sumZone, restep, resum, sumFrom, workFrom}
 
 late-axis : (k : ℕ) (e : List Float) (p : Core × List Float) → Late (sumZone rules k e p)
 unfolding sumZone rules contractAt
 late-axis k e p = late-bind _ _ (late-making Sum k (stored (contract (p .0) (p .1) e))) (λ x. late-done (x, tt))
-
-pub late-walk : {S X Y : Type 0} (f : ℕ → S → X → Answer (S × Y)) → ((k : ℕ) (s : S) (x : X) → Late (f k s x)) → (k : ℕ) (s : S) (xs : List X) → Late (walk f k s xs)
-unfolding walk
-late-walk f h k s [] = late-done []
-late-walk f h k s (x ∷ xs) = late-bind (f k s x) _ (h k s x) (λ r. late-bind (walk f (suc k) (r .0) xs) _ (late-walk f h (suc k) (r .0) xs) (λ rs. late-done (r ∷ rs)))
 
 pub late-sums : (k : Kept) (z : ℕ) → Late (sumFrom rules k z)
 unfolding sumFrom resum

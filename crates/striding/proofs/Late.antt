@@ -13,7 +13,7 @@ use Rattle.answers.specs.Table.{beforeWork}
 use Rattle.answers.proofs.Outcomes.{done-refused, refused-inj}
 use Rattle.numbers.specs.Arithmetic.{plus, times, one64}
 use Rattle.lists.specs.Floats.{stored}
-use Rattle.lists.specs.Walks.{every}
+use Rattle.lists.specs.Walks.{walk, every}
 use Rattle.shape.specs.Cores.{Core}
 use Rattle.axes.specs.declared.Axis.{Axis}
 use Rattle.shift.specs.declared.Shift.{Shift}
@@ -43,6 +43,11 @@ late-every : {X Y : Type 0} (f : ℕ → X → Answer Y) → ((k : ℕ) (x : X) 
 unfolding every
 late-every f h k [] = late-done []
 late-every f h k (x ∷ xs) = late-bind (f k x) _ (h k x) (λ y. late-bind (every f (suc k) xs) _ (late-every f h (suc k) xs) (λ ys. late-done (y ∷ ys)))
+
+pub late-walk : {S X Y : Type 0} (f : ℕ → S → X → Answer (S × Y)) → ((k : ℕ) (s : S) (x : X) → Late (f k s x)) → (k : ℕ) (s : S) (xs : List X) → Late (walk f k s xs)
+unfolding walk
+late-walk f h k s [] = late-done []
+late-walk f h k s (x ∷ xs) = late-bind (f k s x) _ (h k s x) (λ r. late-bind (walk f (suc k) (r .0) xs) _ (late-walk f h (suc k) (r .0) xs) (λ rs. late-done (r ∷ rs)))
 
 -- ---- one core
 late-move : (k : ℕ) (s : Shift) (c : Core) → Late (moveCore k s c)
