@@ -1,0 +1,2 @@
+mod Faces
+mod Mapped
