@@ -1,2 +1,1 @@
 mod Faces
-mod Mapped

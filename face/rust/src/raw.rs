@@ -136,13 +136,7 @@ pub fn tt_round(s: Shape, eps: f64, chain: &mut [f64], scratch: &mut [f64]) -> R
     }
 }
 
-pub fn step(
-    s: Shape,
-    set: Settings,
-    xs: Axes,
-    chain: &mut [f64],
-    scratch: &mut [f64],
-) -> Rounded {
+pub fn step(s: Shape, set: Settings, xs: Axes, chain: &mut [f64], scratch: &mut [f64]) -> Rounded {
     unsafe {
         c::uyavsker_step(
             s,

@@ -1,0 +1,2 @@
+mod Mapped
+mod Refusals
