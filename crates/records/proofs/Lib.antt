@@ -1,2 +1,3 @@
 mod Mapped
 mod Refusals
+mod Runs

@@ -1,8 +1,7 @@
 // A step, and steps one after another. The axis records come by value, with how many they are.
-ghost use mathlib.Core.Path.{_≡_};
 ghost use mathlib.Core.List.{map};
 ghost use Rattle.stepping.specs.Over.{stepOver, evolveOver};
-ghost use Rattle.records.specs.Given.{shapeIn, axisIn, settingsIn, courseIn};
+ghost use Rattle.records.specs.Given.{shapeIn, axisIn, settingsIn};
 ghost use Rattle.zones.specs.Ends.{EndsAs};
 use records::given;
 use records::told;
