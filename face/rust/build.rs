@@ -11,5 +11,8 @@ fn main() {
     println!("cargo:rustc-link-search=native={}", folder.display());
     println!("cargo:rustc-link-lib=static=zones");
     println!("cargo:rerun-if-env-changed=UYAVSKER_LIB");
-    println!("cargo:rerun-if-changed={}", folder.join("libzones.a").display());
+    println!(
+        "cargo:rerun-if-changed={}",
+        folder.join("libzones.a").display()
+    );
 }

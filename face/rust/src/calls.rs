@@ -1,84 +1,8 @@
-//! The calls over slices that the caller lends.
+//! The calls over slices that the caller lends. Refusal 5 gives the position of a slice in the order of docs/CALLS.md.
 use crate::raw;
+use crate::records::{listed, Axis, Course, Paired, Rounded, Settings};
 use crate::refusal::Refusal;
-use crate::shape::Shape;
-use crate::MOST_AXES;
-
-/// The settings of one axis.
-#[derive(Clone, Copy, Debug, PartialEq)]
-pub struct Axis {
-    pub a: f64,
-    pub b: f64,
-    pub xmin: f64,
-    pub xmax: f64,
-}
-
-/// The lone settings of a step.
-#[derive(Clone, Copy, Debug, PartialEq)]
-pub struct Settings {
-    pub tau: f64,
-    pub c: f64,
-    pub eps: f64,
-}
-
-/// What a call that rounds answers.
-#[derive(Clone, Copy, Debug, PartialEq, Eq)]
-pub struct Rounded {
-    /// The chain's shape at the end.
-    pub shape: Shape,
-    sweeps: [usize; MOST_AXES],
-    settled: [bool; MOST_AXES],
-}
-
-impl Rounded {
-    fn of(told: raw::Rounded) -> Result<Rounded, Refusal> {
-        Refusal::or(
-            told.refusal,
-            Rounded {
-                shape: Shape { raw: told.shape },
-                sweeps: told.sweeps,
-                settled: told.settled,
-            },
-        )
-    }
-
-    /// The sweeps made at each bond.
-    pub fn sweeps(&self) -> &[usize] {
-        bonds(&self.sweeps, &self.shape)
-    }
-
-    /// Whether the sum is below 1e-30 at the end, for each bond.
-    pub fn settled(&self) -> &[bool] {
-        bonds(&self.settled, &self.shape)
-    }
-}
-
-// The entries of the bonds; there is one less than there are cores.
-fn bonds<'a, T>(entries: &'a [T; MOST_AXES], shape: &Shape) -> &'a [T] {
-    entries.get(..shape.axes().saturating_sub(1)).unwrap_or(&[])
-}
-
-// The records with their count, at most as many as a chain can have axes; a call refuses any other count than its own.
-fn listed(axes: &[Axis]) -> raw::Axes {
-    let mut list = raw::Axes {
-        count: axes.len(),
-        axis: [raw::Axis {
-            a: 0.0,
-            b: 0.0,
-            xmin: 0.0,
-            xmax: 0.0,
-        }; MOST_AXES],
-    };
-    for (place, axis) in list.axis.iter_mut().zip(axes) {
-        *place = raw::Axis {
-            a: axis.a,
-            b: axis.b,
-            xmin: axis.xmin,
-            xmax: axis.xmax,
-        };
-    }
-    list
-}
+use crate::shape::{unchecked, Shape};
 
 /// The square root of x, rounded to the nearest f64.
 pub fn root(x: f64) -> f64 {
@@ -95,7 +19,33 @@ pub fn magnitude(x: f64) -> f64 {
     raw::magnitude(x)
 }
 
-/// The inner product of a chain with its axes' weights.
+/// Entry (il, im, ir) of a core, or none outside of it.
+pub fn entry_of(
+    shape: &Shape,
+    chain: &[f64],
+    core: usize,
+    indices: (usize, usize, usize),
+) -> Option<f64> {
+    let seen = raw::entry_of(chain, shape.raw, core, indices);
+    seen.inside.then_some(seen.value)
+}
+
+/// The separable start: a chain of rank one whose core k holds the vector of axis k. Answers its shape.
+pub fn rank1_separable(
+    sizes: &[usize],
+    vectors: &[f64],
+    chain: &mut [f64],
+) -> Result<Shape, Refusal> {
+    let mut shape = unchecked(&[]);
+    shape.d = sizes.len();
+    for (n, size) in shape.n.iter_mut().zip(sizes) {
+        *n = *size;
+    }
+    let told = raw::rank1_separable(shape, vectors, chain);
+    Refusal::or(told.refusal, Shape { raw: told.shape })
+}
+
+/// The figure: the inner product of a chain with its axes' weights.
 pub fn inner_separable(shape: &Shape, chain: &[f64], weights: &[f64]) -> Result<f64, Refusal> {
     let told = raw::inner_separable(shape.raw, chain, weights);
     Refusal::or(told.refusal, told.value)
@@ -119,10 +69,71 @@ pub fn step(
     chain: &mut [f64],
     scratch: &mut [f64],
 ) -> Result<Rounded, Refusal> {
-    let set = raw::Settings {
-        tau: settings.tau,
-        c: settings.c,
-        eps: settings.eps,
+    let told = raw::step(
+        shape.raw,
+        *settings,
+        listed(axes),
+        axes.len(),
+        chain,
+        scratch,
+    );
+    Rounded::of(told)
+}
+
+/// All steps of a course; refused at a later step, the chain is that of before the first.
+pub fn evolve(
+    shape: &Shape,
+    course: &Course,
+    axes: &[Axis],
+    chain: &mut [f64],
+    scratch: &mut [f64],
+) -> Result<Rounded, Refusal> {
+    let told = raw::evolve(shape.raw, *course, listed(axes), axes.len(), chain, scratch);
+    Rounded::of(told)
+}
+
+/// How many numbers of scratch a pair takes.
+pub const PAIR_SCRATCH: usize = 20_480;
+
+/// Two neighbouring cores, of left rank, size and right rank each, contracted and split again. The new ones stand at the
+/// fronts of the outputs, which have room for the rank 8 between them.
+pub fn contract_and_split(
+    sizes: [(usize, usize, usize); 2],
+    eps: f64,
+    cores: [&[f64]; 2],
+    outputs: [&mut [f64]; 2],
+    scratch: &mut [f64],
+) -> Result<Paired, Refusal> {
+    let [left, right] = sizes.map(|(left, n, right)| raw::Sizes { left, n, right });
+    let [left_out, right_out] = outputs;
+    let told = raw::contract_and_split(
+        (left, right),
+        eps,
+        (cores[0], cores[1]),
+        (left_out, right_out),
+        scratch,
+    );
+    let paired = Paired {
+        rank: told.rank,
+        passes: told.passes,
     };
-    Rounded::of(raw::step(shape.raw, set, listed(axes), chain, scratch))
+    Refusal::or(told.refusal, paired)
+}
+
+/// Reads a chain file into room for at least as many numbers as its chain has. Answers its shape.
+pub fn read_chain(bytes: &[u8], out: &mut [f64]) -> Result<Shape, Refusal> {
+    let told = raw::read_chain(bytes, out);
+    Refusal::or(told.refusal, Shape { raw: told.shape })
+}
+
+/// Writes the one file of a chain, into exactly its length.
+pub fn write_chain(shape: &Shape, chain: &[f64], out: &mut [u8]) -> Result<(), Refusal> {
+    Refusal::or(raw::write_chain(shape.raw, chain, out), ())
+}
+
+/// The text that `ttlist` prints of a file.
+pub fn text_of(bytes: &[u8]) -> String {
+    let mut text = [0; raw::TEXT];
+    let length = raw::text_of(bytes, &mut text);
+    String::from_utf8_lossy(text.get(..length).unwrap_or(&[])).into_owned()
 }

@@ -13,16 +13,7 @@ pub struct Shape {
 impl Shape {
     /// The shape whose core k has the left rank, size and right rank of entry k.
     pub fn new(cores: &[(usize, usize, usize)]) -> Result<Shape, Refusal> {
-        let mut raw = raw::Shape {
-            d: cores.len(),
-            left: [0; MOST_AXES],
-            n: [0; MOST_AXES],
-            right: [0; MOST_AXES],
-        };
-        let sizes = raw.left.iter_mut().zip(raw.n.iter_mut()).zip(raw.right.iter_mut());
-        for (((left, n), right), core) in sizes.zip(cores) {
-            (*left, *n, *right) = *core;
-        }
+        let raw = unchecked(cores);
         Refusal::or(raw::shape_check(raw), Shape { raw })
     }
 
@@ -34,7 +25,9 @@ impl Shape {
     /// Left rank, size and right rank of each core.
     pub fn cores(&self) -> impl Iterator<Item = (usize, usize, usize)> + '_ {
         let sizes = self.raw.left.iter().zip(&self.raw.n).zip(&self.raw.right);
-        sizes.take(self.raw.d).map(|((left, n), right)| (*left, *n, *right))
+        sizes
+            .take(self.raw.d)
+            .map(|((left, n), right)| (*left, *n, *right))
     }
 
     /// How many numbers the chain has.
@@ -51,6 +44,32 @@ impl Shape {
     pub fn scratch(&self) -> usize {
         4 * self.entries() + 2048
     }
+
+    /// How many bytes the chain's file has.
+    pub fn file(&self) -> usize {
+        8 + 12 * self.axes() + 8 * self.entries()
+    }
+
+    // The entries of the bonds, of which there is one less than there are cores.
+    pub(crate) fn of_bonds<'a, T>(&self, entries: &'a [T; MOST_AXES]) -> &'a [T] {
+        entries.get(..self.axes().saturating_sub(1)).unwrap_or(&[])
+    }
+}
+
+// The record, which says how many cores there were even where it has no room for all.
+pub(crate) fn unchecked(cores: &[(usize, usize, usize)]) -> raw::Shape {
+    let none = [0; MOST_AXES];
+    let mut raw = raw::Shape {
+        d: cores.len(),
+        left: none,
+        n: none,
+        right: none,
+    };
+    let sizes = raw.left.iter_mut().zip(&mut raw.n).zip(&mut raw.right);
+    for (((left, n), right), core) in sizes.zip(cores) {
+        (*left, *n, *right) = *core;
+    }
+    raw
 }
 
 impl PartialEq for Shape {
