@@ -142,7 +142,7 @@ uyavsker_figure uyavsker_inner_separable(uyavsker_shape shape, const double *cha
 uyavsker_rounded uyavsker_tt_round(uyavsker_shape shape, double eps, double *chain, size_t chain_len,
                                    double *scratch, size_t scratch_len);
 
-/* ---- steps; of the axis records `count` are given, exactly d ---- */
+/* ---- steps; the first `count` axis records are read, and count is d ---- */
 
 uyavsker_rounded uyavsker_step(uyavsker_shape shape, uyavsker_settings settings, uyavsker_axes axes, size_t count,
                                double *chain, size_t chain_len, double *scratch, size_t scratch_len);

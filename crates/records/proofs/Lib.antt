@@ -1,3 +1,4 @@
+mod Lent
 mod Mapped
 mod Refusals
 mod Runs

@@ -1,4 +1,8 @@
 -- What C's records say to a call, field by field. Definitions only.
+use Prim.Native.Nat.{ℕ}
+use mathlib.Core.List.{List, map}
+use Rattle.lists.specs.Lists.{tab}
+use Rattle.axes.specs.Axes.{axisAt}
 use Rattle.shape.specs.declared.Shape.{Shape}
 use Rattle.axes.specs.declared.Axis.{Axis}
 use Rattle.stepping.specs.declared.Settings.{Settings}
@@ -15,6 +19,10 @@ shapeIn s = record { d = s .d; left = s .left; n = s .n; right = s .right }
 
 abbrev pub axisIn : CAxis → Axis
 axisIn x = record { a = x .a; b = x .b; xmin = x .xmin; xmax = x .xmax }
+
+-- the first n records as a list that was lent; there is no record past the array, and a list of more is longer than any chain has axes
+abbrev pub lentOf : ℕ → List CAxis → List Axis
+lentOf n xs = tab n (axisAt (map axisIn xs))
 
 abbrev pub settingsIn : CSettings → Settings
 settingsIn x = record { tau = x .tau; c = x .c; eps = x .eps }

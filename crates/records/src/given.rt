@@ -1,7 +1,10 @@
 // What goes into a call.
 ghost use mathlib.Core.Path.{_≡_};
+ghost use Prim.Native.Nat.{_<_};
 ghost use mathlib.Core.List.{map};
-ghost use Rattle.records.specs.Given.{shapeIn, axisIn, settingsIn, courseIn, sizesIn};
+ghost use Rattle.shape.specs.Limits.{mostAxes};
+ghost use Rattle.axes.specs.Axes.{axisAt, gathered};
+ghost use Rattle.records.specs.Given.{shapeIn, axisIn, lentOf, settingsIn, courseIn, sizesIn};
 
 // d cores; core k has the sizes left[k], n[k], right[k].
 #[repr(C)]
@@ -94,6 +97,36 @@ pub fn axes_in(xs: [CAxis; shape::MOST_AXES]) -> [axes::Axis; shape::MOST_AXES]
     let mut k = 0;
     while k < shape::MOST_AXES {
         let x = axis_in(xs[k]);
+        list[k] = x;
+        k += 1;
+    }
+    list
+}
+
+// The record of axis k, where it is among the first `count`; else a blank.
+fn axis_lent(xs: [CAxis; shape::MOST_AXES], count: usize, k: usize) -> axes::Axis
+    requires { ⌜ k < mostAxes ⌝ }
+    ensures { λ r. ⌜ r ≡ axisAt (lentOf count xs) k ⌝ }
+{
+    if k < count {
+        return axis_in(xs[k]);
+    }
+    axes::Axis {
+        a: 0.0,
+        b: 0.0,
+        xmin: 0.0,
+        xmax: 0.0,
+    }
+}
+
+// The first `count` records as a list that was lent, gathered.
+pub fn axes_lent(xs: [CAxis; shape::MOST_AXES], count: usize) -> [axes::Axis; shape::MOST_AXES]
+    ensures { λ r. ⌜ r ≡ gathered (lentOf count xs) ⌝ }
+{
+    let mut list = no_axes();
+    let mut k = 0;
+    while k < shape::MOST_AXES {
+        let x = axis_lent(xs, count, k);
         list[k] = x;
         k += 1;
     }

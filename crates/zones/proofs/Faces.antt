@@ -1,11 +1,21 @@
 -- A call's answer stays what it is as C has it. In each law F is a call, x what C's record says, y its definition, r what the call answers and o that answer as C has it.
-use mathlib.Core.Path.{_≡_, ap, _∙_}
+use mathlib.Core.Path.{_≡_, sym, ap, _∙_}
 use Prim.Native.Nat.{ℕ}
-use mathlib.Core.List.{List}
+use mathlib.Core.List.{List, map}
+use lib.ListN.{length}
 use lib.Ieee.{Float}
 use Rattle.answers.specs.declared.Verdict.{Verdict}
 use Rattle.shape.specs.declared.Shape.{Shape}
+use Rattle.lists.proofs.Tables.{length-tab}
 use Rattle.axes.specs.declared.Axis.{Axis}
+use Rattle.axes.specs.Axes.{axisAt, gathered}
+use Rattle.stepping.specs.declared.Settings.{Settings}
+use Rattle.stepping.specs.Call.{stepCall, evolveCall}
+use Rattle.stepping.specs.Over.{stepOver, evolveOver}
+use Rattle.stepping.proofs.Gathers.{step-over, evolve-over}
+use Rattle.evolving.specs.declared.Course.{Course}
+use Rattle.records.specs.declared.given.CAxis.{CAxis}
+use Rattle.records.specs.Given.{axisIn, lentOf}
 use Rattle.rounding.specs.declared.Rounded.{Rounded}
 use Rattle.rounding.specs.Call.{Ended}
 use Rattle.product.specs.declared.Started.{Started}
@@ -35,15 +45,27 @@ ends-as F x y r l w o e f g =
       scratch = ap (λ (z : Ended). z .scratch) h;
     }
 
--- p is the settings or the course, k the axis records
-pub steps-as : {P : Type 0} (F : Shape → P → List Axis → Ended) (x y : Shape) (p q : P) (k m : List Axis) (r : Rounded) (l w : List Float) (o : CRounded) → x ≡ y → p ≡ q → k ≡ m → Answers (F x p k) r l w → o ≡ roundedOut r → EndsAs (F y q m) o l w
-steps-as F x y p q k m r l w o e f g a h =
-    let same : F x p k ≡ F y q m = ap (λ z. F z p k) e ∙ ap (λ z. F y z k) f ∙ ap (λ z. F y q z) g in
+-- p is the settings or the course, k the axis records; e is what the call's definition gives
+pub steps-as : {P : Type 0} (F : Shape → P → List Axis → Ended) (x y : Shape) (p q : P) (k m : List Axis) (e : Ended) (r : Rounded) (l w : List Float) (o : CRounded) → x ≡ y → p ≡ q → k ≡ m → F y q m ≡ e → Answers (F x p k) r l w → o ≡ roundedOut r → EndsAs e o l w
+steps-as F x y p q k m e r l w o f g h same a b =
+    let all : F x p k ≡ e = ap (λ z. F z p k) f ∙ ap (λ z. F y z k) g ∙ ap (λ z. F y q z) h ∙ same in
     record {
-      result = h ∙ ap roundedOut (a .result) ∙ ap (λ (z : Ended). roundedOut (z .result)) same;
-      chain = a .chain ∙ ap (λ (z : Ended). z .chain) same;
-      scratch = a .scratch ∙ ap (λ (z : Ended). z .scratch) same;
+      result = b ∙ ap roundedOut (a .result) ∙ ap (λ (z : Ended). roundedOut (z .result)) all;
+      chain = a .chain ∙ ap (λ (z : Ended). z .chain) all;
+      scratch = a .scratch ∙ ap (λ (z : Ended). z .scratch) all;
     }
+
+-- as many records as were lent
+counted : (n : ℕ) (xs : List CAxis) → length (lentOf n xs) ≡ n
+counted n xs = length-tab n (axisAt (map axisIn xs))
+
+pub step-lent : (t : Settings) (s : Shape) (n : ℕ) (xs : List CAxis) (l w : List Float) → stepOver t s n (gathered (lentOf n xs)) l w ≡ stepCall t s (lentOf n xs) l w
+step-lent t s n xs l w = ap (λ (k : ℕ). stepOver t s k (gathered (lentOf n xs)) l w) (sym (counted n xs)) ∙ step-over t s (lentOf n xs) l w
+
+pub evolve-lent : (p : Course) (s : Shape) (n : ℕ) (xs : List CAxis) (l w : List Float)
+    → evolveOver (p .«t_final») (p .steps) (p .c) (p .eps) s n (gathered (lentOf n xs)) l w ≡ evolveCall (p .«t_final») (p .steps) (p .c) (p .eps) s (lentOf n xs) l w
+evolve-lent p s n xs l w =
+    ap (λ (k : ℕ). evolveOver (p .«t_final») (p .steps) (p .c) (p .eps) s k (gathered (lentOf n xs)) l w) (sym (counted n xs)) ∙ evolve-over (p .«t_final») (p .steps) (p .c) (p .eps) s (lentOf n xs) l w
 
 pub starts-as : (F : Shape → StartEnded) (x y : Shape) (r : Started) (l : List Float) (o : CFormed) → x ≡ y → (r ≡ F x .result) × (l ≡ F x .chain) → o ≡ startedOut r → StartsAs (F y) o l
 starts-as F x y r l o e f g = record {
