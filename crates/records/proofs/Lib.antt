@@ -1,0 +1,4 @@
+mod Lent
+mod Mapped
+mod Refusals
+mod Runs

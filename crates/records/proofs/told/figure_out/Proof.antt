@@ -1,0 +1,12 @@
+-- `records::told::figure_out` meets its contract. Assumes nothing.
+use mathlib.Core.Path.{ap}
+use Rattle.records.specs.declared.told.CRefusal.{CRefusal}
+use borrow.Author.Needs.{needs}
+use Rattle.records.proofs.told.figure_out.Statement.{statement}
+use Rattle.records.proofs.told.figure_out.Tie as tie
+
+returns : tie.Need-returns
+returns c = ap (λ (x : CRefusal). record { refusal = x; value = c .before .args .w .value }) (c .refusal-of .ensures)
+
+pub figure-out-spec : {M : Type 1} → statement M
+figure-out-spec = tie.close (tie.spec (λ c κs. search needs) returns)

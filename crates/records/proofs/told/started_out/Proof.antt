@@ -1,0 +1,11 @@
+-- `records::told::started_out` meets its contract. Assumes nothing.
+use Rattle.records.proofs.Refusals.{formed-as}
+use borrow.Author.Needs.{needs}
+use Rattle.records.proofs.told.started_out.Statement.{statement}
+use Rattle.records.proofs.told.started_out.Tie as tie
+
+returns : tie.Need-returns
+returns c = formed-as _ _ _ _ (c .before .refusal-of .ensures) (c .shape-out .ensures)
+
+pub started-out-spec : {M : Type 1} → statement M
+started-out-spec = tie.close (tie.spec (λ c κs. search needs) (λ c κs. search needs) returns)

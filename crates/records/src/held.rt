@@ -1,0 +1,120 @@
+// A kept run's record, which goes into a call and comes out of it.
+ghost use mathlib.Core.Path.{_≡_};
+ghost use mathlib.Core.List.{map};
+ghost use Rattle.records.specs.Held.{runIn, axisOut, settingsOut, runOut, ranOut};
+use crate::given;
+use crate::told;
+
+// Its inputs but for the source chain and the weights; then for bond k the rank, the sweeps made and whether the sum is
+// below 1e-30 at the end, each at place k of its array; and the figure.
+#[repr(C)]
+pub struct CRun {
+    pub shape: given::CShape,
+    pub axes: [given::CAxis; shape::MOST_AXES],
+    pub set: given::CSettings,
+    pub ranks: [usize; shape::MOST_AXES],
+    pub sweeps: [usize; shape::MOST_AXES],
+    pub settled: [bool; shape::MOST_AXES],
+    pub figure: f64,
+}
+
+#[repr(C)]
+pub struct CRan {
+    pub refusal: told::CRefusal,
+    pub run: CRun,
+}
+
+pub fn run_in(r: CRun) -> kept::Run
+    ensures { λ x. ⌜ x ≡ runIn r ⌝ }
+{
+    let shape = r.shape;
+    let axes = r.axes;
+    let set = r.set;
+    let ranks = r.ranks;
+    let sweeps = r.sweeps;
+    let settled = r.settled;
+    kept::Run {
+        shape: given::shape_in(shape),
+        axes: given::axes_in(axes),
+        set: given::settings_in(set),
+        ranks,
+        sweeps,
+        settled,
+        figure: r.figure,
+    }
+}
+
+fn axis_out(x: axes::Axis) -> given::CAxis
+    ensures { λ r. ⌜ r ≡ axisOut x ⌝ }
+{
+    given::CAxis {
+        a: x.a,
+        b: x.b,
+        xmin: x.xmin,
+        xmax: x.xmax,
+    }
+}
+
+// What stands in the list before its records do.
+fn no_axes() -> [given::CAxis; shape::MOST_AXES] {
+    [given::CAxis {
+        a: 0.0,
+        b: 0.0,
+        xmin: 0.0,
+        xmax: 0.0,
+    }; shape::MOST_AXES]
+}
+
+fn axes_out(xs: [axes::Axis; shape::MOST_AXES]) -> [given::CAxis; shape::MOST_AXES]
+    ensures { λ r. ⌜ r ≡ map axisOut xs ⌝ }
+{
+    let mut list = no_axes();
+    let mut k = 0;
+    while k < shape::MOST_AXES {
+        let x = axis_out(xs[k]);
+        list[k] = x;
+        k += 1;
+    }
+    list
+}
+
+fn settings_out(x: stepping::Settings) -> given::CSettings
+    ensures { λ r. ⌜ r ≡ settingsOut x ⌝ }
+{
+    given::CSettings {
+        tau: x.tau,
+        c: x.c,
+        eps: x.eps,
+    }
+}
+
+fn run_out(r: kept::Run) -> CRun
+    ensures { λ x. ⌜ x ≡ runOut r ⌝ }
+{
+    let shape = r.shape;
+    let axes = r.axes;
+    let set = r.set;
+    let ranks = r.ranks;
+    let sweeps = r.sweeps;
+    let settled = r.settled;
+    CRun {
+        shape: told::shape_out(shape),
+        axes: axes_out(axes),
+        set: settings_out(set),
+        ranks,
+        sweeps,
+        settled,
+        figure: r.figure,
+    }
+}
+
+pub fn ran_out(w: kept::Ran) -> CRan
+    ensures { λ r. ⌜ r ≡ ranOut w ⌝ }
+{
+    let verdict = w.verdict;
+    let run = w.run;
+    CRan {
+        refusal: told::refusal_of(verdict),
+        run: run_out(run),
+    }
+}

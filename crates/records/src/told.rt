@@ -1,0 +1,158 @@
+// What a call answers.
+ghost use mathlib.Core.Path.{_≡_};
+ghost use Rattle.answers.specs.declared.Verdict.the-variants.{Refused};
+ghost use Rattle.records.specs.Told.{refusalOf, shapeOut, roundedOut, figureOut, startedOut, pairedOut, readOut, seenOut};
+use crate::given;
+
+// A refusal by its number in the scope's table and its place; number 0 is none.
+#[repr(C)]
+pub struct CRefusal {
+    pub number: u8,
+    pub place: usize,
+}
+
+// The chain's shape at the end; for each bond the sweeps made, and whether the sum is below 1e-30 at the end.
+#[repr(C)]
+pub struct CRounded {
+    pub refusal: CRefusal,
+    pub shape: given::CShape,
+    pub sweeps: [usize; shape::MOST_AXES],
+    pub settled: [bool; shape::MOST_AXES],
+}
+
+// The figure, +0 where it is refused.
+#[repr(C)]
+pub struct CFigure {
+    pub refusal: CRefusal,
+    pub value: f64,
+}
+
+// The shape of the chain that a separable start makes, or that a file holds.
+#[repr(C)]
+pub struct CFormed {
+    pub refusal: CRefusal,
+    pub shape: given::CShape,
+}
+
+// The rank that a pair keeps, and the passes made.
+#[repr(C)]
+pub struct CPaired {
+    pub refusal: CRefusal,
+    pub rank: usize,
+    pub passes: usize,
+}
+
+// A number of a core, or +0 outside of it.
+#[repr(C)]
+pub struct CSeen {
+    pub inside: bool,
+    pub value: f64,
+}
+
+fn refused_as(q: answers::Refusal) -> CRefusal
+    ensures { λ r. ⌜ r ≡ refusalOf (Refused q) ⌝ }
+{
+    CRefusal {
+        number: answers::number(q),
+        place: answers::place(q),
+    }
+}
+
+pub fn refusal_of(v: answers::Verdict) -> CRefusal
+    ensures { λ r. ⌜ r ≡ refusalOf v ⌝ }
+{
+    if let answers::Verdict::Refused(q) = v {
+        return refused_as(q);
+    }
+    CRefusal {
+        number: 0,
+        place: 0,
+    }
+}
+
+pub fn shape_out(s: shape::Shape) -> given::CShape
+    ensures { λ r. ⌜ r ≡ shapeOut s ⌝ }
+{
+    let left = s.left;
+    let n = s.n;
+    let right = s.right;
+    given::CShape {
+        d: s.d,
+        left,
+        n,
+        right,
+    }
+}
+
+pub fn rounded_out(w: rounding::Rounded) -> CRounded
+    ensures { λ r. ⌜ r ≡ roundedOut w ⌝ }
+{
+    let verdict = w.verdict;
+    let shape = w.shape;
+    let sweeps = w.sweeps;
+    let settled = w.settled;
+    CRounded {
+        refusal: refusal_of(verdict),
+        shape: shape_out(shape),
+        sweeps,
+        settled,
+    }
+}
+
+pub fn figure_out(w: product::Figure) -> CFigure
+    ensures { λ r. ⌜ r ≡ figureOut w ⌝ }
+{
+    let verdict = w.verdict;
+    CFigure {
+        refusal: refusal_of(verdict),
+        value: w.value,
+    }
+}
+
+pub fn started_out(w: product::Started) -> CFormed
+    ensures { λ r. ⌜ r ≡ startedOut w ⌝ }
+{
+    let verdict = w.verdict;
+    let shape = w.shape;
+    CFormed {
+        refusal: refusal_of(verdict),
+        shape: shape_out(shape),
+    }
+}
+
+pub fn read_out(w: fileform::Read) -> CFormed
+    ensures { λ r. ⌜ r ≡ readOut w ⌝ }
+{
+    let verdict = w.verdict;
+    let shape = w.shape;
+    CFormed {
+        refusal: refusal_of(verdict),
+        shape: shape_out(shape),
+    }
+}
+
+pub fn paired_out(w: splitting::Paired) -> CPaired
+    ensures { λ r. ⌜ r ≡ pairedOut w ⌝ }
+{
+    let verdict = w.verdict;
+    CPaired {
+        refusal: refusal_of(verdict),
+        rank: w.rank,
+        passes: w.passes,
+    }
+}
+
+pub fn seen_out(w: view::Seen) -> CSeen
+    ensures { λ r. ⌜ r ≡ seenOut w ⌝ }
+{
+    if let view::Seen::Number(x) = w {
+        return CSeen {
+            inside: true,
+            value: x,
+        };
+    }
+    CSeen {
+        inside: false,
+        value: 0.0,
+    }
+}

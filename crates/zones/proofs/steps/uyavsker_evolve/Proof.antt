@@ -1,0 +1,20 @@
+-- `zones::steps::uyavsker_evolve` meets its contract. Assumes nothing.
+use borrow.Author.Needs.{needs}
+use mathlib.Core.List.{List}
+use Rattle.shape.specs.declared.Shape.{Shape}
+use Rattle.axes.specs.declared.Axis.{Axis}
+use Rattle.evolving.specs.declared.Course.{Course}
+use Rattle.stepping.specs.Over.{evolveOver}
+use Rattle.records.specs.Given.{shapeIn, courseIn}
+use Rattle.zones.proofs.Faces.{steps-as, evolve-lent}
+use Rattle.zones.proofs.steps.uyavsker_evolve.Statement.{statement}
+use Rattle.zones.proofs.steps.uyavsker_evolve.Tie as tie
+
+returns : tie.Need-returns
+returns c =
+    let i = c .before .before .before .before .before .before .before .before .before .before .before .before .before .before .args in
+    steps-as (λ (x : Shape) (p : Course) (k : List Axis). evolveOver (p .«t_final») (p .steps) (p .c) (p .eps) x (i .count) k (i .chain .now) (i .scratch .now)) _ _ _ _ _ _ _ _ _ _ _ (c .before .before .before .before .before .before .before .before .before .before .shape-in .ensures) (c .before .before .before .before .before .before .before .before .before .course-in .ensures) (c .before .before .before .before .before .before .before .before .axes-lent .ensures)
+    (evolve-lent (courseIn (i .p)) (shapeIn (i .s)) (i .count) (i .xs .axis) (i .chain .now) (i .scratch .now)) (c .before .before .before .before .before .evolve-over .ensures) (c .rounded-out .ensures)
+
+pub uyavsker-evolve-spec : {M : Type 1} → statement M
+uyavsker-evolve-spec = tie.close (tie.spec (λ c κs. search needs) (λ c κs. search needs) (λ c κs. search needs) (λ c κs. search needs) (λ c κs. search needs) (λ c. search needs) (λ c. search needs) returns)

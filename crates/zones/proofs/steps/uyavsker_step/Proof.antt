@@ -1,0 +1,20 @@
+-- `zones::steps::uyavsker_step` meets its contract. Assumes nothing.
+use borrow.Author.Needs.{needs}
+use mathlib.Core.List.{List}
+use Rattle.shape.specs.declared.Shape.{Shape}
+use Rattle.axes.specs.declared.Axis.{Axis}
+use Rattle.stepping.specs.declared.Settings.{Settings}
+use Rattle.stepping.specs.Over.{stepOver}
+use Rattle.records.specs.Given.{shapeIn, settingsIn}
+use Rattle.zones.proofs.Faces.{steps-as, step-lent}
+use Rattle.zones.proofs.steps.uyavsker_step.Statement.{statement}
+use Rattle.zones.proofs.steps.uyavsker_step.Tie as tie
+
+returns : tie.Need-returns
+returns c =
+    let i = c .before .before .before .before .before .before .before .before .before .before .before .before .before .before .args in
+    steps-as (λ (x : Shape) (t : Settings) (k : List Axis). stepOver t x (i .count) k (i .chain .now) (i .scratch .now)) _ _ _ _ _ _ _ _ _ _ _ (c .before .before .before .before .before .before .before .before .before .before .shape-in .ensures) (c .before .before .before .before .before .before .before .before .before .settings-in .ensures) (c .before .before .before .before .before .before .before .before .axes-lent .ensures)
+    (step-lent (settingsIn (i .set)) (shapeIn (i .s)) (i .count) (i .xs .axis) (i .chain .now) (i .scratch .now)) (c .before .before .before .before .before .step-over .ensures) (c .rounded-out .ensures)
+
+pub uyavsker-step-spec : {M : Type 1} → statement M
+uyavsker-step-spec = tie.close (tie.spec (λ c κs. search needs) (λ c κs. search needs) (λ c κs. search needs) (λ c κs. search needs) (λ c κs. search needs) (λ c. search needs) (λ c. search needs) returns)

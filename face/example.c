@@ -1,0 +1,74 @@
+/* A plan of two zones: its figure, its rounding, a step, its file, and a refusal. */
+#include "uyavsker.h"
+
+#include <stdio.h>
+
+#define ENTRIES 6
+#define BYTES (8 + 12 * 2 + 8 * ENTRIES)
+
+static void print_numbers(const char *name, const double *numbers, size_t count)
+{
+    printf("%s", name);
+    for (size_t i = 0; i < count; i++)
+        printf(" %g", numbers[i]);
+    printf("\n");
+}
+
+/* Prints a refusal, and tells whether there was one. */
+static bool refused(uyavsker_refusal refusal)
+{
+    if (refusal.number != 0)
+        printf("refused %d at %zu\n", refusal.number, refusal.place);
+    return refusal.number != 0;
+}
+
+static void print_figure(uyavsker_shape shape, const double *chain)
+{
+    const double weights[] = {1, 2, 1};
+    uyavsker_figure figure = uyavsker_inner_separable(shape, chain, ENTRIES, weights, 3);
+    if (!refused(figure.refusal))
+        printf("figure %g\n", figure.value);
+}
+
+static void print_file(uyavsker_shape shape, const double *chain)
+{
+    uint8_t file[BYTES];
+    uint8_t text[UYAVSKER_TEXT];
+    double read[ENTRIES];
+    if (refused(uyavsker_write_chain(shape, chain, ENTRIES, file, BYTES)))
+        return;
+    size_t length = uyavsker_text_of(file, BYTES, text);
+    fwrite(text, 1, length, stdout);
+    refused(uyavsker_read_chain(file, BYTES - 1, read, ENTRIES).refusal);
+    if (!refused(uyavsker_read_chain(file, BYTES, read, ENTRIES).refusal))
+        print_numbers("read", read, ENTRIES);
+}
+
+static void print_step(void)
+{
+    uyavsker_shape shape = {.d = 1, .left = {1}, .n = {4}, .right = {1}};
+    uyavsker_settings settings = {.tau = 1, .c = 0, .eps = 0};
+    uyavsker_axes axes = {.axis = {{.a = 0.25, .b = 0, .xmin = 0, .xmax = 3}}};
+    double chain[] = {4, 8, 16, 0};
+    double scratch[UYAVSKER_SCRATCH(4)];
+    if (!refused(uyavsker_step(shape, settings, axes, 1, chain, 4, scratch, UYAVSKER_SCRATCH(4)).refusal))
+        print_numbers("stepped", chain, 4);
+}
+
+int main(void)
+{
+    uyavsker_shape shape = {.d = 2, .left = {1, 2}, .n = {2, 1}, .right = {2, 1}};
+    double chain[] = {3, 0, 0, 4, 1, 1};
+    double scratch[UYAVSKER_SCRATCH(ENTRIES)];
+    print_figure(shape, chain);
+    print_file(shape, chain);
+    uyavsker_rounded rounded =
+        uyavsker_tt_round(shape, 0, chain, ENTRIES, scratch, UYAVSKER_SCRATCH(ENTRIES));
+    if (refused(rounded.refusal))
+        return 1;
+    print_numbers("rounded", chain, ENTRIES);
+    printf("sweeps %zu, settled %s\n", rounded.sweeps[0], rounded.settled[0] ? "yes" : "no");
+    print_figure(rounded.shape, chain);
+    print_step();
+    return 0;
+}

@@ -1,0 +1,63 @@
+/* The layout that the archive's records have, field by field: a header that departs from it doesn't compile. */
+#include "uyavsker.h"
+
+#define SIZE(record, bytes) _Static_assert(sizeof(record) == (bytes), #record " has another size")
+#define AT(record, field, byte) \
+    _Static_assert(offsetof(record, field) == (byte), #record "." #field " stands elsewhere")
+
+SIZE(uyavsker_refusal, 16);
+AT(uyavsker_refusal, number, 0);
+AT(uyavsker_refusal, place, 8);
+
+SIZE(uyavsker_shape, 392);
+AT(uyavsker_shape, d, 0);
+AT(uyavsker_shape, left, 8);
+AT(uyavsker_shape, n, 136);
+AT(uyavsker_shape, right, 264);
+
+SIZE(uyavsker_axis, 32);
+AT(uyavsker_axis, a, 0);
+AT(uyavsker_axis, b, 8);
+AT(uyavsker_axis, xmin, 16);
+AT(uyavsker_axis, xmax, 24);
+
+SIZE(uyavsker_axes, 512);
+
+SIZE(uyavsker_settings, 24);
+AT(uyavsker_settings, tau, 0);
+AT(uyavsker_settings, c, 8);
+AT(uyavsker_settings, eps, 16);
+
+SIZE(uyavsker_course, 32);
+AT(uyavsker_course, t_final, 0);
+AT(uyavsker_course, steps, 8);
+AT(uyavsker_course, c, 16);
+AT(uyavsker_course, eps, 24);
+
+SIZE(uyavsker_sizes, 24);
+AT(uyavsker_sizes, left, 0);
+AT(uyavsker_sizes, n, 8);
+AT(uyavsker_sizes, right, 16);
+
+SIZE(uyavsker_rounded, 552);
+AT(uyavsker_rounded, refusal, 0);
+AT(uyavsker_rounded, shape, 16);
+AT(uyavsker_rounded, sweeps, 408);
+AT(uyavsker_rounded, settled, 536);
+
+SIZE(uyavsker_figure, 24);
+AT(uyavsker_figure, refusal, 0);
+AT(uyavsker_figure, value, 16);
+
+SIZE(uyavsker_formed, 408);
+AT(uyavsker_formed, refusal, 0);
+AT(uyavsker_formed, shape, 16);
+
+SIZE(uyavsker_paired, 32);
+AT(uyavsker_paired, refusal, 0);
+AT(uyavsker_paired, rank, 16);
+AT(uyavsker_paired, passes, 24);
+
+SIZE(uyavsker_seen, 16);
+AT(uyavsker_seen, inside, 0);
+AT(uyavsker_seen, value, 8);

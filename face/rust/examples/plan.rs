@@ -1,0 +1,50 @@
+//! A plan of two zones: its figure, its rounding, a step, its file, and a refusal.
+use uyavsker::{text_of, Axis, Chain, Refusal, Settings, Shape};
+
+fn print_numbers(name: &str, numbers: &[f64]) {
+    let words: Vec<String> = numbers.iter().map(f64::to_string).collect();
+    println!("{name} {}", words.join(" "));
+}
+
+fn print_file(chain: &Chain) -> Result<(), Refusal> {
+    let file = chain.write()?;
+    print!("{}", text_of(&file));
+    if let Err(refusal) = Chain::read(&file[..file.len() - 1]) {
+        println!("refused {} at {}", refusal.number, refusal.place);
+    }
+    print_numbers("read", Chain::read(&file)?.numbers());
+    Ok(())
+}
+
+fn print_step() -> Result<(), Refusal> {
+    let shape = Shape::new(&[(1, 4, 1)])?;
+    let mut chain = Chain::new(shape, vec![4.0, 8.0, 16.0, 0.0])?;
+    let settings = Settings {
+        tau: 1.0,
+        c: 0.0,
+        eps: 0.0,
+    };
+    let axis = Axis {
+        a: 0.25,
+        b: 0.0,
+        xmin: 0.0,
+        xmax: 3.0,
+    };
+    chain.step(&settings, &[axis])?;
+    print_numbers("stepped", chain.numbers());
+    Ok(())
+}
+
+fn main() -> Result<(), Refusal> {
+    let weights = [1.0, 2.0, 1.0];
+    let shape = Shape::new(&[(1, 2, 2), (2, 1, 1)])?;
+    let mut chain = Chain::new(shape, vec![3.0, 0.0, 0.0, 4.0, 1.0, 1.0])?;
+    println!("figure {}", chain.inner(&weights)?);
+    print_file(&chain)?;
+    let rounded = chain.round(0.0)?;
+    print_numbers("rounded", chain.numbers());
+    let settled = if rounded.settled()[0] { "yes" } else { "no" };
+    println!("sweeps {}, settled {settled}", rounded.sweeps()[0]);
+    println!("figure {}", chain.inner(&weights)?);
+    print_step()
+}

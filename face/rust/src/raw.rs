@@ -1,0 +1,314 @@
+//! The functions of the archive, and all unsafe code. What a function asks is that its slices are as long as said and that a
+//! written one overlaps no other, which references ensure.
+use crate::records::{Axis, Course, Settings};
+use std::mem::{offset_of, size_of};
+
+pub const MOST_AXES: usize = 16;
+pub const TEXT: usize = 2048;
+
+#[repr(C)]
+#[derive(Clone, Copy)]
+pub struct Refusal {
+    pub number: u8,
+    pub place: usize,
+}
+
+#[repr(C)]
+#[derive(Clone, Copy, PartialEq, Eq)]
+pub struct Shape {
+    pub d: usize,
+    pub left: [usize; MOST_AXES],
+    pub n: [usize; MOST_AXES],
+    pub right: [usize; MOST_AXES],
+}
+
+#[repr(C)]
+#[derive(Clone, Copy)]
+pub struct Axes {
+    pub axis: [Axis; MOST_AXES],
+}
+
+#[repr(C)]
+#[derive(Clone, Copy)]
+pub struct Sizes {
+    pub left: usize,
+    pub n: usize,
+    pub right: usize,
+}
+
+#[repr(C)]
+#[derive(Clone, Copy)]
+pub struct Rounded {
+    pub refusal: Refusal,
+    pub shape: Shape,
+    pub sweeps: [usize; MOST_AXES],
+    pub settled: [bool; MOST_AXES],
+}
+
+#[repr(C)]
+#[derive(Clone, Copy)]
+pub struct Figure {
+    pub refusal: Refusal,
+    pub value: f64,
+}
+
+#[repr(C)]
+#[derive(Clone, Copy)]
+pub struct Formed {
+    pub refusal: Refusal,
+    pub shape: Shape,
+}
+
+#[repr(C)]
+#[derive(Clone, Copy)]
+pub struct Paired {
+    pub refusal: Refusal,
+    pub rank: usize,
+    pub passes: usize,
+}
+
+#[repr(C)]
+#[derive(Clone, Copy)]
+pub struct Seen {
+    pub inside: bool,
+    pub value: f64,
+}
+
+// The layout that face/layout.c states too.
+const _: () = {
+    assert!(size_of::<Refusal>() == 16 && offset_of!(Refusal, place) == 8);
+    assert!(size_of::<Shape>() == 392 && offset_of!(Shape, left) == 8);
+    assert!(offset_of!(Shape, n) == 136 && offset_of!(Shape, right) == 264);
+    assert!(size_of::<Axis>() == 32 && offset_of!(Axis, b) == 8);
+    assert!(offset_of!(Axis, xmin) == 16 && offset_of!(Axis, xmax) == 24);
+    assert!(size_of::<Axes>() == 512);
+    assert!(size_of::<Settings>() == 24 && offset_of!(Settings, c) == 8);
+    assert!(offset_of!(Settings, eps) == 16);
+    assert!(size_of::<Course>() == 32 && offset_of!(Course, steps) == 8);
+    assert!(offset_of!(Course, c) == 16 && offset_of!(Course, eps) == 24);
+    assert!(size_of::<Sizes>() == 24 && offset_of!(Sizes, n) == 8);
+    assert!(offset_of!(Sizes, right) == 16);
+    assert!(size_of::<Rounded>() == 552 && offset_of!(Rounded, shape) == 16);
+    assert!(offset_of!(Rounded, sweeps) == 408 && offset_of!(Rounded, settled) == 536);
+    assert!(size_of::<Figure>() == 24 && offset_of!(Figure, value) == 16);
+    assert!(size_of::<Formed>() == 408 && offset_of!(Formed, shape) == 16);
+    assert!(size_of::<Paired>() == 32 && offset_of!(Paired, rank) == 16);
+    assert!(offset_of!(Paired, passes) == 24);
+    assert!(size_of::<Seen>() == 16 && offset_of!(Seen, value) == 8);
+};
+
+mod c {
+    use super::*;
+
+    extern "C" {
+        pub fn uyavsker_root(x: f64) -> f64;
+        pub fn uyavsker_floor(x: f64) -> f64;
+        pub fn uyavsker_magnitude(x: f64) -> f64;
+        pub fn uyavsker_shape_check(shape: Shape) -> Refusal;
+        pub fn uyavsker_entry_of(
+            chain: *const f64,
+            chain_len: usize,
+            shape: Shape,
+            k: usize,
+            il: usize,
+            im: usize,
+            ir: usize,
+        ) -> Seen;
+        pub fn uyavsker_rank1_separable(
+            shape: Shape,
+            vectors: *const f64,
+            vectors_len: usize,
+            chain: *mut f64,
+            chain_len: usize,
+        ) -> Formed;
+        pub fn uyavsker_inner_separable(
+            shape: Shape,
+            chain: *const f64,
+            chain_len: usize,
+            weights: *const f64,
+            weights_len: usize,
+        ) -> Figure;
+        pub fn uyavsker_tt_round(
+            shape: Shape,
+            eps: f64,
+            chain: *mut f64,
+            chain_len: usize,
+            scratch: *mut f64,
+            scratch_len: usize,
+        ) -> Rounded;
+        pub fn uyavsker_step(
+            shape: Shape,
+            settings: Settings,
+            axes: Axes,
+            count: usize,
+            chain: *mut f64,
+            chain_len: usize,
+            scratch: *mut f64,
+            scratch_len: usize,
+        ) -> Rounded;
+        pub fn uyavsker_evolve(
+            shape: Shape,
+            course: Course,
+            axes: Axes,
+            count: usize,
+            chain: *mut f64,
+            chain_len: usize,
+            scratch: *mut f64,
+            scratch_len: usize,
+        ) -> Rounded;
+        pub fn uyavsker_contract_and_split(
+            left: Sizes,
+            right: Sizes,
+            eps: f64,
+            left_core: *const f64,
+            left_core_len: usize,
+            right_core: *const f64,
+            right_core_len: usize,
+            left_out: *mut f64,
+            left_out_len: usize,
+            right_out: *mut f64,
+            right_out_len: usize,
+            scratch: *mut f64,
+            scratch_len: usize,
+        ) -> Paired;
+        pub fn uyavsker_read_chain(
+            bytes: *const u8,
+            bytes_len: usize,
+            out: *mut f64,
+            out_len: usize,
+        ) -> Formed;
+        pub fn uyavsker_write_chain(
+            shape: Shape,
+            chain: *const f64,
+            chain_len: usize,
+            out: *mut u8,
+            out_len: usize,
+        ) -> Refusal;
+        pub fn uyavsker_text_of(bytes: *const u8, bytes_len: usize, text: *mut u8) -> usize;
+    }
+}
+
+pub fn root(x: f64) -> f64 {
+    unsafe { c::uyavsker_root(x) }
+}
+
+pub fn floor(x: f64) -> f64 {
+    unsafe { c::uyavsker_floor(x) }
+}
+
+pub fn magnitude(x: f64) -> f64 {
+    unsafe { c::uyavsker_magnitude(x) }
+}
+
+pub fn shape_check(shape: Shape) -> Refusal {
+    unsafe { c::uyavsker_shape_check(shape) }
+}
+
+pub fn entry_of(
+    chain: &[f64],
+    shape: Shape,
+    k: usize,
+    (il, im, ir): (usize, usize, usize),
+) -> Seen {
+    unsafe { c::uyavsker_entry_of(chain.as_ptr(), chain.len(), shape, k, il, im, ir) }
+}
+
+pub fn rank1_separable(shape: Shape, vectors: &[f64], chain: &mut [f64]) -> Formed {
+    let (v, x) = (vectors, chain);
+    unsafe { c::uyavsker_rank1_separable(shape, v.as_ptr(), v.len(), x.as_mut_ptr(), x.len()) }
+}
+
+pub fn inner_separable(shape: Shape, chain: &[f64], weights: &[f64]) -> Figure {
+    let (x, w) = (chain, weights);
+    unsafe { c::uyavsker_inner_separable(shape, x.as_ptr(), x.len(), w.as_ptr(), w.len()) }
+}
+
+pub fn tt_round(shape: Shape, eps: f64, chain: &mut [f64], scratch: &mut [f64]) -> Rounded {
+    let (x, s) = (chain, scratch);
+    unsafe { c::uyavsker_tt_round(shape, eps, x.as_mut_ptr(), x.len(), s.as_mut_ptr(), s.len()) }
+}
+
+pub fn step(
+    shape: Shape,
+    settings: Settings,
+    axes: Axes,
+    count: usize,
+    chain: &mut [f64],
+    scratch: &mut [f64],
+) -> Rounded {
+    let (x, s) = (chain, scratch);
+    unsafe {
+        c::uyavsker_step(
+            shape,
+            settings,
+            axes,
+            count,
+            x.as_mut_ptr(),
+            x.len(),
+            s.as_mut_ptr(),
+            s.len(),
+        )
+    }
+}
+
+pub fn evolve(
+    shape: Shape,
+    course: Course,
+    axes: Axes,
+    count: usize,
+    chain: &mut [f64],
+    scratch: &mut [f64],
+) -> Rounded {
+    let (x, s) = (chain, scratch);
+    unsafe {
+        c::uyavsker_evolve(
+            shape,
+            course,
+            axes,
+            count,
+            x.as_mut_ptr(),
+            x.len(),
+            s.as_mut_ptr(),
+            s.len(),
+        )
+    }
+}
+
+pub fn contract_and_split(
+    (left, right): (Sizes, Sizes),
+    eps: f64,
+    (left_core, right_core): (&[f64], &[f64]),
+    (left_out, right_out): (&mut [f64], &mut [f64]),
+    scratch: &mut [f64],
+) -> Paired {
+    unsafe {
+        c::uyavsker_contract_and_split(
+            left,
+            right,
+            eps,
+            left_core.as_ptr(),
+            left_core.len(),
+            right_core.as_ptr(),
+            right_core.len(),
+            left_out.as_mut_ptr(),
+            left_out.len(),
+            right_out.as_mut_ptr(),
+            right_out.len(),
+            scratch.as_mut_ptr(),
+            scratch.len(),
+        )
+    }
+}
+
+pub fn read_chain(bytes: &[u8], out: &mut [f64]) -> Formed {
+    unsafe { c::uyavsker_read_chain(bytes.as_ptr(), bytes.len(), out.as_mut_ptr(), out.len()) }
+}
+
+pub fn write_chain(shape: Shape, chain: &[f64], out: &mut [u8]) -> Refusal {
+    let x = chain;
+    unsafe { c::uyavsker_write_chain(shape, x.as_ptr(), x.len(), out.as_mut_ptr(), out.len()) }
+}
+
+pub fn text_of(bytes: &[u8], text: &mut [u8; TEXT]) -> usize {
+    unsafe { c::uyavsker_text_of(bytes.as_ptr(), bytes.len(), text.as_mut_ptr()) }
+}

@@ -1,0 +1,176 @@
+//! The sums done by hand, and refusals, through the wrapper.
+use uyavsker::*;
+
+const D: [f64; 6] = [3.0, 0.0, 0.0, 4.0, 1.0, 1.0];
+
+fn shape_of_d() -> Shape {
+    Shape::new(&[(1, 2, 2), (2, 1, 1)]).unwrap()
+}
+
+fn refusal(number: u8, place: usize) -> Refusal {
+    Refusal { number, place }
+}
+
+#[test]
+fn single_numbers() {
+    assert_eq!(root(2.0).to_bits(), 0x3FF6_A09E_667F_3BCD);
+    assert_eq!(root(2f64.powi(-208)), 2f64.powi(-104));
+    assert_eq!((floor(-0.25), magnitude(-3.5)), (-1.0, 3.5));
+}
+
+#[test]
+fn shapes_are_checked() {
+    let refused = |cores| Shape::new(cores).unwrap_err();
+    assert_eq!(refused(&[]), refusal(1, 0));
+    assert_eq!(refused(&[(1, 1, 1); 17]), refusal(1, 0));
+    assert_eq!(refused(&[(1, 2, 2), (2, 65, 1)]), refusal(2, 1));
+    assert_eq!(refused(&[(1, 2, 2), (3, 1, 1)]), refusal(3, 0));
+}
+
+#[test]
+fn a_shape_of_most_axes_keeps_every_size() {
+    let core = |k: usize| (1 + k % 8, 1 + k, 1 + (k + 1) % 8);
+    let cores: Vec<_> = (0..16).map(core).collect();
+    let shape = Shape::new(&cores).unwrap();
+    assert!(shape.cores().eq(cores));
+    assert_eq!((shape.axes(), shape.points()), (16, 136));
+}
+
+#[test]
+fn a_rounding() {
+    let shape = shape_of_d();
+    let mut chain = D;
+    let mut scratch = vec![7.5; shape.scratch()];
+    let rounded = tt_round(&shape, 0.0, &mut chain, &mut scratch).unwrap();
+    assert_eq!(chain, [0.0, 1.0, 1.0, 0.0, 4.0, 3.0]);
+    assert_eq!(
+        (rounded.sweeps(), rounded.settled()),
+        (&[0][..], &[true][..])
+    );
+    assert!(scratch.iter().all(|x| *x == 0.0));
+}
+
+#[test]
+fn a_rounding_that_cuts() {
+    let mut chain = Chain::new(shape_of_d(), D.to_vec()).unwrap();
+    let rounded = chain.round(0.75).unwrap();
+    assert_eq!(rounded.shape, Shape::new(&[(1, 2, 1), (1, 1, 1)]).unwrap());
+    assert_eq!(
+        (chain.shape(), chain.numbers()),
+        (&rounded.shape, &[0.0, 1.0, 4.0][..])
+    );
+}
+
+#[test]
+fn a_figure() {
+    let shape = shape_of_d();
+    assert_eq!(inner_separable(&shape, &D, &[1.0, 2.0, 1.0]), Ok(11.0));
+    let short = inner_separable(&shape, &D, &[1.0, 2.0]).unwrap_err();
+    assert_eq!(short, refusal(5, 1));
+    assert_eq!(short.to_string(), "refused 5 at 1: a lent length is wrong");
+}
+
+#[test]
+fn entries_of_cores() {
+    let chain = Chain::new(shape_of_d(), D.to_vec()).unwrap();
+    assert_eq!(chain.entry(0, (0, 1, 1)), Some(4.0));
+    assert_eq!(chain.entry(1, (1, 0, 0)), Some(1.0));
+    assert_eq!(
+        (chain.entry(0, (1, 0, 0)), chain.entry(2, (0, 0, 0))),
+        (None, None)
+    );
+}
+
+#[test]
+fn a_separable_start() {
+    let chain = Chain::separable(&[&[1.0, 2.0], &[3.0]]).unwrap();
+    assert_eq!(chain.shape(), &Shape::new(&[(1, 2, 1), (1, 1, 1)]).unwrap());
+    assert_eq!(chain.inner(&[1.0, 1.0, 1.0]), Ok(9.0));
+    let bad = Chain::separable(&[&[1.0], &[f64::NAN]]);
+    assert_eq!(bad, Err(refusal(6, 1)));
+}
+
+const AXIS: Axis = Axis {
+    a: 0.25,
+    b: 0.0,
+    xmin: 0.0,
+    xmax: 3.0,
+};
+
+#[test]
+fn a_step() {
+    let shape = Shape::new(&[(1, 4, 1)]).unwrap();
+    let settings = Settings {
+        tau: 1.0,
+        c: 0.0,
+        eps: 0.0,
+    };
+    let mut chain = [4.0, 8.0, 16.0, 0.0];
+    let mut scratch = vec![0.0; shape.scratch()];
+    step(&shape, &settings, &[AXIS], &mut chain, &mut scratch).unwrap();
+    assert_eq!(chain, [4.0, 9.0, 10.0, 5.0]);
+    let two = step(&shape, &settings, &[AXIS; 2], &mut chain, &mut scratch);
+    let many = step(&shape, &settings, &[AXIS; 17], &mut chain, &mut scratch);
+    assert_eq!((two, many), (Err(refusal(5, 0)), Err(refusal(5, 0))));
+}
+
+#[test]
+fn steps_of_a_course_are_single_steps() {
+    let shape = Shape::new(&[(1, 4, 1)]).unwrap();
+    let mut once = Chain::new(shape, vec![4.0, 8.0, 16.0, 0.0]).unwrap();
+    let mut twice = once.clone();
+    once.evolve(
+        &Course {
+            t_final: 2.0,
+            steps: 2,
+            c: 0.5,
+            eps: 0.0,
+        },
+        &[AXIS],
+    )
+    .unwrap();
+    let settings = Settings {
+        tau: 1.0,
+        c: 0.5,
+        eps: 0.0,
+    };
+    twice.step(&settings, &[AXIS]).unwrap();
+    twice.step(&settings, &[AXIS]).unwrap();
+    assert_eq!(once, twice);
+    let none = once.evolve(
+        &Course {
+            t_final: 2.0,
+            steps: 0,
+            c: 0.5,
+            eps: 0.0,
+        },
+        &[AXIS],
+    );
+    assert_eq!((none, once), (Err(refusal(7, 0)), twice));
+}
+
+#[test]
+fn a_pair() {
+    let (left, right) = ([0.0, 0.0, 0.0, 4.0], [1.0, 1.0]);
+    let sizes = [(1, 2, 2), (2, 1, 1)];
+    let (mut first, mut second) = ([7.5; 16], [7.5; 8]);
+    let mut scratch = vec![7.5; PAIR_SCRATCH];
+    let outputs = [&mut first[..], &mut second[..]];
+    let paired = contract_and_split(sizes, 0.0, [&left, &right], outputs, &mut scratch).unwrap();
+    assert_eq!(paired, Paired { rank: 1, passes: 1 });
+    assert_eq!([first[0] * second[0], first[1] * second[0]], [0.0, 4.0]);
+    assert!(first[2..].iter().chain(&second[1..]).all(|x| *x == 0.0));
+    let outputs = [&mut first[..], &mut second[1..]];
+    let short = contract_and_split(sizes, 0.0, [&left, &right], outputs, &mut scratch);
+    assert_eq!(short, Err(refusal(5, 3)));
+}
+
+#[test]
+fn a_file() {
+    let chain = Chain::new(shape_of_d(), D.to_vec()).unwrap();
+    let file = chain.write().unwrap();
+    assert_eq!(Chain::read(&file), Ok(chain));
+    assert_eq!(Chain::read(&file[1..]), Err(refusal(11, 0)));
+    assert_eq!(text_of(&file), "axes 2 entries 6\n0 1 2 2 32\n1 2 1 1 64\n");
+    assert_eq!(text_of(b"TTC1"), "refused 11 at 4\n");
+}

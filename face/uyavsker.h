@@ -1,0 +1,179 @@
+/* Zone chains: the proved numeric core of a district heating plan, for C.
+ *
+ * Link with libzones.a, which `rt staticlib zones` writes to target/staticlib (x86-64 Linux).
+ *
+ * Records go in and out by value; a slice is a pointer and how many elements it has. No pointer is null, each leads to as
+ * many elements as the length beside it says, and a slice that a call writes overlaps no other slice of that call. That is
+ * all that a call asks: whatever else it is given, it answers or refuses, and a refused call has written neither chain,
+ * run nor output. docs/CALLS.md states every call. */
+#ifndef UYAVSKER_H
+#define UYAVSKER_H
+
+#include <stdbool.h>
+#include <stddef.h>
+#include <stdint.h>
+
+#ifdef __cplusplus
+extern "C" {
+#endif
+
+#define UYAVSKER_MOST_AXES 16
+#define UYAVSKER_MOST_POINTS 64
+#define UYAVSKER_MOST_RANK 8
+#define UYAVSKER_MOST_STEPS 10000
+
+/* Numbers of scratch: for a chain of n numbers, and for a pair. */
+#define UYAVSKER_SCRATCH(n) (4 * (n) + 2048)
+#define UYAVSKER_PAIR_SCRATCH 20480
+
+/* Bytes of the text that a listing is put into. */
+#define UYAVSKER_TEXT 2048
+
+/* A refusal by its number in the scope's table and its place. Number 0 is none. */
+typedef struct {
+    uint8_t number;
+    size_t place;
+} uyavsker_refusal;
+
+/* ---- what goes into a call ---- */
+
+/* d cores; core k has the sizes left[k], n[k], right[k]. */
+typedef struct {
+    size_t d;
+    size_t left[UYAVSKER_MOST_AXES];
+    size_t n[UYAVSKER_MOST_AXES];
+    size_t right[UYAVSKER_MOST_AXES];
+} uyavsker_shape;
+
+/* The settings of one axis. */
+typedef struct {
+    double a;
+    double b;
+    double xmin;
+    double xmax;
+} uyavsker_axis;
+
+/* Room for the records of as many axes as a chain can have. */
+typedef struct {
+    uyavsker_axis axis[UYAVSKER_MOST_AXES];
+} uyavsker_axes;
+
+/* The lone settings of a step. */
+typedef struct {
+    double tau;
+    double c;
+    double eps;
+} uyavsker_settings;
+
+/* Steps one after another: how far, in how many, and the lone settings of each. */
+typedef struct {
+    double t_final;
+    size_t steps;
+    double c;
+    double eps;
+} uyavsker_course;
+
+/* The sizes of one core. */
+typedef struct {
+    size_t left;
+    size_t n;
+    size_t right;
+} uyavsker_sizes;
+
+/* ---- what a call answers ---- */
+
+/* The chain's shape at the end; for each of the d - 1 bonds the sweeps made, and whether the sum is below 1e-30 then. */
+typedef struct {
+    uyavsker_refusal refusal;
+    uyavsker_shape shape;
+    size_t sweeps[UYAVSKER_MOST_AXES];
+    bool settled[UYAVSKER_MOST_AXES];
+} uyavsker_rounded;
+
+/* The figure, +0 where it is refused. */
+typedef struct {
+    uyavsker_refusal refusal;
+    double value;
+} uyavsker_figure;
+
+/* The shape of the chain that a separable start makes, or that a file holds. */
+typedef struct {
+    uyavsker_refusal refusal;
+    uyavsker_shape shape;
+} uyavsker_formed;
+
+/* The rank that a pair keeps, and the passes made. */
+typedef struct {
+    uyavsker_refusal refusal;
+    size_t rank;
+    size_t passes;
+} uyavsker_paired;
+
+/* A number of a core, or +0 outside of it. */
+typedef struct {
+    bool inside;
+    double value;
+} uyavsker_seen;
+
+/* ---- single numbers ---- */
+
+double uyavsker_root(double x);
+double uyavsker_floor(double x);
+double uyavsker_magnitude(double x);
+
+/* ---- a chain ---- */
+
+/* The verdict on a shape: 1, 2, 3. */
+uyavsker_refusal uyavsker_shape_check(uyavsker_shape shape);
+
+/* Entry (il, im, ir) of core k. */
+uyavsker_seen uyavsker_entry_of(const double *chain, size_t chain_len, uyavsker_shape shape, size_t k,
+                                size_t il, size_t im, size_t ir);
+
+/* The separable start: reads d and n of the shape, and the vectors; the chain has as many numbers. */
+uyavsker_formed uyavsker_rank1_separable(uyavsker_shape shape, const double *vectors, size_t vectors_len,
+                                         double *chain, size_t chain_len);
+
+/* The figure: the inner product of a chain with its axes' weights. */
+uyavsker_figure uyavsker_inner_separable(uyavsker_shape shape, const double *chain, size_t chain_len,
+                                         const double *weights, size_t weights_len);
+
+/* Rounds a chain, which ends packed at the front of its slice, the rest +0. */
+uyavsker_rounded uyavsker_tt_round(uyavsker_shape shape, double eps, double *chain, size_t chain_len,
+                                   double *scratch, size_t scratch_len);
+
+/* ---- steps; the first `count` axis records are read, and count is d ---- */
+
+uyavsker_rounded uyavsker_step(uyavsker_shape shape, uyavsker_settings settings, uyavsker_axes axes, size_t count,
+                               double *chain, size_t chain_len, double *scratch, size_t scratch_len);
+
+uyavsker_rounded uyavsker_evolve(uyavsker_shape shape, uyavsker_course course, uyavsker_axes axes, size_t count,
+                                 double *chain, size_t chain_len, double *scratch, size_t scratch_len);
+
+/* ---- a pair: two neighbouring cores contracted and split again ---- */
+
+/* The outputs have room for left.left * left.n * 8 and 8 * right.n * right.right numbers. */
+uyavsker_paired uyavsker_contract_and_split(uyavsker_sizes left, uyavsker_sizes right, double eps,
+                                            const double *left_core, size_t left_core_len,
+                                            const double *right_core, size_t right_core_len,
+                                            double *left_out, size_t left_out_len,
+                                            double *right_out, size_t right_out_len,
+                                            double *scratch, size_t scratch_len);
+
+/* ---- chain files ---- */
+
+/* Reads a file into room for at least as many numbers as its chain has. */
+uyavsker_formed uyavsker_read_chain(const uint8_t *bytes, size_t bytes_len, double *out, size_t out_len);
+
+/* Writes the file, into exactly 8 + 12 * d bytes and 8 a number. */
+uyavsker_refusal uyavsker_write_chain(uyavsker_shape shape, const double *chain, size_t chain_len,
+                                      uint8_t *out, size_t out_len);
+
+/* The text that `ttlist` prints of a file, at the front of UYAVSKER_TEXT bytes; answers its length. */
+size_t uyavsker_text_of(const uint8_t *bytes, size_t bytes_len, uint8_t *text);
+
+#ifdef __cplusplus
+}
+#endif
+
+#endif
