@@ -1,0 +1,33 @@
+-- `drawing::plans::shape` meets its contract. Assumes nothing.
+use borrow.Author.Needs.{needs}
+use Prim.Native.Nat.{_-_}
+use mathlib.Core.Path.{_≡_}
+use lib.ListN.{length}
+use Rattle.shape.specs.Limits.{mostAxes}
+use Rattle.drawing.proofs.plans.shape.Statement.{statement}
+use Rattle.drawing.proofs.plans.shape.Tie as tie
+
+abbrev Inv-loop : tie.InvT-loop
+Inv-loop seed₀ d rank points left₀ n₀ right₀ last₀ k₀ seed left n right last k = (length left ≡ mostAxes) × (length n ≡ mostAxes) × (length right ≡ mostAxes)
+
+abbrev μ-loop : tie.MeasureT-loop
+μ-loop seed₀ d rank points left₀ n₀ right₀ last₀ k₀ seed left n right last k = mostAxes - k
+
+pub shape-spec : {M : Type 1} → statement M
+shape-spec = tie.close (tie.spec
+    Inv-loop
+    μ-loop
+    (λ c. search needs)
+    (λ c. search needs)
+    (λ c. search needs)
+    (λ c κs. search needs)
+    (λ c. search needs)
+    (λ c. search needs)
+    (λ c. search needs)
+    (λ c κs. search needs)
+    (λ c. search needs)
+    (λ c. search needs)
+    (λ c. search needs)
+    (λ c. search needs)
+    (λ c. search needs)
+    (λ c. search needs))
