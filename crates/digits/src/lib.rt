@@ -48,7 +48,7 @@ pub fn chance(x: f64) -> [u8; 8]
 }
 
 // The bits of x; one pattern stands for every NaN.
-fn pattern(x: f64) -> u64
+pub fn pattern(x: f64) -> u64
     ensures { λ r. ⌜ r ≡ toBits binary64 x ⌝ }
 {
     if x != x {
