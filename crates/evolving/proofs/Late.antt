@@ -19,7 +19,7 @@ use Rattle.axes.specs.declared.Axis.{Axis}
 use Rattle.shift.specs.declared.Shift.{Shift}
 use Rattle.shift.specs.declared.Shift.the-variants.{Stay, By}
 use Rattle.shift.specs.Shifts.{shiftOf, shifted, moveCore, scaled}
-use Rattle.cutting.specs.Rounding.{none, coresIn}
+use Rattle.cutting.specs.Rounding.{Carry, none, coresIn}
 use Rattle.rounding.proofs.Ends.{late-rounding}
 use Rattle.stepping.specs.declared.Settings.{Settings}
 use Rattle.stepping.specs.Zones.{Zone, zonesOf, rules}
@@ -28,14 +28,14 @@ use Rattle.stepping.specs.Steps.{holding, shiftZone, scaleZone, roundZone, step
 abbrev pub Late : {A : Type 0} → Answer A → Type 0
 Late o = (q : Refusal) → o ≡ refused q → beforeWork q ≡ false
 
-late-done : {A : Type 0} (a : A) → Late (done a)
+pub late-done : {A : Type 0} (a : A) → Late (done a)
 late-done a q e = absurd (done-refused e)
 
-late-making : {A : Type 0} (p : Part) (k : ℕ) (m : Made A) → Late (making p k m)
+pub late-making : {A : Type 0} (p : Part) (k : ℕ) (m : Made A) → Late (making p k m)
 late-making p k (done a) q e = absurd (done-refused e)
 late-making p k (refused i) q e = ap beforeWork (sym (refused-inj e))
 
-late-bind : {A B : Type 0} (o : Answer A) (f : A → Answer B) → Late o → ((a : A) → Late (f a)) → Late (bind o f)
+pub late-bind : {A B : Type 0} (o : Answer A) (f : A → Answer B) → Late o → ((a : A) → Late (f a)) → Late (bind o f)
 late-bind (done a) f h g = g a
 late-bind (refused r) f h g = λ q e. ap beforeWork (sym (refused-inj e)) ∙ h r refl
 
@@ -62,12 +62,17 @@ module _ (t : Settings) where
   late-scale (suc k) c = late-done c
 
   -- ---- steps
+  -- from zone k on
+  pub late-from : (d k : ℕ) (s : Carry) (zs : List Zone) → Late (stepFrom rules t d k s zs)
+  unfolding stepFrom roundZone rules
+  late-from d k s zs =
+      late-bind (every (shiftZone rules t) k zs) _ (late-every (shiftZone rules t) late-shift k zs) (λ a.
+      late-bind (every (scaleZone rules t) k a) _ (late-every (scaleZone rules t) late-scale k a) (λ b.
+      λ q e. late-rounding (t .eps) d k s b q e))
+
   late-step : (xs : List Axis) (cs : List Core) → Late (step t xs cs)
-  unfolding step stepFrom roundZone rules
-  late-step xs cs =
-      late-bind (every (shiftZone rules t) 0 (zonesOf xs 0 cs)) _ (late-every (shiftZone rules t) late-shift 0 (zonesOf xs 0 cs)) (λ a.
-      late-bind (every (scaleZone rules t) 0 a) _ (late-every (scaleZone rules t) late-scale 0 a) (λ b.
-      λ q e. late-rounding (t .eps) (length cs) 0 none b q e))
+  unfolding step
+  late-step xs cs = late-from (length cs) 0 none (zonesOf xs 0 cs)
 
   pub late-steps : (m : ℕ) (xs : List Axis) (cs : List Core) → Late (stepsAndOne m t xs cs)
   unfolding stepsAndOne

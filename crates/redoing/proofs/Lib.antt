@@ -5,3 +5,6 @@ pub mod Ranks
 pub mod Again
 -- and the sums after it
 pub mod Work
+-- a run's own work by that of the memory that a call works in
+pub mod Late
+pub mod Over

@@ -1,18 +1,19 @@
 -- The work from zone z on as memory has it: the sources of the zones from z on stand in the slots that take what is made of them. Definitions for code only.
 use mathlib.Core.Path.{_≡_}
-use Prim.Native.Nat.{ℕ, suc, _-_, _≤_, _<_}
+use Prim.Native.Nat.{ℕ, zero, suc, _-_, _≤_, _<_}
 use mathlib.Core.Bool.{true}
-use mathlib.Core.List.{List}
-use lib.ListN.{length, getD}
+use mathlib.Core.List.{List, _++_}
+use lib.ListN.{length, take, drop, getD}
 use lib.Ieee.{Float}
 use Rattle.answers.specs.declared.Verdict.the-variants.{Fits}
 use Rattle.answers.specs.Outcome.{done}
-use Rattle.lists.specs.Slots.{offset}
+use Rattle.lists.specs.Slots.{offset, slot}
 use Rattle.lists.specs.Floats.{at}
 use Rattle.shape.specs.declared.Shape.{Shape}
-use Rattle.shape.specs.Shapes.{rightOf, chainOk, entriesOf, allPoints}
+use Rattle.shape.specs.Shapes.{rightOf, chainOk, coreSize, entriesOf, allPoints}
 use Rattle.axes.specs.declared.Axis.{Axis}
 use Rattle.walking.specs.declared.Walked.{Walked}
+use Rattle.walking.specs.Keeping.{Stepped, carrySize}
 use Rattle.walking.specs.Slots.{heldBy}
 use Rattle.summing.specs.Sums.{sumSize}
 use Rattle.stepping.specs.declared.Settings.{Settings}
@@ -49,3 +50,32 @@ pub record Steps (z : ℕ) (w : Walked) (set : Settings) (xs : List Axis) (work 
 pub record Sums (s : Shape) (weights sums : List Float) : Type 0 where
   pub points : allPoints s ≤ length weights
   pub summed : allSums s ≤ length sums
+
+-- ---- the memory that a call works in, for a run with inputs i that keeps h and u
+-- in the slot left of zone z l' holds what l does
+abbrev pub Beside : (ℕ → ℕ) → ℕ → List Float → List Float → Type 0
+Beside size zero l l' = Unit {0}
+Beside size (suc k) l l' = slot size k l' ≡ slot size k l
+
+pub record Memory (i : Inputs) (h : Stepped) (u : Summed) (z : ℕ) (work carries sums : List Float) : Type 0 where
+  pub sources : (k : ℕ) → z ≤ k → k < i .shape .d → slot (coreSize (i .shape)) k work ≡ slot (coreSize (i .shape)) k (i .source)
+  pub carry : Beside (carrySize (i .shape)) z (h .carries) carries
+  pub sum : Beside (sumSize (i .shape)) z (u .sums) sums
+  pub cores : entriesOf (i .shape) ≤ length work
+  pub carried : allCarries (i .shape) ≤ length carries
+  pub summed : allSums (i .shape) ≤ length sums
+  pub chain-long : length (h .chain) ≡ entriesOf (i .shape)
+  pub carries-long : length (h .carries) ≡ allCarries (i .shape)
+  pub sums-long : length (u .sums) ≡ allSums (i .shape)
+
+-- ---- what is committed
+-- l with what w holds from place `at` on
+abbrev pub over : ℕ → List Float → List Float → List Float
+over at l w = take at l ++ drop at (take (length l) w)
+
+-- what a run kept, with what the work t left of each zone from one on: its core stands at a, its carry at b; its sums at c
+abbrev pub steppedOver : ℕ → ℕ → Stepped → Stepped → Stepped
+steppedOver a b h t = record { ranks = t .ranks; sweeps = t .sweeps; settled = t .settled; chain = over a (h .chain) (t .chain); carries = over b (h .carries) (t .carries) }
+
+abbrev pub summedOver : Shape → ℕ → List Float → List Float → Summed
+summedOver s c sums sums' = record { sums = over c sums sums'; figure = at sums' (offset (sumSize s) (s .d - 1)) }

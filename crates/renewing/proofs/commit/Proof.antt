@@ -1,0 +1,42 @@
+-- `renewing::commit` meets its contract. Assumes nothing.
+use borrow.Author.Needs.{needs}
+use mathlib.Core.Path.{ap}
+use Rattle.lists.specs.Floats.{at}
+use Rattle.renewing.proofs.Taken.{slot-starts, over-at, last-within, last-fits}
+use Rattle.renewing.proofs.commit.Statement.{statement}
+use Rattle.renewing.proofs.commit.Tie as tie
+
+copy-from-requires : tie.Need-copy-from-requires
+copy-from-requires c κs = (slot-starts _ _ _ (c .before .before .before .before .before .before .before .before .before .before .pre .0 .1) _ (c .before .before .before .offset .ensures) _ (c .before .before .before .before .before .before .before .before .before .before .pre .1 .0 .0), c .before .before .before .before .before .before .before .before .before .before .pre .1 .1 .0)
+
+copy-from-requires-2 : tie.Need-copy-from-requires-2
+copy-from-requires-2 c κs = (slot-starts _ _ _ (c .before .before .before .before .before .before .before .before .before .before .before .before .before .before .pre .0 .1) _ (c .before .before .before .before .before .before .carry-offset .ensures) _ (c .before .before .before .before .before .before .before .before .before .before .before .before .before .before .pre .1 .0 .1), c .before .before .before .before .before .before .before .before .before .before .before .before .before .before .pre .1 .1 .1)
+
+copy-from-requires-3 : tie.Need-copy-from-requires-3
+copy-from-requires-3 c κs = (slot-starts _ _ _ (c .before .before .before .before .before .before .before .before .before .before .before .before .before .before .before .before .before .before .pre .0 .1) _ (c .before .before .before .before .before .before .before .before .before .sum-offset .ensures) _ (c .before .before .before .before .before .before .before .before .before .before .before .before .before .before .before .before .before .before .pre .1 .0 .2), c .before .before .before .before .before .before .before .before .before .before .before .before .before .before .before .before .before .before .pre .1 .1 .2)
+
+mul-result : tie.Need-mul-result
+mul-result c = last-fits _ (c .before .before .before .before .before .before .before .before .before .before .before .before .before .before .before .before .before .before .before .before .before .before .before .pre .0 .0) _ (c .sum-offset2 .ensures) _ _ (c .before .before .before .before .before .before .before .before .before .before .before .before .before .before .before .before .before .before .before .before .before .before .before .pre .1 .0 .2) (c .before .before .before .before .before .before .before .before .before .before .before .before .before .before .before .before .before .before .before .before .before .before .before .pre .1 .1 .2)
+
+shared-slice-read-result : tie.Need-shared-slice-read-result
+shared-slice-read-result c = last-within _ (c .before .before .before .before .before .before .before .before .before .before .before .before .before .before .before .before .before .before .before .before .before .before .before .before .pre .0 .0) _ (c .before .sum-offset2 .ensures) _ _ (c .before .before .before .before .before .before .before .before .before .before .before .before .before .before .before .before .before .before .before .before .before .before .before .before .pre .1 .0 .2) (c .before .before .before .before .before .before .before .before .before .before .before .before .before .before .before .before .before .before .before .before .before .before .before .before .pre .1 .1 .2)
+
+returns : tie.Need-returns
+returns c = (ap (at (c .before .before .before .before .before .before .before .before .before .before .before .before .before .before .before .before .before .before .before .before .before .before .before .before .args .summed .now)) (c .before .sum-offset2 .ensures), over-at _ _ (c .before .before .before .before .before .before .before .before .before .before .before .before .before .before .before .before .before .offset .ensures) _ _ _ (c .before .before .before .before .before .before .before .before .before .before .before .before .before .copy-from .ensures), over-at _ _ (c .before .before .before .before .before .before .before .before .before .before .before .before .before .before .before .before .carry-offset .ensures) _ _ _ (c .before .before .before .before .before .before .before .before .before .copy-from2 .ensures), over-at _ _ (c .before .before .before .before .before .before .before .before .before .before .before .before .before .before .before .sum-offset .ensures) _ _ _ (c .before .before .before .before .before .copy-from3 .ensures))
+
+pub commit-spec : {M : Type 1} → statement M
+commit-spec = tie.close (tie.spec
+    (λ c κs. search needs)
+    (λ c κs. search needs)
+    (λ c κs. search needs)
+    copy-from-requires
+    copy-from-requires-2
+    copy-from-requires-3
+    (λ c. search needs)
+    (λ c κs. search needs)
+    mul-result
+    shared-slice-read-result
+    (λ c. search needs)
+    (λ c. search needs)
+    (λ c. search needs)
+    returns)

@@ -1,0 +1,19 @@
+-- `renewing::renew` meets its contract. Assumes nothing.
+use borrow.Author.Needs.{needs}
+use mathlib.Core.Path.{ap, _∙_}
+use Rattle.lists.specs.Floats.{zeros}
+use Rattle.renewing.proofs.renew.Statement.{statement}
+use Rattle.renewing.proofs.renew.Tie as tie
+
+returns : tie.Need-returns
+returns c = (c .before .before .before .before .before .before .before .before .before .before .before .before .worked .ensures, c .before .before .fill .ensures ∙ ap zeros (c .before .before .before .before .before .before .before .before .before .before .before .before .worked .kept .1 .1 .1 .1 .1 .1 .0))
+
+pub renew-spec : {M : Type 1} → statement M
+renew-spec = tie.close (tie.spec
+    (λ c κs. search needs)
+    (λ c κs. search needs)
+    (λ c. search needs)
+    (λ c. search needs)
+    (λ c. search needs)
+    (λ c. search needs)
+    returns)

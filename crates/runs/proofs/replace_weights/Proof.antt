@@ -1,0 +1,34 @@
+-- `runs::replace_weights` meets its contract. Assumes nothing.
+use borrow.Author.Needs.{needs}
+use mathlib.Core.Path.{refl}
+use Rattle.kept.specs.Kept.{keptOf}
+use Rattle.kept.specs.Requests.{newWeights}
+use Rattle.runs.proofs.Replaced.{replace-stops}
+use Rattle.runs.proofs.Resummed.{weights-lent, weights-worked}
+use Rattle.runs.proofs.replace_weights.Statement.{statement}
+use Rattle.runs.proofs.replace_weights.Tie as tie
+
+returns : tie.Need-returns
+returns c = let i = c .before .before .before .before .before .before .before .before .before .before .before .before .before .before in replace-stops (keptOf (i .args .r) (i .args .source .now) (i .args .weights .now) (i .args .chain .now) (i .args .carries .now) (i .args .sums .now)) (newWeights (i .args .z) (i .args .part .now)) (i .args .scratch .now) _ (c .before .before .before .before .weights-ok .ensures) _ (c .before .before .ok .given .1) _ (c .refused .ensures)
+
+resummed-requires : tie.Need-resummed-requires
+resummed-requires c κs = let i = c .before .before .before .before .before .before .before .before .before .before .before .before .before .before in weights-lent (i .args .r) (i .args .z) (i .args .source .now) (i .args .weights .now) (i .args .chain .now) (i .args .carries .now) (i .args .sums .now) (i .args .part .now) (i .args .scratch .now) _ (c .before .before .before .before .weights-ok .ensures) (c .before .before .enum-told .given .1)
+
+returns-2 : tie.Need-returns-2
+returns-2 c = let i = c .before .before .before .before .before .before .before .before .before .before .before .before .before .before .before .before .before .before .before .before .before .before .before in weights-worked (i .args .r) (i .args .z) (i .args .source .now) (i .args .weights .now) (i .args .chain .now) (i .args .carries .now) (i .args .sums .now) (i .args .part .now) (i .args .scratch .now) _ (c .before .before .before .before .before .before .before .before .before .before .before .before .before .weights-ok .ensures) (c .before .before .before .before .before .before .before .before .before .before .before .enum-told .given .1) _ _ _ _ _ (c .before .before .before .before .before .before .before .before .resummed .ensures (i .args .source .now) (i .args .carries .now) (i .args .scratch .now)) (c .before .before .fill .ensures) refl
+
+pub replace-weights-spec : {M : Type 1} → statement M
+replace-weights-spec = tie.close (tie.spec
+    (λ c κs. search needs)
+    (λ c. search needs)
+    (λ c κs. search needs)
+    (λ c. search needs)
+    (λ c. search needs)
+    returns
+    (λ c. search needs)
+    resummed-requires
+    (λ c κs. search needs)
+    (λ c. search needs)
+    (λ c. search needs)
+    (λ c. search needs)
+    returns-2)

@@ -1,0 +1,2 @@
+-- what the functions cite
+pub mod Weights
