@@ -1,2 +1,3 @@
 -- what the functions cite
 pub mod Weights
+pub mod Ended

@@ -1,18 +1,151 @@
 // A kept run: the fresh one, and the replacement of one zone's core, weights or axis record.
 ghost use mathlib.Core.Path.{_≡_};
-ghost use Rattle.answers.specs.declared.Verdict.the-variants.{Refused};
-ghost use Rattle.kept.specs.Call.{replaceWeightsCall};
+ghost use Prim.Native.Nat.{_<_};
+ghost use Rattle.shape.specs.Limits.{mostAxes};
+ghost use Rattle.kept.specs.Call.{freshCall, replaceCoreCall, replaceAxisCall, replaceWeightsCall};
+ghost use Rattle.runs.specs.Ended.{blankRun, axisRun};
 
 mod weights;
 
-// A refusal leaves the run as it was.
-fn refused(q: answers::Refusal, r: kept::Run) -> kept::Ran
-    ensures { λ a. ⌜ a ≡ record { verdict = Refused q; run = r } ⌝ }
+// A run that keeps nothing yet.
+fn blank_run(
+    s: shape::Shape,
+    xs: [axes::Axis; shape::MOST_AXES],
+    set: stepping::Settings,
+) -> kept::Run
+    ensures { λ r. ⌜ r ≡ blankRun s xs set ⌝ }
 {
-    kept::Ran {
-        verdict: answers::Verdict::Refused(q),
-        run: r,
+    kept::Run {
+        shape: s,
+        axes: xs,
+        set,
+        ranks: [0; shape::MOST_AXES],
+        sweeps: [0; shape::MOST_AXES],
+        settled: [false; shape::MOST_AXES],
+        figure: 0.0,
     }
+}
+
+// A fresh run: one step of the source, then its inner product with the weights.
+pub fn fresh_run(
+    s: shape::Shape,
+    xs: [axes::Axis; shape::MOST_AXES],
+    set: stepping::Settings,
+    source: &[f64],
+    weights: &[f64],
+    chain: &mut [f64],
+    carries: &mut [f64],
+    sums: &mut [f64],
+    scratch: &mut [f64],
+) -> kept::Ran
+    ensures { λ a. ⌜ record { result = a; chain = now (chain .exit); carries = now (carries .exit); sums = now (sums .exit); scratch = now (scratch .exit) } ≡ freshCall s xs set (now (source .entry)) (now (weights .entry)) (now (chain .entry)) (now (carries .entry)) (now (sums .entry)) (now (scratch .entry)) ⌝ }
+{
+    let r = blank_run(s, xs, set);
+    let ok = admitting::checks::fresh_ok(
+        s,
+        xs,
+        set,
+        source,
+        weights,
+        chain.len(),
+        carries.len(),
+        sums.len(),
+        scratch.len(),
+    );
+    if let answers::Verdict::Refused(q) = ok {
+        return renewing::refused(q, r);
+    }
+    renewing::take_sources(0, s, source, scratch);
+    renewing::renew(0, r, weights, chain, carries, sums, scratch)
+}
+
+// A new core for zone z: the step and the sums from z on are made anew.
+pub fn replace_core(
+    r: kept::Run,
+    z: usize,
+    source: &mut [f64],
+    weights: &[f64],
+    chain: &mut [f64],
+    carries: &mut [f64],
+    sums: &mut [f64],
+    part: &[f64],
+    scratch: &mut [f64],
+) -> kept::Ran
+    ensures { λ a. ⌜ record { result = a; source = now (source .exit); weights = now (weights .entry); chain = now (chain .exit); carries = now (carries .exit); sums = now (sums .exit); scratch = now (scratch .exit) } ≡ replaceCoreCall r z (now (source .entry)) (now (weights .entry)) (now (chain .entry)) (now (carries .entry)) (now (sums .entry)) (now (part .entry)) (now (scratch .entry)) ⌝ }
+{
+    let ok = admitting::checks::core_ok(
+        r,
+        z,
+        source,
+        weights,
+        chain,
+        carries,
+        sums,
+        part,
+        scratch.len(),
+    );
+    if let answers::Verdict::Refused(q) = ok {
+        return renewing::refused(q, r);
+    }
+    let s = r.shape;
+    renewing::take_core(z, s, source, part, scratch);
+    let ran = renewing::renew(z, r, weights, chain, carries, sums, scratch);
+    let verdict = ran.verdict;
+    if let answers::Verdict::Refused(q) = verdict {
+        return ran;
+    }
+    renewing::put_core(z, s, part, source);
+    ran
+}
+
+// The run with a new record for axis z.
+fn with_axis(mut r: kept::Run, z: usize, x: axes::Axis) -> kept::Run
+    requires { ⌜ z < mostAxes ⌝ }
+    ensures { λ a. ⌜ a ≡ axisRun r z x ⌝ }
+{
+    let mut xs = r.axes;
+    xs[z] = x;
+    r.axes = xs;
+    r
+}
+
+// A new axis record for zone z: the step and the sums from z on are made anew.
+pub fn replace_axis(
+    r: kept::Run,
+    z: usize,
+    x: axes::Axis,
+    source: &[f64],
+    weights: &[f64],
+    chain: &mut [f64],
+    carries: &mut [f64],
+    sums: &mut [f64],
+    scratch: &mut [f64],
+) -> kept::Ran
+    ensures { λ a. ⌜ record { result = a; source = now (source .entry); weights = now (weights .entry); chain = now (chain .exit); carries = now (carries .exit); sums = now (sums .exit); scratch = now (scratch .exit) } ≡ replaceAxisCall r z x (now (source .entry)) (now (weights .entry)) (now (chain .entry)) (now (carries .entry)) (now (sums .entry)) (now (scratch .entry)) ⌝ }
+{
+    let ok = admitting::checks::axis_ok(
+        r,
+        z,
+        x,
+        source,
+        weights,
+        chain,
+        carries,
+        sums,
+        scratch.len(),
+    );
+    if let answers::Verdict::Refused(q) = ok {
+        return renewing::refused(q, r);
+    }
+    let s = r.shape;
+    renewing::take_sources(z, s, source, scratch);
+    let anew = with_axis(r, z, x);
+    let ran = renewing::renew(z, anew, weights, chain, carries, sums, scratch);
+    let verdict = ran.verdict;
+    if let answers::Verdict::Refused(q) = verdict {
+        return renewing::refused(q, r);
+    }
+    ran
 }
 
 // New weights for zone z: the sums from z on and the figure are made anew, and nothing is rounded.
@@ -41,7 +174,7 @@ pub fn replace_weights(
         scratch.len(),
     );
     if let answers::Verdict::Refused(q) = ok {
-        return refused(q, r);
+        return renewing::refused(q, r);
     }
     let ran = weights::resummed(r, z, weights, chain, sums, part);
     lists::fill(scratch, 0.0);

@@ -104,7 +104,7 @@ pub fn resummed(
     let mut held = [0.0; SUMS];
     let made = sums_anew(z, s, t, chain, weights, part, sums, &mut held);
     if let answers::Verdict::Refused(q) = made {
-        return super::refused(q, r);
+        return renewing::refused(q, r);
     }
     let figure = commit(s, z, part, &held, weights, sums);
     fitted(r, figure)

@@ -1,0 +1,19 @@
+-- The records of runs that a fresh run and a new axis record begin with. Definitions for code only.
+use Prim.Native.Nat.{ℕ}
+use mathlib.Core.Bool.{false}
+use mathlib.Core.List.{List}
+use lib.ListN.{replicate, set}
+use Rattle.numbers.specs.Arithmetic.{zero64}
+use Rattle.shape.specs.declared.Shape.{Shape}
+use Rattle.shape.specs.Limits.{mostAxes}
+use Rattle.axes.specs.declared.Axis.{Axis}
+use Rattle.stepping.specs.declared.Settings.{Settings}
+use Rattle.kept.specs.declared.Run.{Run}
+
+-- it keeps nothing yet
+abbrev pub blankRun : Shape → List Axis → Settings → Run
+blankRun s xs t = record { shape = s; axes = xs; set = t; ranks = replicate mostAxes 0; sweeps = replicate mostAxes 0; settled = replicate mostAxes false; figure = zero64 }
+
+-- with a new record for axis z
+abbrev pub axisRun : Run → ℕ → Axis → Run
+axisRun r z x = record { shape = r .shape; axes = set (r .axes) z x; set = r .set; ranks = r .ranks; sweeps = r .sweeps; settled = r .settled; figure = r .figure }
