@@ -55,11 +55,15 @@ fn morning() -> State {
         b"A heating plan of five zones in a row. A zone's load is one of a few points, and the weather ties\n",
     );
     say(
-        b"it to its neighbours. A weight is 1 where a load is within the pipe's limit, and less where it is\n",
+        b"it to its neighbours: a rank counts the kinds of weather told apart, a kept rank those that rounding\n",
     );
     say(
-        b"not. The figure is the chance that every zone is within its limit, a quarter of an hour on.\n\n",
+        b"leaves; sweeps are the work of that, until it is settled. A weight is 1 where a load is within the\n",
     );
+    say(
+        b"pipe's limit, and less where it is not. The figure is the chance that every zone is within its\n",
+    );
+    say(b"limit, a quarter of an hour on.\n\n");
     say(b"The fresh run:\n");
     let a = plans::fresh(inputs::plan());
     told(true, a, b"cores, carries and sums", 0)
@@ -103,6 +107,7 @@ fn main() {
     let d = insulated(c, inputs::slip());
     say(b"The same with a = 0.01: insulation, the loads spread less.\n");
     let e = insulated(d, inputs::insulated());
+    say(b"At the end of the day:\n\n");
     show(e);
     say(b"Every run had the bits of a fresh run: ");
     printing::yes(e.same);

@@ -20,7 +20,9 @@ pub fn reason(number: u8) {
     match number {
         1 => super::say(b"d outside its limits"),
         2 => super::say(b"a size outside its limits"),
-        3 => super::say(b"neighbours' ranks differ, or a kept rank is outside its limits"),
+        3 => super::say(
+            b"neighbours' ranks differ, an end rank of a chain isn't 1, or a run's kept rank is 0 or above its source's",
+        ),
         _ => of_request(number),
     }
 }
