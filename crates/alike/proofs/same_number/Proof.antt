@@ -13,9 +13,10 @@ returns : tie.Need-returns
 returns c =
     let i = c .before .before in
     let p = c .before .bits .ensures in
-    let q = c .bits2 .ensures in
-    ((λ e. one-number (i .args .x) (i .args .y) (passes _ (i .good .0 .1)) (passes _ (i .good .1 .0 .1)) (sym p ∙ eqb-is (c .before .bits .result) (c .bits2 .result) e ∙ q)),
-    (λ e. eq-eqb (c .before .bits .result) (c .bits2 .result) (p ∙ ap (toBits binary64) e ∙ sym q)))
+    let q = c .bits2 .ensures in (
+      (λ e. one-number (i .args .x) (i .args .y) (passes _ (i .good .0 .1)) (passes _ (i .good .1 .0 .1)) (sym p ∙ eqb-is (c .before .bits .result) (c .bits2 .result) e ∙ q)),
+      (λ e. eq-eqb (c .before .bits .result) (c .bits2 .result) (p ∙ ap (toBits binary64) e ∙ sym q)),
+    )
 
 pub same-number-spec : {M : Type 1} → statement M
 same-number-spec = tie.close (tie.spec (λ c κs. search needs) (λ c κs. search needs) returns)
