@@ -1,8 +1,8 @@
 //! The Rust's calls, stage by stage, so that what the port refuses is seen. The end is held to the Rust's whole call.
 use crate::counted::{all_finite, gram_ev, same, sweep_all};
-use oracle::tt_chernoff::{self, TtChernoff, TtState};
-use oracle::tt_core::{self, TtCore};
-use oracle::{tt_coupled_pair, tt_dense_expm};
+use crate::tt_chernoff::{self, TtChernoff, TtState};
+use crate::tt_core::{self, TtCore};
+use crate::{tt_coupled_pair, tt_dense_expm};
 
 /// Why the port refuses, with the place.
 pub enum Refused {

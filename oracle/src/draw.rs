@@ -1,6 +1,6 @@
 //! What cases are made of: sizes, cores of several manners, chains, settings and axis records.
 use crate::random::{ten_to, Random};
-use oracle::tt_core::TtCore;
+use crate::tt_core::TtCore;
 
 /// The most that a case may have of each.
 pub struct Most {

@@ -3,8 +3,8 @@ use crate::calls::{self, Bonds, Refused};
 use crate::draw::{self, Axis, Most};
 use crate::line::Line;
 use crate::random::Random;
-use oracle::tt_chernoff::{cubic_band_weights, TtChernoff, TtState};
-use oracle::tt_core::TtCore;
+use crate::tt_chernoff::{cubic_band_weights, TtChernoff, TtState};
+use crate::tt_core::TtCore;
 
 /// A kind's name, and the function that draws a case of it.
 pub const KINDS: [(&str, fn(&mut Random, &Most, &mut Line)); 9] = [
