@@ -7,6 +7,7 @@ pub mod float;
 pub mod kinds;
 pub mod line;
 pub mod random;
+pub mod rules;
 #[path = "../semiflow/tt_chernoff.rs"]
 pub mod tt_chernoff;
 #[path = "../semiflow/tt_core.rs"]
