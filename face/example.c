@@ -1,4 +1,4 @@
-/* A plan of two zones: its figure, its rounding, a step, its file, and a refusal. */
+/* A plan of two zones: its figure, its file and its rounding; of one zone: a step, and a run with new weights. */
 #include "uyavsker.h"
 
 #include <stdio.h>
@@ -44,15 +44,36 @@ static void print_file(uyavsker_shape shape, const double *chain)
         print_numbers("read", read, ENTRIES);
 }
 
+static const uyavsker_shape one_zone = {.d = 1, .left = {1}, .n = {4}, .right = {1}};
+static const uyavsker_settings settings = {.tau = 1, .c = 0, .eps = 0};
+static const uyavsker_axes axes = {.axis = {{.a = 0.25, .b = 0, .xmin = 0, .xmax = 3}}};
+
 static void print_step(void)
 {
-    uyavsker_shape shape = {.d = 1, .left = {1}, .n = {4}, .right = {1}};
-    uyavsker_settings settings = {.tau = 1, .c = 0, .eps = 0};
-    uyavsker_axes axes = {.axis = {{.a = 0.25, .b = 0, .xmin = 0, .xmax = 3}}};
     double chain[] = {4, 8, 16, 0};
     double scratch[UYAVSKER_SCRATCH(4)];
-    if (!refused(uyavsker_step(shape, settings, axes, 1, chain, 4, scratch, UYAVSKER_SCRATCH(4)).refusal))
+    if (!refused(uyavsker_step(one_zone, settings, axes, 1, chain, 4, scratch, UYAVSKER_SCRATCH(4)).refusal))
         print_numbers("stepped", chain, 4);
+}
+
+static void print_run(void)
+{
+    const double source[] = {4, 8, 16, 0};
+    const double part[] = {1, 2, 1, 1};
+    double weights[] = {1, 1, 1, 1};
+    double chain[4], carries[1], sums[1];
+    double scratch[UYAVSKER_SCRATCH(4)];
+    uyavsker_ran ran = uyavsker_fresh_run(one_zone, axes, settings, source, 4, weights, 4, chain, 4, carries, 0,
+                                          sums, 1, scratch, UYAVSKER_SCRATCH(4));
+    if (refused(ran.refusal))
+        return;
+    printf("run %g\n", ran.run.figure);
+    ran = uyavsker_replace_weights(ran.run, 0, source, 4, weights, 4, chain, 4, carries, 0, sums, 1, part, 4,
+                                   scratch, UYAVSKER_SCRATCH(4));
+    if (!refused(ran.refusal))
+        printf("new weights %g\n", ran.run.figure);
+    refused(uyavsker_replace_weights(ran.run, 1, source, 4, weights, 4, chain, 4, carries, 0, sums, 1, part, 4,
+                                     scratch, UYAVSKER_SCRATCH(4)).refusal);
 }
 
 int main(void)
@@ -70,5 +91,6 @@ int main(void)
     printf("sweeps %zu, settled %s\n", rounded.sweeps[0], rounded.settled[0] ? "yes" : "no");
     print_figure(rounded.shape, chain);
     print_step();
+    print_run();
     return 0;
 }

@@ -61,3 +61,16 @@ AT(uyavsker_paired, passes, 24);
 SIZE(uyavsker_seen, 16);
 AT(uyavsker_seen, inside, 0);
 AT(uyavsker_seen, value, 8);
+
+SIZE(uyavsker_run, 1208);
+AT(uyavsker_run, shape, 0);
+AT(uyavsker_run, axes, 392);
+AT(uyavsker_run, settings, 904);
+AT(uyavsker_run, ranks, 928);
+AT(uyavsker_run, sweeps, 1056);
+AT(uyavsker_run, settled, 1184);
+AT(uyavsker_run, figure, 1200);
+
+SIZE(uyavsker_ran, 1224);
+AT(uyavsker_ran, refusal, 0);
+AT(uyavsker_ran, run, 16);

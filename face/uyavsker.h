@@ -115,6 +115,23 @@ typedef struct {
     double value;
 } uyavsker_seen;
 
+/* A kept run but for its five slices: what it is made from; for bond k the kept rank, the sweeps made and whether the sum is
+ * below 1e-30 at the end; the figure. `settled` holds nothing but true and false. */
+typedef struct {
+    uyavsker_shape shape;
+    uyavsker_axis axes[UYAVSKER_MOST_AXES];
+    uyavsker_settings settings;
+    size_t ranks[UYAVSKER_MOST_AXES];
+    size_t sweeps[UYAVSKER_MOST_AXES];
+    bool settled[UYAVSKER_MOST_AXES];
+    double figure;
+} uyavsker_run;
+
+typedef struct {
+    uyavsker_refusal refusal;
+    uyavsker_run run;
+} uyavsker_ran;
+
 /* ---- single numbers ---- */
 
 double uyavsker_root(double x);
@@ -149,6 +166,34 @@ uyavsker_rounded uyavsker_step(uyavsker_shape shape, uyavsker_settings settings,
 
 uyavsker_rounded uyavsker_evolve(uyavsker_shape shape, uyavsker_course course, uyavsker_axes axes, size_t count,
                                  double *chain, size_t chain_len, double *scratch, size_t scratch_len);
+
+/* ---- kept runs ----
+ *
+ * The slices of a run: the source chain, the weights, the stepped chain (as long as the source), the carries (right[k] times
+ * right[k] numbers for each of the d - 1 bonds) and the sums (right[k] numbers an axis). */
+
+/* One step of the source, then its inner product with the weights. */
+uyavsker_ran uyavsker_fresh_run(uyavsker_shape shape, uyavsker_axes axes, uyavsker_settings settings,
+                                const double *source, size_t source_len, const double *weights, size_t weights_len,
+                                double *chain, size_t chain_len, double *carries, size_t carries_len,
+                                double *sums, size_t sums_len, double *scratch, size_t scratch_len);
+
+/* The part is a core's numbers for its zone. */
+uyavsker_ran uyavsker_replace_core(uyavsker_run run, size_t zone, double *source, size_t source_len,
+                                   const double *weights, size_t weights_len, double *chain, size_t chain_len,
+                                   double *carries, size_t carries_len, double *sums, size_t sums_len,
+                                   const double *part, size_t part_len, double *scratch, size_t scratch_len);
+
+/* The part is weights for the points of its zone. */
+uyavsker_ran uyavsker_replace_weights(uyavsker_run run, size_t zone, const double *source, size_t source_len,
+                                      double *weights, size_t weights_len, const double *chain, size_t chain_len,
+                                      const double *carries, size_t carries_len, double *sums, size_t sums_len,
+                                      const double *part, size_t part_len, double *scratch, size_t scratch_len);
+
+uyavsker_ran uyavsker_replace_axis(uyavsker_run run, size_t zone, uyavsker_axis axis,
+                                   const double *source, size_t source_len, const double *weights, size_t weights_len,
+                                   double *chain, size_t chain_len, double *carries, size_t carries_len,
+                                   double *sums, size_t sums_len, double *scratch, size_t scratch_len);
 
 /* ---- a pair: two neighbouring cores contracted and split again ---- */
 

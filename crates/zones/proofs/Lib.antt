@@ -1,1 +1,2 @@
 mod Faces
+mod Replaced

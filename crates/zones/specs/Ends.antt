@@ -9,10 +9,13 @@ use Rattle.product.specs.Call.{StartEnded}
 use Rattle.pair.specs.Call.{PairEnded}
 use Rattle.fileform.specs.declared.Read.{Read}
 use Rattle.fileform.specs.Calls.{Exit}
+use Rattle.kept.specs.Call.{FreshEnd, ReplaceEnd}
 use Rattle.records.specs.declared.told.CRefusal.{CRefusal}
 use Rattle.records.specs.declared.told.CRounded.{CRounded}
 use Rattle.records.specs.declared.told.CFormed.{CFormed}
 use Rattle.records.specs.declared.told.CPaired.{CPaired}
+use Rattle.records.specs.declared.held.CRan.{CRan}
+use Rattle.records.specs.Held.{ranOut}
 use Rattle.records.specs.Told.{refusalOf, roundedOut, startedOut, pairedOut, readOut}
 
 -- of a rounding, a step, an evolve: the chain holds l, scratch w
@@ -42,3 +45,21 @@ pub record ReadsAs (e : Exit Read Float) (o : CFormed) (l : List Float) : Type 0
 pub record WritesAs (e : Exit Verdict ℕ) (o : CRefusal) (l : List ℕ) : Type 0 where
   pub result : o ≡ refusalOf (e .result)
   pub bytes : l ≡ e .out
+
+-- of a fresh run: what stands in its four written slices
+pub record RunsAs (e : FreshEnd) (o : CRan) (l c s w : List Float) : Type 0 where
+  pub result : o ≡ ranOut (e .result)
+  pub chain : l ≡ e .chain
+  pub carries : c ≡ e .carries
+  pub sums : s ≡ e .sums
+  pub scratch : w ≡ e .scratch
+
+-- of a replacement: what stands in the run's five slices and in scratch
+pub record ReplacesAs (e : ReplaceEnd) (o : CRan) (x f l c s w : List Float) : Type 0 where
+  pub result : o ≡ ranOut (e .result)
+  pub source : x ≡ e .source
+  pub weights : f ≡ e .weights
+  pub chain : l ≡ e .chain
+  pub carries : c ≡ e .carries
+  pub sums : s ≡ e .sums
+  pub scratch : w ≡ e .scratch

@@ -3,5 +3,6 @@
 pub mod chains;
 pub mod files;
 pub mod pairs;
+pub mod replacing;
 pub mod scalars;
 pub mod steps;

@@ -1,5 +1,5 @@
-//! A plan of two zones: its figure, its rounding, a step, its file, and a refusal.
-use uyavsker::{text_of, Axis, Chain, Refusal, Settings, Shape};
+//! A plan of two zones: its figure, its file and its rounding; of one zone: a step, and a run with new weights.
+use uyavsker::{text_of, Axis, Chain, Refusal, Run, Settings, Shape};
 
 fn print_numbers(name: &str, numbers: &[f64]) {
     let words: Vec<String> = numbers.iter().map(f64::to_string).collect();
@@ -16,22 +16,34 @@ fn print_file(chain: &Chain) -> Result<(), Refusal> {
     Ok(())
 }
 
-fn print_step() -> Result<(), Refusal> {
-    let shape = Shape::new(&[(1, 4, 1)])?;
-    let mut chain = Chain::new(shape, vec![4.0, 8.0, 16.0, 0.0])?;
-    let settings = Settings {
-        tau: 1.0,
-        c: 0.0,
-        eps: 0.0,
-    };
-    let axis = Axis {
-        a: 0.25,
-        b: 0.0,
-        xmin: 0.0,
-        xmax: 3.0,
-    };
-    chain.step(&settings, &[axis])?;
+const SETTINGS: Settings = Settings {
+    tau: 1.0,
+    c: 0.0,
+    eps: 0.0,
+};
+
+const AXIS: Axis = Axis {
+    a: 0.25,
+    b: 0.0,
+    xmin: 0.0,
+    xmax: 3.0,
+};
+
+fn print_step(shape: Shape, numbers: &[f64]) -> Result<(), Refusal> {
+    let mut chain = Chain::new(shape, numbers.to_vec())?;
+    chain.step(&SETTINGS, &[AXIS])?;
     print_numbers("stepped", chain.numbers());
+    Ok(())
+}
+
+fn print_run(shape: Shape, numbers: &[f64]) -> Result<(), Refusal> {
+    let mut run = Run::fresh(&shape, &[AXIS], &SETTINGS, numbers.to_vec(), vec![1.0; 4])?;
+    println!("run {}", run.figure());
+    let part = [1.0, 2.0, 1.0, 1.0];
+    println!("new weights {}", run.replace_weights(0, &part)?);
+    if let Err(refusal) = run.replace_weights(1, &part) {
+        println!("refused {} at {}", refusal.number, refusal.place);
+    }
     Ok(())
 }
 
@@ -46,5 +58,7 @@ fn main() -> Result<(), Refusal> {
     let settled = if rounded.settled()[0] { "yes" } else { "no" };
     println!("sweeps {}, settled {settled}", rounded.sweeps()[0]);
     println!("figure {}", chain.inner(&weights)?);
-    print_step()
+    let (one_zone, numbers) = (Shape::new(&[(1, 4, 1)])?, [4.0, 8.0, 16.0, 0.0]);
+    print_step(one_zone, &numbers)?;
+    print_run(one_zone, &numbers)
 }

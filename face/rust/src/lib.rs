@@ -1,7 +1,7 @@
 //! Zone chains: the proved numeric core of a district heating plan, for Rust.
 //!
-//! Every call answers a `Result`: what it made, or the `Refusal` with number, place and words. Nothing panics. `Chain` owns
-//! its numbers; the functions work on slices that the caller lends. All unsafe code stands in one module, `raw`.
+//! Every call answers a `Result`: what it made, or the `Refusal` with number, place and words. Nothing panics. `Chain` and
+//! `Run` own their numbers; the functions work on slices that the caller lends. All unsafe code stands in one module, `raw`.
 #![deny(unsafe_code)]
 
 mod calls;
@@ -10,6 +10,7 @@ mod chain;
 mod raw;
 mod records;
 mod refusal;
+mod run;
 mod shape;
 
 pub use calls::{
@@ -19,6 +20,7 @@ pub use calls::{
 pub use chain::Chain;
 pub use records::{Axis, Course, Paired, Rounded, Settings};
 pub use refusal::Refusal;
+pub use run::Run;
 pub use shape::Shape;
 
 /// The most axes that a chain has.

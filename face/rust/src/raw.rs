@@ -14,7 +14,7 @@ pub struct Refusal {
 }
 
 #[repr(C)]
-#[derive(Clone, Copy, PartialEq, Eq)]
+#[derive(Clone, Copy, Debug)]
 pub struct Shape {
     pub d: usize,
     pub left: [usize; MOST_AXES],
@@ -74,6 +74,25 @@ pub struct Seen {
     pub value: f64,
 }
 
+#[repr(C)]
+#[derive(Clone, Copy, Debug)]
+pub struct Run {
+    pub shape: Shape,
+    pub axes: [Axis; MOST_AXES],
+    pub settings: Settings,
+    pub ranks: [usize; MOST_AXES],
+    pub sweeps: [usize; MOST_AXES],
+    pub settled: [bool; MOST_AXES],
+    pub figure: f64,
+}
+
+#[repr(C)]
+#[derive(Clone, Copy)]
+pub struct Ran {
+    pub refusal: Refusal,
+    pub run: Run,
+}
+
 // The layout that face/layout.c states too.
 const _: () = {
     assert!(size_of::<Refusal>() == 16 && offset_of!(Refusal, place) == 8);
@@ -95,6 +114,11 @@ const _: () = {
     assert!(size_of::<Paired>() == 32 && offset_of!(Paired, rank) == 16);
     assert!(offset_of!(Paired, passes) == 24);
     assert!(size_of::<Seen>() == 16 && offset_of!(Seen, value) == 8);
+    assert!(size_of::<Run>() == 1208 && offset_of!(Run, axes) == 392);
+    assert!(offset_of!(Run, settings) == 904 && offset_of!(Run, ranks) == 928);
+    assert!(offset_of!(Run, sweeps) == 1056 && offset_of!(Run, settled) == 1184);
+    assert!(offset_of!(Run, figure) == 1200);
+    assert!(size_of::<Ran>() == 1224 && offset_of!(Ran, run) == 16);
 };
 
 mod c {
@@ -156,6 +180,76 @@ mod c {
             scratch: *mut f64,
             scratch_len: usize,
         ) -> Rounded;
+        pub fn uyavsker_fresh_run(
+            shape: Shape,
+            axes: Axes,
+            settings: Settings,
+            source: *const f64,
+            source_len: usize,
+            weights: *const f64,
+            weights_len: usize,
+            chain: *mut f64,
+            chain_len: usize,
+            carries: *mut f64,
+            carries_len: usize,
+            sums: *mut f64,
+            sums_len: usize,
+            scratch: *mut f64,
+            scratch_len: usize,
+        ) -> Ran;
+        pub fn uyavsker_replace_core(
+            run: Run,
+            zone: usize,
+            source: *mut f64,
+            source_len: usize,
+            weights: *const f64,
+            weights_len: usize,
+            chain: *mut f64,
+            chain_len: usize,
+            carries: *mut f64,
+            carries_len: usize,
+            sums: *mut f64,
+            sums_len: usize,
+            part: *const f64,
+            part_len: usize,
+            scratch: *mut f64,
+            scratch_len: usize,
+        ) -> Ran;
+        pub fn uyavsker_replace_weights(
+            run: Run,
+            zone: usize,
+            source: *const f64,
+            source_len: usize,
+            weights: *mut f64,
+            weights_len: usize,
+            chain: *const f64,
+            chain_len: usize,
+            carries: *const f64,
+            carries_len: usize,
+            sums: *mut f64,
+            sums_len: usize,
+            part: *const f64,
+            part_len: usize,
+            scratch: *mut f64,
+            scratch_len: usize,
+        ) -> Ran;
+        pub fn uyavsker_replace_axis(
+            run: Run,
+            zone: usize,
+            axis: Axis,
+            source: *const f64,
+            source_len: usize,
+            weights: *const f64,
+            weights_len: usize,
+            chain: *mut f64,
+            chain_len: usize,
+            carries: *mut f64,
+            carries_len: usize,
+            sums: *mut f64,
+            sums_len: usize,
+            scratch: *mut f64,
+            scratch_len: usize,
+        ) -> Ran;
         pub fn uyavsker_contract_and_split(
             left: Sizes,
             right: Sizes,
@@ -270,6 +364,132 @@ pub fn evolve(
             x.len(),
             s.as_mut_ptr(),
             s.len(),
+        )
+    }
+}
+
+/// What a run keeps in slices of its own, and scratch.
+pub struct Room<'a> {
+    pub chain: &'a mut [f64],
+    pub carries: &'a mut [f64],
+    pub sums: &'a mut [f64],
+    pub scratch: &'a mut [f64],
+}
+
+pub fn fresh_run(
+    shape: Shape,
+    axes: Axes,
+    settings: Settings,
+    source: &[f64],
+    weights: &[f64],
+    room: Room<'_>,
+) -> Ran {
+    unsafe {
+        c::uyavsker_fresh_run(
+            shape,
+            axes,
+            settings,
+            source.as_ptr(),
+            source.len(),
+            weights.as_ptr(),
+            weights.len(),
+            room.chain.as_mut_ptr(),
+            room.chain.len(),
+            room.carries.as_mut_ptr(),
+            room.carries.len(),
+            room.sums.as_mut_ptr(),
+            room.sums.len(),
+            room.scratch.as_mut_ptr(),
+            room.scratch.len(),
+        )
+    }
+}
+
+pub fn replace_core(
+    run: Run,
+    zone: usize,
+    source: &mut [f64],
+    weights: &[f64],
+    part: &[f64],
+    room: Room<'_>,
+) -> Ran {
+    unsafe {
+        c::uyavsker_replace_core(
+            run,
+            zone,
+            source.as_mut_ptr(),
+            source.len(),
+            weights.as_ptr(),
+            weights.len(),
+            room.chain.as_mut_ptr(),
+            room.chain.len(),
+            room.carries.as_mut_ptr(),
+            room.carries.len(),
+            room.sums.as_mut_ptr(),
+            room.sums.len(),
+            part.as_ptr(),
+            part.len(),
+            room.scratch.as_mut_ptr(),
+            room.scratch.len(),
+        )
+    }
+}
+
+pub fn replace_weights(
+    run: Run,
+    zone: usize,
+    source: &[f64],
+    weights: &mut [f64],
+    part: &[f64],
+    room: Room<'_>,
+) -> Ran {
+    unsafe {
+        c::uyavsker_replace_weights(
+            run,
+            zone,
+            source.as_ptr(),
+            source.len(),
+            weights.as_mut_ptr(),
+            weights.len(),
+            room.chain.as_ptr(),
+            room.chain.len(),
+            room.carries.as_ptr(),
+            room.carries.len(),
+            room.sums.as_mut_ptr(),
+            room.sums.len(),
+            part.as_ptr(),
+            part.len(),
+            room.scratch.as_mut_ptr(),
+            room.scratch.len(),
+        )
+    }
+}
+
+pub fn replace_axis(
+    run: Run,
+    zone: usize,
+    axis: Axis,
+    source: &[f64],
+    weights: &[f64],
+    room: Room<'_>,
+) -> Ran {
+    unsafe {
+        c::uyavsker_replace_axis(
+            run,
+            zone,
+            axis,
+            source.as_ptr(),
+            source.len(),
+            weights.as_ptr(),
+            weights.len(),
+            room.chain.as_mut_ptr(),
+            room.chain.len(),
+            room.carries.as_mut_ptr(),
+            room.carries.len(),
+            room.sums.as_mut_ptr(),
+            room.sums.len(),
+            room.scratch.as_mut_ptr(),
+            room.scratch.len(),
         )
     }
 }

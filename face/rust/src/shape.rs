@@ -45,6 +45,18 @@ impl Shape {
         4 * self.entries() + 2048
     }
 
+    /// How many numbers the carries of a run have.
+    pub fn carries(&self) -> usize {
+        let bonds = self.axes().saturating_sub(1);
+        let slots = self.cores().take(bonds);
+        slots.map(|(_, _, right)| right * right).sum()
+    }
+
+    /// How many numbers the partial sums of a run have.
+    pub fn sums(&self) -> usize {
+        self.cores().map(|(_, _, right)| right).sum()
+    }
+
     /// How many bytes the chain's file has.
     pub fn file(&self) -> usize {
         8 + 12 * self.axes() + 8 * self.entries()

@@ -1,0 +1,18 @@
+-- `zones::replacing::uyavsker_fresh_run` meets its contract. Assumes nothing.
+use borrow.Author.Needs.{needs}
+use mathlib.Core.List.{List}
+use Rattle.shape.specs.declared.Shape.{Shape}
+use Rattle.axes.specs.declared.Axis.{Axis}
+use Rattle.stepping.specs.declared.Settings.{Settings}
+use Rattle.kept.specs.Call.{freshCall}
+use Rattle.zones.proofs.Replaced.{runs-as}
+use Rattle.zones.proofs.replacing.uyavsker_fresh_run.Statement.{statement}
+use Rattle.zones.proofs.replacing.uyavsker_fresh_run.Tie as tie
+
+returns : tie.Need-returns
+returns c =
+    let i = c .before .before .before .before .before .before .before .before .before .before .before .before .before .before .before .before .before .before .before .before .before .before .before .before .args in
+    runs-as (λ (x : Shape) (k : List Axis) (t : Settings). freshCall x k t (i .source .now) (i .weights .now) (i .chain .now) (i .carries .now) (i .sums .now) (i .scratch .now)) _ _ _ _ _ _ _ _ _ _ _ _ (c .before .before .before .before .before .before .before .before .before .before .before .before .before .before .before .before .shape-in .ensures) (c .before .before .before .before .before .before .before .before .before .before .before .before .before .before .before .axes-in .ensures) (c .before .before .before .before .before .before .before .before .before .before .before .before .before .before .settings-in .ensures) (c .before .before .before .before .before .before .before .before .before .fresh-run .ensures) (c .ran-out .ensures)
+
+pub uyavsker-fresh-run-spec : {M : Type 1} → statement M
+uyavsker-fresh-run-spec = tie.close (tie.spec (λ c κs. search needs) (λ c κs. search needs) (λ c κs. search needs) (λ c κs. search needs) (λ c κs. search needs) (λ c. search needs) (λ c. search needs) (λ c. search needs) (λ c. search needs) returns)

@@ -1,0 +1,16 @@
+-- `zones::replacing::uyavsker_replace_axis` meets its contract. Assumes nothing.
+use borrow.Author.Needs.{needs}
+use Rattle.axes.specs.declared.Axis.{Axis}
+use Rattle.kept.specs.declared.Run.{Run}
+use Rattle.kept.specs.Call.{replaceAxisCall}
+use Rattle.zones.proofs.Replaced.{axis-replaced-as}
+use Rattle.zones.proofs.replacing.uyavsker_replace_axis.Statement.{statement}
+use Rattle.zones.proofs.replacing.uyavsker_replace_axis.Tie as tie
+
+returns : tie.Need-returns
+returns c =
+    let i = c .before .before .before .before .before .before .before .before .before .before .before .before .before .before .before .before .before .before .before .before .before .before .args in
+    axis-replaced-as (λ (k : Run) (x : Axis). replaceAxisCall k (i .z) x (i .source .now) (i .weights .now) (i .chain .now) (i .carries .now) (i .sums .now) (i .scratch .now)) _ _ _ _ _ _ _ _ _ _ _ _ (c .before .before .before .before .before .before .before .before .before .before .before .before .before .before .before .run-in .ensures) (c .before .before .before .before .before .before .before .before .before .before .before .before .before .before .axis-in .ensures) (c .before .before .before .before .before .before .before .before .before .replace-axis .ensures) (c .ran-out .ensures)
+
+pub uyavsker-replace-axis-spec : {M : Type 1} → statement M
+uyavsker-replace-axis-spec = tie.close (tie.spec (λ c κs. search needs) (λ c κs. search needs) (λ c κs. search needs) (λ c κs. search needs) (λ c. search needs) (λ c. search needs) (λ c. search needs) (λ c. search needs) returns)

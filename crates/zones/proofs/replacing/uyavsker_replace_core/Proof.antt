@@ -1,0 +1,15 @@
+-- `zones::replacing::uyavsker_replace_core` meets its contract. Assumes nothing.
+use borrow.Author.Needs.{needs}
+use Rattle.kept.specs.declared.Run.{Run}
+use Rattle.kept.specs.Call.{replaceCoreCall}
+use Rattle.zones.proofs.Replaced.{replaces-as}
+use Rattle.zones.proofs.replacing.uyavsker_replace_core.Statement.{statement}
+use Rattle.zones.proofs.replacing.uyavsker_replace_core.Tie as tie
+
+returns : tie.Need-returns
+returns c =
+    let i = c .before .before .before .before .before .before .before .before .before .before .before .before .before .before .before .before .before .before .before .before .before .before .before .before .before .args in
+    replaces-as (λ (k : Run). replaceCoreCall k (i .z) (i .source .now) (i .weights .now) (i .chain .now) (i .carries .now) (i .sums .now) (i .part .now) (i .scratch .now)) _ _ _ _ _ _ _ _ _ _ (c .before .before .before .before .before .before .before .before .before .before .before .before .before .before .before .before .before .run-in .ensures) (c .before .before .before .before .before .before .before .before .before .before .before .replace-core .ensures) (c .ran-out .ensures)
+
+pub uyavsker-replace-core-spec : {M : Type 1} → statement M
+uyavsker-replace-core-spec = tie.close (tie.spec (λ c κs. search needs) (λ c κs. search needs) (λ c κs. search needs) (λ c. search needs) (λ c. search needs) (λ c. search needs) (λ c. search needs) (λ c. search needs) returns)

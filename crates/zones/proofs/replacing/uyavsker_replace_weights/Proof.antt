@@ -1,0 +1,15 @@
+-- `zones::replacing::uyavsker_replace_weights` meets its contract. Assumes nothing.
+use borrow.Author.Needs.{needs}
+use Rattle.kept.specs.declared.Run.{Run}
+use Rattle.kept.specs.Call.{replaceWeightsCall}
+use Rattle.zones.proofs.Replaced.{replaces-as}
+use Rattle.zones.proofs.replacing.uyavsker_replace_weights.Statement.{statement}
+use Rattle.zones.proofs.replacing.uyavsker_replace_weights.Tie as tie
+
+returns : tie.Need-returns
+returns c =
+    let i = c .before .before .before .before .before .before .before .before .before .before .before .before .before .before .before .before .before .before .before .args in
+    replaces-as (λ (k : Run). replaceWeightsCall k (i .z) (i .source .now) (i .weights .now) (i .chain .now) (i .carries .now) (i .sums .now) (i .part .now) (i .scratch .now)) _ _ _ _ _ _ _ _ _ _ (c .before .before .before .before .before .before .before .before .before .before .before .run-in .ensures) (c .before .before .before .before .before .before .before .replace-weights .ensures) (c .ran-out .ensures)
+
+pub uyavsker-replace-weights-spec : {M : Type 1} → statement M
+uyavsker-replace-weights-spec = tie.close (tie.spec (λ c κs. search needs) (λ c κs. search needs) (λ c κs. search needs) (λ c. search needs) (λ c. search needs) (λ c. search needs) returns)

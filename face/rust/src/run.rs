@@ -1,0 +1,154 @@
+//! A kept run that owns its slices.
+use crate::raw;
+use crate::records::{listed, Axis, Settings};
+use crate::refusal::Refusal;
+use crate::shape::Shape;
+
+/// One step of a source chain and its figure, kept so that a replaced zone costs only the work from it on.
+#[derive(Clone, Debug)]
+pub struct Run {
+    record: raw::Run,
+    source: Vec<f64>,
+    weights: Vec<f64>,
+    chain: Vec<f64>,
+    carries: Vec<f64>,
+    sums: Vec<f64>,
+    scratch: Vec<f64>,
+}
+
+impl Run {
+    /// A fresh run, with one record an axis; another number of records is refused with 5 at 0, as a step has it.
+    pub fn fresh(
+        shape: &Shape,
+        axes: &[Axis],
+        settings: &Settings,
+        source: Vec<f64>,
+        weights: Vec<f64>,
+    ) -> Result<Run, Refusal> {
+        if axes.len() != shape.axes() {
+            return Err(Refusal {
+                number: 5,
+                place: 0,
+            });
+        }
+        let mut chain = vec![0.0; shape.entries()];
+        let mut carries = vec![0.0; shape.carries()];
+        let mut sums = vec![0.0; shape.sums()];
+        let mut scratch = vec![0.0; shape.scratch()];
+        let room = raw::Room {
+            chain: &mut chain,
+            carries: &mut carries,
+            sums: &mut sums,
+            scratch: &mut scratch,
+        };
+        let axes = listed(axes);
+        let told = raw::fresh_run(shape.raw, axes, *settings, &source, &weights, room);
+        let run = Run {
+            record: told.run,
+            source,
+            weights,
+            chain,
+            carries,
+            sums,
+            scratch,
+        };
+        Refusal::or(told.refusal, run)
+    }
+
+    /// New numbers for the core of a zone. Answers the figure; refused, the run is as it was.
+    pub fn replace_core(&mut self, zone: usize, numbers: &[f64]) -> Result<f64, Refusal> {
+        let room = raw::Room {
+            chain: &mut self.chain,
+            carries: &mut self.carries,
+            sums: &mut self.sums,
+            scratch: &mut self.scratch,
+        };
+        let (source, weights) = (&mut self.source, &self.weights);
+        let told = raw::replace_core(self.record, zone, source, weights, numbers, room);
+        self.kept(told)
+    }
+
+    /// New weights for the points of a zone. Answers the figure; refused, the run is as it was.
+    pub fn replace_weights(&mut self, zone: usize, numbers: &[f64]) -> Result<f64, Refusal> {
+        let room = raw::Room {
+            chain: &mut self.chain,
+            carries: &mut self.carries,
+            sums: &mut self.sums,
+            scratch: &mut self.scratch,
+        };
+        let (source, weights) = (&self.source, &mut self.weights);
+        let told = raw::replace_weights(self.record, zone, source, weights, numbers, room);
+        self.kept(told)
+    }
+
+    /// A new record for the axis of a zone. Answers the figure; refused, the run is as it was.
+    pub fn replace_axis(&mut self, zone: usize, axis: &Axis) -> Result<f64, Refusal> {
+        let room = raw::Room {
+            chain: &mut self.chain,
+            carries: &mut self.carries,
+            sums: &mut self.sums,
+            scratch: &mut self.scratch,
+        };
+        let (source, weights) = (&self.source, &self.weights);
+        let told = raw::replace_axis(self.record, zone, *axis, source, weights, room);
+        self.kept(told)
+    }
+
+    fn kept(&mut self, told: raw::Ran) -> Result<f64, Refusal> {
+        self.record = told.run;
+        Refusal::or(told.refusal, told.run.figure)
+    }
+
+    /// The inner product of the stepped chain with the weights.
+    pub fn figure(&self) -> f64 {
+        self.record.figure
+    }
+
+    pub fn shape(&self) -> Shape {
+        Shape {
+            raw: self.record.shape,
+        }
+    }
+
+    pub fn settings(&self) -> &Settings {
+        &self.record.settings
+    }
+
+    pub fn axes(&self) -> &[Axis] {
+        let axes = &self.record.axes;
+        axes.get(..self.record.shape.d).unwrap_or(axes)
+    }
+
+    /// The source chain's numbers.
+    pub fn source(&self) -> &[f64] {
+        &self.source
+    }
+
+    pub fn weights(&self) -> &[f64] {
+        &self.weights
+    }
+
+    /// The stepped chain, each core where its source begins.
+    pub fn stepped(&self) -> &[f64] {
+        &self.chain
+    }
+
+    /// The rank that each bond keeps.
+    pub fn ranks(&self) -> &[usize] {
+        self.bonds(&self.record.ranks)
+    }
+
+    /// The sweeps made at each bond.
+    pub fn sweeps(&self) -> &[usize] {
+        self.bonds(&self.record.sweeps)
+    }
+
+    /// Whether the sum is below 1e-30 at the end, for each bond.
+    pub fn settled(&self) -> &[bool] {
+        self.bonds(&self.record.settled)
+    }
+
+    fn bonds<'a, T>(&self, entries: &'a [T; crate::MOST_AXES]) -> &'a [T] {
+        self.shape().of_bonds(entries)
+    }
+}

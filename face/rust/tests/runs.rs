@@ -1,0 +1,151 @@
+//! Kept runs: what a replacement leaves is the fresh run on the present inputs.
+use uyavsker::{Axis, Refusal, Run, Settings, Shape};
+
+const SETTINGS: Settings = Settings {
+    tau: 0.5,
+    c: 0.25,
+    eps: 1e-12,
+};
+
+const AXES: [Axis; 3] = [
+    Axis {
+        a: 0.25,
+        b: 0.5,
+        xmin: 0.0,
+        xmax: 3.0,
+    },
+    Axis {
+        a: 1.0,
+        b: -0.5,
+        xmin: -1.0,
+        xmax: 1.0,
+    },
+    Axis {
+        a: 0.0,
+        b: 0.75,
+        xmin: 0.0,
+        xmax: 2.0,
+    },
+];
+
+fn shape() -> Shape {
+    Shape::new(&[(1, 4, 2), (2, 3, 3), (3, 5, 1)]).unwrap()
+}
+
+// Numbers that are all different, and no pattern of the chain's.
+fn numbers(count: usize, seed: u64) -> Vec<f64> {
+    let number = |i: u64| ((i * 7919 + seed * 104_729) % 1009) as f64 / 64.0 - 7.0;
+    (0..count as u64).map(number).collect()
+}
+
+fn fresh(axes: &[Axis], source: Vec<f64>, weights: Vec<f64>) -> Result<Run, Refusal> {
+    Run::fresh(&shape(), axes, &SETTINGS, source, weights)
+}
+
+fn first() -> Run {
+    let s = shape();
+    fresh(&AXES, numbers(s.entries(), 1), numbers(s.points(), 2)).unwrap()
+}
+
+fn assert_same(run: &Run, other: &Run) {
+    assert_eq!(run.figure().to_bits(), other.figure().to_bits());
+    assert_eq!(run.stepped(), other.stepped());
+    assert_eq!((run.ranks(), run.sweeps()), (other.ranks(), other.sweeps()));
+    assert_eq!(run.settled(), other.settled());
+    assert_eq!(
+        (run.source(), run.weights()),
+        (other.source(), other.weights())
+    );
+    assert_eq!(run.axes(), other.axes());
+}
+
+#[test]
+fn a_fresh_run_is_a_step_and_its_figure() {
+    let shape = Shape::new(&[(1, 4, 1)]).unwrap();
+    let settings = Settings {
+        tau: 1.0,
+        c: 0.0,
+        eps: 0.0,
+    };
+    let axis = Axis {
+        a: 0.25,
+        b: 0.0,
+        xmin: 0.0,
+        xmax: 3.0,
+    };
+    let source = vec![4.0, 8.0, 16.0, 0.0];
+    let run = Run::fresh(&shape, &[axis], &settings, source, vec![1.0, 2.0, 1.0, 1.0]).unwrap();
+    assert_eq!(
+        (run.stepped(), run.figure()),
+        (&[4.0, 9.0, 10.0, 5.0][..], 37.0)
+    );
+}
+
+#[test]
+fn a_replaced_core() {
+    for (zone, range) in [(0, 0..8), (1, 8..26), (2, 26..41)] {
+        let mut run = first();
+        let part = numbers(range.len(), 3);
+        let figure = run.replace_core(zone, &part).unwrap();
+        let mut source = first().source().to_vec();
+        source[range].copy_from_slice(&part);
+        let anew = fresh(&AXES, source, first().weights().to_vec()).unwrap();
+        assert_same(&run, &anew);
+        assert_eq!(figure, anew.figure());
+    }
+}
+
+#[test]
+fn replaced_weights() {
+    for (zone, range) in [(0, 0..4), (1, 4..7), (2, 7..12)] {
+        let mut run = first();
+        let part = numbers(range.len(), 4);
+        let figure = run.replace_weights(zone, &part).unwrap();
+        let mut weights = first().weights().to_vec();
+        weights[range].copy_from_slice(&part);
+        let anew = fresh(&AXES, first().source().to_vec(), weights).unwrap();
+        assert_same(&run, &anew);
+        assert_eq!(figure, anew.figure());
+    }
+}
+
+#[test]
+fn a_replaced_axis() {
+    for zone in 0..3 {
+        let mut run = first();
+        let axis = Axis {
+            a: 2.0,
+            b: 0.125,
+            xmin: -3.0,
+            xmax: 1.5,
+        };
+        let figure = run.replace_axis(zone, &axis).unwrap();
+        let mut axes = AXES;
+        axes[zone] = axis;
+        let anew = fresh(&axes, first().source().to_vec(), first().weights().to_vec()).unwrap();
+        assert_same(&run, &anew);
+        assert_eq!(figure, anew.figure());
+    }
+}
+
+#[test]
+fn a_refused_replacement_leaves_the_run() {
+    let mut run = first();
+    let refusal = |number, place| Err(Refusal { number, place });
+    assert_eq!(run.replace_core(3, &[]), refusal(4, 0));
+    assert_eq!(run.replace_core(1, &[0.0; 17]), refusal(5, 5));
+    assert_eq!(run.replace_weights(2, &[f64::NAN; 5]), refusal(6, 2));
+    let below = Axis { a: -1.0, ..AXES[1] };
+    assert_eq!(run.replace_axis(1, &below), refusal(7, 1));
+    assert_same(&run, &first());
+}
+
+#[test]
+fn a_refused_fresh_run() {
+    let s = shape();
+    let refused = |source, weights| fresh(&AXES, source, weights).unwrap_err();
+    let short = refused(numbers(s.entries() - 1, 1), numbers(s.points(), 2));
+    let fewer = refused(numbers(s.entries(), 1), numbers(s.points() - 1, 2));
+    let places = [short, fewer].map(|refusal| (refusal.number, refusal.place));
+    assert_eq!(places, [(5, 0), (5, 1)]);
+}
