@@ -3,6 +3,7 @@ use Prim.Native.Nat.{ℕ, suc}
 use mathlib.Core.List.{List, [], _∷_}
 use lib.Ieee.{Float}
 use Rattle.answers.specs.declared.Part.the-variants.{Sum}
+use Rattle.answers.specs.Outcome.{Answer}
 use Rattle.lists.specs.Walks.{walk}
 use Rattle.lists.specs.Floats.{stored}
 use Rattle.shape.specs.Cores.{Core}
@@ -19,10 +20,10 @@ late-axis : (k : ℕ) (e : List Float) (p : Core × List Float) → Late (sumZon
 unfolding sumZone rules contractAt
 late-axis k e p = late-bind _ _ (late-making Sum k (stored (contract (p .0) (p .1) e))) (λ x. late-done (x, tt))
 
-late-walk : (k : ℕ) (e : List Float) (ps : List (Core × List Float)) → Late (walk (sumZone rules) k e ps)
+pub late-walk : {S X Y : Type 0} (f : ℕ → S → X → Answer (S × Y)) → ((k : ℕ) (s : S) (x : X) → Late (f k s x)) → (k : ℕ) (s : S) (xs : List X) → Late (walk f k s xs)
 unfolding walk
-late-walk k e [] = late-done []
-late-walk k e (p ∷ ps) = late-bind (sumZone rules k e p) _ (late-axis k e p) (λ x. late-bind (walk (sumZone rules) (suc k) (x .0) ps) _ (late-walk (suc k) (x .0) ps) (λ rs. late-done (x ∷ rs)))
+late-walk f h k s [] = late-done []
+late-walk f h k s (x ∷ xs) = late-bind (f k s x) _ (h k s x) (λ r. late-bind (walk f (suc k) (r .0) xs) _ (late-walk f h (suc k) (r .0) xs) (λ rs. late-done (r ∷ rs)))
 
 pub late-sums : (k : Kept) (z : ℕ) → Late (sumFrom rules k z)
 unfolding sumFrom resum
@@ -31,7 +32,7 @@ late-sums k z =
     let t = k .stepped in
     let u = k .summed in
     late-bind (resum rules i t u z) _
-    (late-bind (walk (sumZone rules) z (sumsAt (i .shape) t u z) (weighedFrom i t z)) _ (late-walk z (sumsAt (i .shape) t u z) (weighedFrom i t z)) (λ e. late-done (keepSums (i .shape) z e u)))
+    (late-bind (walk (sumZone rules) z (sumsAt (i .shape) t u z) (weighedFrom i t z)) _ (late-walk (sumZone rules) late-axis z (sumsAt (i .shape) t u z) (weighedFrom i t z)) (λ e. late-done (keepSums (i .shape) z e u)))
     (λ v. late-done (running i t v))
 
 pub late-work : (k : Kept) (z : ℕ) → Late (workFrom rules k z)

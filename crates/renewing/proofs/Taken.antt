@@ -64,8 +64,8 @@ module _ (size : ℕ → ℕ) (z d : ℕ) where
     start-fits small = record { fits = omega (arith, starts, ends) }
 
 -- ---- where a commit starts
-pub slot-starts : (size : ℕ → ℕ) (z d : ℕ) → z < d → (at : ℕ) → at ≡ offset size z → (n : ℕ) → n ≡ offset size d → at ≤ n
-slot-starts size z d lt at e n h = omega (arith, offset-mono size z d (omega arith))
+pub slot-starts : (size : ℕ → ℕ) (z d : ℕ) → z ≤ d → (at : ℕ) → at ≡ offset size z → (n : ℕ) → n ≡ offset size d → at ≤ n
+slot-starts size z d le at e n h = omega (arith, offset-mono size z d le)
 
 pub over-at : (at n : ℕ) → at ≡ n → (l w l' : List Float) → l' ≡ over at l w → l' ≡ over n l w
 over-at at n e l w l' f = f ∙ ap (λ (j : ℕ). over j l w) e

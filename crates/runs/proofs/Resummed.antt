@@ -1,9 +1,9 @@
 -- The end of new weights by what the sums from their zone on came to. Assumes nothing.
 use mathlib.Core.Path.{_≡_, refl, sym, ap, _∙_}
-use Prim.Native.Nat.{ℕ, suc, _-_, _≤_, _<_}
+use Prim.Native.Nat.{ℕ, _-_, _≤_, _<_}
 use native.Mathlib.Omega.{arith}
 use mathlib.Core.Bool.{Bool}
-use mathlib.Core.List.{List, [], _∷_, _++_, map}
+use mathlib.Core.List.{List, _++_, map}
 use lib.ListN.{length, take, drop, replicate, take-append-drop}
 use lib.Ieee.{Float}
 use Rattle.numbers.specs.Arithmetic.{zero64}
@@ -42,15 +42,11 @@ use Rattle.kept.proofs.Accepted.{checks-say}
 use Rattle.kept.proofs.Untouched.{slices-are}
 use Rattle.admitting.specs.Asking.{scratchOf}
 use Rattle.admitting.proofs.Resums.{resum-is}
+use Rattle.redoing.proofs.Late.{late-walk}
 use Rattle.runs.specs.Weights.{Lent, weightsEnd}
 use Rattle.runs.proofs.Replaced.{replace-goes}
 
 -- ---- sums are refused with 9 alone
-late-walk : {S X Y : Type 0} (f : ℕ → S → X → Answer (S × Y)) → ((k : ℕ) (s : S) (x : X) → Late (f k s x)) → (k : ℕ) (s : S) (xs : List X) → Late (walk f k s xs)
-unfolding walk
-late-walk f h k s [] = late-done []
-late-walk f h k s (x ∷ xs) = late-bind (f k s x) _ (h k s x) (λ r. late-bind (walk f (suc k) (r .0) xs) _ (late-walk f h (suc k) (r .0) xs) (λ rs. late-done (r ∷ rs)))
-
 late-axis : (k : ℕ) (eta : List Float) (p : Core × List Float) → Late (sumAxis k eta p)
 unfolding sumAxis contractAt
 late-axis k eta p = late-bind _ _ (late-making Sum k (stored (contract (p .0) (p .1) eta))) (λ e. late-done (e, tt))

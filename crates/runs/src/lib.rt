@@ -90,8 +90,8 @@ pub fn replace_core(
     let s = r.shape;
     renewing::take_core(z, s, source, part, scratch);
     let ran = renewing::renew(z, r, weights, chain, carries, sums, scratch);
-    let verdict = ran.verdict;
-    if let answers::Verdict::Refused(q) = verdict {
+    let made = ran.verdict;
+    if let answers::Verdict::Refused(q) = made {
         return ran;
     }
     renewing::put_core(z, s, part, source);

@@ -7,13 +7,13 @@ use Rattle.renewing.proofs.commit.Statement.{statement}
 use Rattle.renewing.proofs.commit.Tie as tie
 
 copy-from-requires : tie.Need-copy-from-requires
-copy-from-requires c κs = (slot-starts _ _ _ (c .before .before .before .before .before .before .before .before .before .before .pre .0 .1) _ (c .before .before .before .offset .ensures) _ (c .before .before .before .before .before .before .before .before .before .before .pre .1 .0 .0), c .before .before .before .before .before .before .before .before .before .before .pre .1 .1 .0)
+copy-from-requires c κs = (slot-starts _ _ _ (search needs) _ (c .before .before .before .offset .ensures) _ (c .before .before .before .before .before .before .before .before .before .before .pre .1 .0 .0), c .before .before .before .before .before .before .before .before .before .before .pre .1 .1 .0)
 
 copy-from-requires-2 : tie.Need-copy-from-requires-2
-copy-from-requires-2 c κs = (slot-starts _ _ _ (c .before .before .before .before .before .before .before .before .before .before .before .before .before .before .pre .0 .1) _ (c .before .before .before .before .before .before .carry-offset .ensures) _ (c .before .before .before .before .before .before .before .before .before .before .before .before .before .before .pre .1 .0 .1), c .before .before .before .before .before .before .before .before .before .before .before .before .before .before .pre .1 .1 .1)
+copy-from-requires-2 c κs = (slot-starts _ _ _ (search needs) _ (c .before .before .before .before .before .before .carry-offset .ensures) _ (c .before .before .before .before .before .before .before .before .before .before .before .before .before .before .pre .1 .0 .1), c .before .before .before .before .before .before .before .before .before .before .before .before .before .before .pre .1 .1 .1)
 
 copy-from-requires-3 : tie.Need-copy-from-requires-3
-copy-from-requires-3 c κs = (slot-starts _ _ _ (c .before .before .before .before .before .before .before .before .before .before .before .before .before .before .before .before .before .before .pre .0 .1) _ (c .before .before .before .before .before .before .before .before .before .sum-offset .ensures) _ (c .before .before .before .before .before .before .before .before .before .before .before .before .before .before .before .before .before .before .pre .1 .0 .2), c .before .before .before .before .before .before .before .before .before .before .before .before .before .before .before .before .before .before .pre .1 .1 .2)
+copy-from-requires-3 c κs = (slot-starts _ _ _ (search needs) _ (c .before .before .before .before .before .before .before .before .before .sum-offset .ensures) _ (c .before .before .before .before .before .before .before .before .before .before .before .before .before .before .before .before .before .before .pre .1 .0 .2), c .before .before .before .before .before .before .before .before .before .before .before .before .before .before .before .before .before .before .pre .1 .1 .2)
 
 mul-result : tie.Need-mul-result
 mul-result c = last-fits _ (c .before .before .before .before .before .before .before .before .before .before .before .before .before .before .before .before .before .before .before .before .before .before .before .pre .0 .0) _ (c .sum-offset2 .ensures) _ _ (c .before .before .before .before .before .before .before .before .before .before .before .before .before .before .before .before .before .before .before .before .before .before .before .pre .1 .0 .2) (c .before .before .before .before .before .before .before .before .before .before .before .before .before .before .before .before .before .before .before .before .before .before .before .pre .1 .1 .2)
