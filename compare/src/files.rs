@@ -11,7 +11,7 @@ const HEADER: usize = 8;
 const ENTRY: usize = 12;
 
 /// The one file of a chain that isn't refused.
-fn file_of(s: &Shape, chain: &[f64]) -> Vec<u8> {
+pub fn file_of(s: &Shape, chain: &[f64]) -> Vec<u8> {
     let short = |x: usize| (x as u16).to_le_bytes();
     let mut file = b"TTC1".to_vec();
     file.extend([short(s.d), short(0)].concat());

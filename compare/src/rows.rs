@@ -3,9 +3,9 @@ use crate::chains::{flat, scratch_for, shape_of};
 use crate::clock::Clock;
 use crate::model::{self, Run};
 use crate::port::{self, Course, Record, Shape};
-use crate::table;
+use crate::{files, table};
 use oracle::draw::{self, Manner};
-use oracle::random::Random;
+use oracle::random::{ten_to, Random};
 use oracle::tt_chernoff::{TtChernoff, TtState};
 use oracle::tt_core::{self, TtCore};
 use oracle::tt_coupled_pair;
@@ -241,7 +241,7 @@ fn fresh_port<const D: usize, const N: usize, const R: usize>(clock: &mut Clock)
     );
 }
 
-/// The Rust has no runs: whatever is replaced, it makes the step and the inner product.
+/// The Rust has no runs: after a new core or axis record it makes the step and the inner product, after new weights the product.
 fn fresh_rust<const D: usize, const N: usize, const R: usize>(clock: &mut Clock) {
     let state = TtState {
         cores: chain::<D, N, R>(),
@@ -275,92 +275,120 @@ fn replace_port(clock: &mut Clock, mut run: Run, zone: usize, what: &str) {
     );
 }
 
-/// What is called, and the function that calls it again and again, of the port and of the Rust.
-pub struct Row {
-    pub name: &'static str,
-    pub port: fn(&mut Clock),
-    pub rust: fn(&mut Clock),
+/// Numbers of all sizes, for calls over single numbers.
+fn singles() -> Vec<f64> {
+    let mut r = Random::of_case(1, "measured", 0);
+    (0..SINGLES)
+        .map(|_| r.unit() * ten_to(r.between(-20, 20)))
+        .collect()
 }
 
-pub const ROWS: [Row; 16] = [
+const SINGLES: usize = 1000;
+
+fn each(clock: &mut Clock, call: fn(f64) -> f64) {
+    let xs = singles();
+    clock.run(|| (), |_| xs.iter().for_each(|x| _ = black_box(call(*x))));
+}
+
+fn entry_port(clock: &mut Clock) {
+    let cores = chain::<16, 64, 8>();
+    let (s, chain) = (shape(&cores), flat(&cores));
+    clock.run(
+        || (),
+        |_| _ = black_box(port::entry_of(&chain, &s, black_box([8, 3, 30, 5]))),
+    );
+}
+
+fn entry_rust(clock: &mut Clock) {
+    let cores = chain::<16, 64, 8>();
+    clock.run(
+        || (),
+        |_| {
+            let [k, il, im, ir] = black_box([8, 3, 30, 5]);
+            _ = black_box(cores[k].get(il, im, ir));
+        },
+    );
+}
+
+fn write_port(clock: &mut Clock) {
+    let cores = chain::<16, 64, 8>();
+    let (s, chain) = (shape(&cores), flat(&cores));
+    let mut file = files::file_of(&s, &chain);
+    clock.run(
+        || (),
+        |_| _ = black_box(port::write_chain(&s, &chain, &mut file)),
+    );
+}
+
+fn read_port(clock: &mut Clock) {
+    let cores = chain::<16, 64, 8>();
+    let mut chain = flat(&cores);
+    let file = files::file_of(&shape(&cores), &chain);
+    clock.run(
+        || (),
+        |_| _ = black_box(port::read_chain(&file, &mut chain)),
+    );
+}
+
+type Work = fn(&mut Clock);
+
+/// What is called, the functions that call it again and again, of the port and of the Rust where it has such a call, and how many
+/// calls they make at a time.
+pub struct Row {
+    pub name: &'static str,
+    pub port: Work,
+    pub rust: Option<Work>,
+    pub at_a_time: usize,
+}
+
+const fn beside(name: &'static str, port: Work, rust: Work) -> Row {
     Row {
-        name: "step, d 8, n 32, rank 4",
-        port: step_port::<8, 32, 4>,
-        rust: step_rust::<8, 32, 4>,
-    },
+        name,
+        port,
+        rust: Some(rust),
+        at_a_time: 1,
+    }
+}
+
+const fn single(name: &'static str, port: Work, rust: Work) -> Row {
     Row {
-        name: "step, d 11, n 64, rank 8",
-        port: step_port::<11, 64, 8>,
-        rust: step_rust::<11, 64, 8>,
-    },
+        name,
+        port,
+        rust: Some(rust),
+        at_a_time: SINGLES,
+    }
+}
+
+const fn alone(name: &'static str, port: Work) -> Row {
     Row {
-        name: "evolve of 10 steps, d 6, n 16, rank 2",
-        port: evolve_port::<6, 16, 2>,
-        rust: evolve_rust::<6, 16, 2>,
-    },
-    Row {
-        name: "tt_round, d 16, n 64, rank 8",
-        port: round_port::<16, 64, 8>,
-        rust: round_rust::<16, 64, 8>,
-    },
-    Row {
-        name: "tt_round, d 8, n 32, rank 4",
-        port: round_port::<8, 32, 4>,
-        rust: round_rust::<8, 32, 4>,
-    },
-    Row {
-        name: "inner_separable, d 16, n 64, rank 8",
-        port: inner_port::<16, 64, 8>,
-        rust: inner_rust::<16, 64, 8>,
-    },
-    Row {
-        name: "rank1_separable, d 16, n 64",
-        port: start_port::<16, 64>,
-        rust: start_rust::<16, 64>,
-    },
-    Row {
-        name: "contract_and_split, 64 by 64",
-        port: pair_port,
-        rust: pair_rust,
-    },
-    Row {
-        name: "fresh_run, d 11, n 64, rank 8",
-        port: fresh_port::<11, 64, 8>,
-        rust: fresh_rust::<11, 64, 8>,
-    },
-    Row {
-        name: "replace_core at the first zone, d 11, n 64, rank 8",
-        port: |c| replace_port(c, run::<11, 64, 8>(), 0, "core"),
-        rust: fresh_rust::<11, 64, 8>,
-    },
-    Row {
-        name: "replace_core at the middle zone, d 11, n 64, rank 8",
-        port: |c| replace_port(c, run::<11, 64, 8>(), 5, "core"),
-        rust: fresh_rust::<11, 64, 8>,
-    },
-    Row {
-        name: "replace_core at the last zone, d 11, n 64, rank 8",
-        port: |c| replace_port(c, run::<11, 64, 8>(), 10, "core"),
-        rust: fresh_rust::<11, 64, 8>,
-    },
-    Row {
-        name: "replace_axis at the middle zone, d 11, n 64, rank 8",
-        port: |c| replace_port(c, run::<11, 64, 8>(), 5, "axis"),
-        rust: fresh_rust::<11, 64, 8>,
-    },
-    Row {
-        name: "replace_weights at the first zone, d 11, n 64, rank 8",
-        port: |c| replace_port(c, run::<11, 64, 8>(), 0, "weights"),
-        rust: fresh_rust::<11, 64, 8>,
-    },
-    Row {
-        name: "replace_weights at the middle zone, d 11, n 64, rank 8",
-        port: |c| replace_port(c, run::<11, 64, 8>(), 5, "weights"),
-        rust: fresh_rust::<11, 64, 8>,
-    },
-    Row {
-        name: "replace_weights at the last zone, d 11, n 64, rank 8",
-        port: |c| replace_port(c, run::<11, 64, 8>(), 10, "weights"),
-        rust: fresh_rust::<11, 64, 8>,
-    },
+        name,
+        port,
+        rust: None,
+        at_a_time: 1,
+    }
+}
+
+#[rustfmt::skip]
+pub const ROWS: [Row; 21] = [
+    beside("step, d 8, n 32, rank 4", step_port::<8, 32, 4>, step_rust::<8, 32, 4>),
+    beside("step, d 11, n 64, rank 8", step_port::<11, 64, 8>, step_rust::<11, 64, 8>),
+    beside("evolve of 10 steps, d 6, n 16, rank 2", evolve_port::<6, 16, 2>, evolve_rust::<6, 16, 2>),
+    beside("tt_round, d 16, n 64, rank 8", round_port::<16, 64, 8>, round_rust::<16, 64, 8>),
+    beside("tt_round, d 8, n 32, rank 4", round_port::<8, 32, 4>, round_rust::<8, 32, 4>),
+    beside("inner_separable, d 16, n 64, rank 8", inner_port::<16, 64, 8>, inner_rust::<16, 64, 8>),
+    beside("rank1_separable, d 16, n 64", start_port::<16, 64>, start_rust::<16, 64>),
+    beside("contract_and_split, 64 by 64, 15 passes", pair_port, pair_rust),
+    beside("fresh_run", fresh_port::<11, 64, 8>, fresh_rust::<11, 64, 8>),
+    beside("replace_core, first zone", |c| replace_port(c, run::<11, 64, 8>(), 0, "core"), fresh_rust::<11, 64, 8>),
+    beside("replace_core, middle zone", |c| replace_port(c, run::<11, 64, 8>(), 5, "core"), fresh_rust::<11, 64, 8>),
+    beside("replace_core, last zone", |c| replace_port(c, run::<11, 64, 8>(), 10, "core"), fresh_rust::<11, 64, 8>),
+    beside("replace_axis, middle zone", |c| replace_port(c, run::<11, 64, 8>(), 5, "axis"), fresh_rust::<11, 64, 8>),
+    beside("replace_weights, first zone", |c| replace_port(c, run::<11, 64, 8>(), 0, "weights"), inner_rust::<11, 64, 8>),
+    beside("replace_weights, middle zone", |c| replace_port(c, run::<11, 64, 8>(), 5, "weights"), inner_rust::<11, 64, 8>),
+    beside("replace_weights, last zone", |c| replace_port(c, run::<11, 64, 8>(), 10, "weights"), inner_rust::<11, 64, 8>),
+    beside("entry_of", entry_port, entry_rust),
+    single("root", |c| each(c, port::root), |c| each(c, f64::sqrt)),
+    single("floor", |c| each(c, port::floor), |c| each(c, f64::floor)),
+    alone("write_chain, d 16, n 64, rank 8", write_port),
+    alone("read_chain, d 16, n 64, rank 8", read_port),
 ];

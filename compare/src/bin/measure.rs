@@ -19,7 +19,8 @@ const TABLES: [&str; 4] = ["call", "with", "without", "alone"];
 
 fn work(Id(table, at, whose): Id) -> Work {
     match table {
-        "call" => [ROWS[at].port, ROWS[at].rust][whose],
+        "call" if whose == 0 => ROWS[at].port,
+        "call" => ROWS[at].rust.expect("a call of the Rust"),
         "with" => DIFFERENCES[at].with[whose],
         "without" => DIFFERENCES[at].without[whose],
         _ => RUST[at].1,
@@ -70,13 +71,19 @@ fn calls() {
     println!("| call | port | Rust | port/Rust | port, µs | Rust, µs | port/Rust |");
     println!("|---|---|---|---|---|---|---|");
     for (at, row) in ROWS.iter().enumerate() {
-        let [port, rust] = [0, 1].map(|whose| instructions(Id("call", at, whose)));
-        let [quick, slow] = [0, 1].map(|whose| time(Id("call", at, whose)));
+        let one = |measure: fn(Id) -> f64, whose: usize| {
+            measure(Id("call", at, whose)) / row.at_a_time as f64
+        };
+        let (port, quick) = (one(instructions, 0), one(time, 0));
+        if row.rust.is_none() {
+            println!("| {} | {port:.0} | - | - | {quick:.2} | - | - |", row.name);
+            continue;
+        }
+        let (rust, slow) = (one(instructions, 1), one(time, 1));
+        let (less, quicker) = (port / rust, quick / slow);
         println!(
-            "| {} | {port:.0} | {rust:.0} | {:.2} | {quick:.1} | {slow:.1} | {:.2} |",
-            row.name,
-            port / rust,
-            quick / slow
+            "| {} | {port:.0} | {rust:.0} | {less:.2} | {quick:.2} | {slow:.2} | {quicker:.2} |",
+            row.name
         );
     }
 }
