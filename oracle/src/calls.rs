@@ -1,8 +1,8 @@
 //! The Rust's calls, stage by stage, so that what the port refuses is seen. The end is held to the Rust's whole call.
 use crate::counted::{all_finite, gram_ev, same, sweep_all};
-use oracle::tt_chernoff::{self, TtChernoff, TtState};
-use oracle::tt_core::{self, TtCore};
-use oracle::{tt_coupled_pair, tt_dense_expm};
+use crate::tt_chernoff::{self, TtChernoff, TtState};
+use crate::tt_core::{self, TtCore};
+use crate::{tt_coupled_pair, tt_dense_expm};
 
 /// Why the port refuses, with the place.
 pub enum Refused {
@@ -14,7 +14,7 @@ pub enum Refused {
     Rank(usize),
 }
 
-fn demand_finite(xs: &[f64], place: usize) -> Result<(), Refused> {
+pub fn demand_finite(xs: &[f64], place: usize) -> Result<(), Refused> {
     if all_finite(xs) {
         Ok(())
     } else {
@@ -28,11 +28,36 @@ fn same_chain(xs: &[TtCore<f64>], ys: &[TtCore<f64>]) -> bool {
     xs.len() == ys.len() && xs.iter().zip(ys).all(one)
 }
 
-/// The sweeps of each bond, and whether the sum is below 1e-30 at the end.
+/// The sweeps of each bond, whether the sum is below 1e-30 at the end, and the carry that goes on.
 #[derive(Default)]
 pub struct Bonds {
     pub sweeps: Vec<usize>,
     pub settled: Vec<bool>,
+    pub carries: Vec<Vec<f64>>,
+}
+
+/// Cuts core k to its left factor; the carry is the last of `bonds`.
+pub fn cut(core: &mut TtCore<f64>, k: usize, eps: f64, bonds: &mut Bonds) -> Result<(), Refused> {
+    let (rows, columns) = (core.r_left * core.n, core.r_right);
+    let sweeps = gram_ev(&core.data, rows, columns);
+    if !sweeps.finite {
+        return Err(Refused::NotFinite(k));
+    }
+    let (u, s, v) = tt_core::jacobi_svd_trunc(&core.data, rows, columns, eps);
+    let carry = tt_core::diag_times_vt(&s, &v, s.len(), columns);
+    demand_finite(&u, k)?;
+    demand_finite(&carry, k)?;
+    (core.r_right, core.data) = (s.len(), u);
+    bonds.sweeps.push(sweeps.made);
+    bonds.settled.push(sweeps.settled);
+    bonds.carries.push(carry);
+    Ok(())
+}
+
+/// Core k with the carry of the bond to its left in it.
+pub fn absorb(core: &mut TtCore<f64>, k: usize, carry: &[f64], rank: usize) -> Result<(), Refused> {
+    tt_core::absorb_left(carry, core, rank);
+    demand_finite(&core.data, k)
 }
 
 /// `tt_round`
@@ -40,48 +65,33 @@ pub fn round(cores: &mut [TtCore<f64>], eps: f64) -> Result<Bonds, Refused> {
     let mut rust = cores.to_vec();
     let mut bonds = Bonds::default();
     for k in 0..cores.len() - 1 {
-        let TtCore {
-            r_left,
-            n,
-            r_right,
-            data,
-        } = cores[k].clone();
-        let sweeps = gram_ev(&data, r_left * n, r_right);
-        if !sweeps.finite {
-            return Err(Refused::NotFinite(k));
-        }
-        bonds.sweeps.push(sweeps.made);
-        bonds.settled.push(sweeps.settled);
-        let (u, s, v) = tt_core::jacobi_svd_trunc(&data, r_left * n, r_right, eps);
-        let carry = tt_core::diag_times_vt(&s, &v, s.len(), r_right);
-        demand_finite(&u, k)?;
-        demand_finite(&carry, k)?;
-        cores[k] = TtCore {
-            r_left,
-            n,
-            r_right: s.len(),
-            data: u,
-        };
-        tt_core::absorb_left(&carry, &mut cores[k + 1], s.len());
-        demand_finite(&cores[k + 1].data, k + 1)?;
+        cut(&mut cores[k], k, eps, &mut bonds)?;
+        let rank = cores[k].r_right;
+        absorb(&mut cores[k + 1], k + 1, &bonds.carries[k], rank)?;
     }
     tt_core::tt_round(&mut rust, eps);
     assert!(same_chain(cores, &rust), "round is not the Rust's");
     Ok(bonds)
 }
 
-/// `inner_separable`
-pub fn inner(state: &TtState<f64>, weights: &[Vec<f64>]) -> Result<f64, Refused> {
-    let mut sums = vec![1.0];
+/// The sums of `inner_separable`, axis by axis.
+pub fn sums(state: &TtState<f64>, weights: &[Vec<f64>]) -> Result<Vec<Vec<f64>>, Refused> {
+    let mut all = vec![vec![1.0]];
     for (k, (core, f)) in state.cores.iter().zip(weights).enumerate() {
-        sums = tt_chernoff::contract_step(core, f, &sums);
-        demand_finite(&sums, k)?;
+        all.push(tt_chernoff::contract_step(core, f, &all[k]));
+        demand_finite(&all[k + 1], k)?;
     }
+    let last = &all[state.cores.len()];
     assert!(
-        same(&sums, &[state.inner_separable(weights)]),
+        same(last, &[state.inner_separable(weights)]),
         "inner is not the Rust's"
     );
-    Ok(sums[0])
+    Ok(all.split_off(1))
+}
+
+/// `inner_separable`
+pub fn inner(state: &TtState<f64>, weights: &[Vec<f64>]) -> Result<f64, Refused> {
+    Ok(sums(state, weights)?[state.cores.len() - 1][0])
 }
 
 /// h and dx of axis j
@@ -92,9 +102,14 @@ fn distances(rule: &TtChernoff<f64>, tau: f64, n: usize, j: usize) -> (f64, f64)
     )
 }
 
-/// The first axis whose core doesn't stay and whose shift is too far.
-fn demand_reach(rule: &TtChernoff<f64>, tau: f64, cores: &[TtCore<f64>]) -> Result<(), Refused> {
-    for (j, core) in cores.iter().enumerate() {
+/// The first axis from z on whose core doesn't stay and whose shift is too far.
+pub fn demand_reach(
+    rule: &TtChernoff<f64>,
+    tau: f64,
+    cores: &[TtCore<f64>],
+    z: usize,
+) -> Result<(), Refused> {
+    for (j, core) in cores.iter().enumerate().skip(z) {
         let (h, dx) = distances(rule, tau, core.n, j);
         let stays = dx <= 0.0 || h == 0.0;
         let near = (h / dx).abs() <= 2147483648.0;
@@ -105,19 +120,29 @@ fn demand_reach(rule: &TtChernoff<f64>, tau: f64, cores: &[TtCore<f64>]) -> Resu
     Ok(())
 }
 
+/// Core j moved along its axis.
+pub fn shift(rule: &TtChernoff<f64>, tau: f64, core: &mut TtCore<f64>, j: usize) -> Result<(), Refused> {
+    let n = core.n;
+    let (h, dx) = distances(rule, tau, n, j);
+    tt_chernoff::apply_per_axis_shift(core, h, dx, n);
+    demand_finite(&core.data, j)
+}
+
+/// Core 0 times 1 + tau*c.
+pub fn scale(rule: &TtChernoff<f64>, tau: f64, core: &mut TtCore<f64>) -> Result<(), Refused> {
+    let reaction = 1.0 + tau * rule.c;
+    core.data.iter_mut().for_each(|v| *v *= reaction);
+    demand_finite(&core.data, 0)
+}
+
 /// `step`: all shifts, then the scaling, then the bonds.
 pub fn step(rule: &TtChernoff<f64>, tau: f64, state: &mut TtState<f64>) -> Result<Bonds, Refused> {
-    demand_reach(rule, tau, &state.cores)?;
+    demand_reach(rule, tau, &state.cores, 0)?;
     let mut rust = state.clone();
-    for j in 0..rule.ndim() {
-        let n = state.cores[j].n;
-        let (h, dx) = distances(rule, tau, n, j);
-        tt_chernoff::apply_per_axis_shift(&mut state.cores[j], h, dx, n);
-        demand_finite(&state.cores[j].data, j)?;
+    for (j, core) in state.cores.iter_mut().enumerate() {
+        shift(rule, tau, core, j)?;
     }
-    let reaction = 1.0 + tau * rule.c;
-    state.cores[0].data.iter_mut().for_each(|v| *v *= reaction);
-    demand_finite(&state.cores[0].data, 0)?;
+    scale(rule, tau, &mut state.cores[0])?;
     let bonds = round(&mut state.cores, rule.eps_round)?;
     rule.step(tau, &mut rust);
     assert!(

@@ -1,5 +1,5 @@
 //! Copies of `jacobi_gram_ev` and `jacobi_sweep_all` that count, each held to the Rust's own answer, bit for bit.
-use oracle::{tt_core, tt_dense_expm};
+use crate::{tt_core, tt_dense_expm};
 
 pub fn all_finite(xs: &[f64]) -> bool {
     xs.iter().all(|x| x.is_finite())

@@ -1,6 +1,6 @@
 //! What cases are made of: sizes, cores of several manners, chains, settings and axis records.
 use crate::random::{ten_to, Random};
-use oracle::tt_core::TtCore;
+use crate::tt_core::TtCore;
 
 /// The most that a case may have of each.
 pub struct Most {
@@ -161,6 +161,11 @@ pub fn chain(r: &mut Random, most: &Most) -> Vec<TtCore<f64>> {
     let cores = count(r, most.cores);
     let size = count(r, most.size);
     let rank = count(r, most.rank);
+    chain_of(r, cores, size, rank)
+}
+
+/// So many cores; half of the bonds have this rank, three of four cores this size, the others less.
+pub fn chain_of(r: &mut Random, cores: usize, size: usize, rank: usize) -> Vec<TtCore<f64>> {
     let mut bond = |k: usize| match k {
         _ if k == 0 || k == cores => 1,
         _ if r.one_in(2) => rank,

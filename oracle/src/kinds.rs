@@ -1,10 +1,11 @@
 //! One function a kind of case: draws it, asks the Rust, and writes the line.
 use crate::calls::{self, Bonds, Refused};
-use crate::draw::{self, Axis, Most};
+use crate::draw::{self, Most};
 use crate::line::Line;
 use crate::random::Random;
-use oracle::tt_chernoff::{cubic_band_weights, TtChernoff, TtState};
-use oracle::tt_core::TtCore;
+use crate::rules;
+use crate::tt_chernoff::{cubic_band_weights, TtChernoff, TtState};
+use crate::tt_core::TtCore;
 
 /// A kind's name, and the function that draws a case of it.
 pub const KINDS: [(&str, fn(&mut Random, &Most, &mut Line)); 9] = [
@@ -65,26 +66,14 @@ fn inner(r: &mut Random, most: &Most, line: &mut Line) {
     }
 }
 
-/// The rule of a step over these cores, written as well.
-fn rule(r: &mut Random, tau: f64, cores: &[TtCore<f64>], line: &mut Line) -> TtChernoff<f64> {
-    let axes: Vec<Axis> = cores.iter().map(|c| draw::axis(r, tau, c.n)).collect();
-    let records: Vec<f64> = axes
-        .iter()
-        .flat_map(|x| [x.a, x.b, x.domain.0, x.domain.1])
-        .collect();
-    let (c, eps) = (draw::reaction(r), draw::eps(r));
+/// What a step is given but for tau.
+fn ruled(line: &mut Line, rule: &TtChernoff<f64>, cores: &[TtCore<f64>]) {
+    let record = |j: usize| [rule.a[j], rule.b[j], rule.domain[j].0, rule.domain[j].1];
     line.shape(cores)
-        .floats("axes", &records)
-        .float("c", c)
-        .float("eps", eps)
+        .floats("axes", &(0..cores.len()).flat_map(record).collect::<Vec<f64>>())
+        .float("c", rule.c)
+        .float("eps", rule.eps_round)
         .chain(cores);
-    TtChernoff::new(
-        axes.iter().map(|x| x.a).collect(),
-        axes.iter().map(|x| x.b).collect(),
-        c,
-        axes.iter().map(|x| x.domain).collect(),
-        eps,
-    )
 }
 
 fn step(r: &mut Random, most: &Most, line: &mut Line) {
@@ -92,56 +81,17 @@ fn step(r: &mut Random, most: &Most, line: &mut Line) {
         cores: draw::chain(r, most),
     };
     let tau = draw::tau(r);
-    let rule = rule(r, tau, &state.cores, line);
+    let rule = rules::any(r, tau, &state.cores);
+    ruled(line, &rule, &state.cores);
     line.float("tau", tau).answer();
     let end = calls::step(&rule, tau, &mut state);
     ended(line, &state.cores, end);
 }
 
-/// Settings at the edges of the rules: a, b, xmin, xmax, tau. Whole ratios, offsets far beyond n, the limit of 2^31 and the next f64
-/// above it, a fraction of 1, a spacing of zero, below zero and infinite, a distance of zero and one that is no number.
-const EDGES: [[f64; 5]; 16] = [
-    [0.0, 7.5, 0.0, 2.0, 1.0],
-    [0.0, -7.5, 0.0, 2.0, 1.0],
-    [0.0, 1000.0, 0.0, 2.0, 1.0],
-    [0.0, 2147483648.0, 0.0, 1.0, 1.0],
-    [0.0, -2147483648.0, 0.0, 1.0, 1.0],
-    [0.0, 2147483648.0000005, 0.0, 1.0, 1.0],
-    [0.0, -2147483648.0000005, 0.0, 1.0, 1.0],
-    [0.0, -8.673617379884035e-19, 0.0, 2.0, 1.0],
-    [0.0, 8.673617379884035e-19, 0.0, 2.0, 1.0],
-    [0.25, 1.0, 1.0, 1.0, 1.0],
-    [0.25, 1.0, 1.0, 0.0, 1.0],
-    [0.25, 1.0, -1.7e308, 1.7e308, 1.0],
-    [0.0, 0.0, 0.0, 2.0, 1.0],
-    [0.25, -1.0, 0.0, 2.0, 1.0],
-    [0.25, -1.5, 0.0, 2.0, 1.0],
-    [1e308, -1e308, 0.0, 2.0, 1e308],
-];
-
-/// A step of one core of 1 to 4 points, or of two cores of rank two, with the next settings of the list.
 fn edge(r: &mut Random, most: &Most, line: &mut Line) {
-    let index = line.index();
-    let [a, b, xmin, xmax, tau] = EDGES[index % EDGES.len()];
-    let n = 1 + index / EDGES.len() % 4;
-    let core = |rl: usize, rr: usize, r: &mut Random| TtCore {
-        r_left: rl,
-        n,
-        r_right: rr,
-        data: (0..rl * n * rr).map(|_| draw::eps(r).min(most.size as f64) - 0.75).collect(),
-    };
-    let mut state = TtState {
-        cores: if index < 4 * EDGES.len() { vec![core(1, 1, r)] } else { vec![core(1, 2, r), core(2, 1, r)] },
-    };
-    let d = state.cores.len();
-    line.shape(&state.cores)
-        .floats("axes", &[a, b, xmin, xmax].repeat(d))
-        .float("c", 0.5)
-        .float("eps", 0.0)
-        .chain(&state.cores)
-        .float("tau", tau)
-        .answer();
-    let rule = TtChernoff::new(vec![a; d], vec![b; d], 0.5, vec![(xmin, xmax); d], 0.0);
+    let (rule, tau, mut state) = rules::at_the_edge(r, most, line.index());
+    ruled(line, &rule, &state.cores);
+    line.float("tau", tau).answer();
     let end = calls::step(&rule, tau, &mut state);
     ended(line, &state.cores, end);
 }
@@ -153,7 +103,8 @@ fn evolve(r: &mut Random, most: &Most, line: &mut Line) {
     let steps = draw::count(r, most.steps);
     let tau = draw::tau(r);
     let t_final = tau * steps as f64;
-    let rule = rule(r, tau, &state.cores, line);
+    let rule = rules::any(r, tau, &state.cores);
+    ruled(line, &rule, &state.cores);
     line.float("t_final", t_final)
         .word("steps")
         .word(steps)

@@ -1,6 +1,13 @@
-//! The Rust of the scope, which `prepare` copies, and the two modules that it calls.
+//! The Rust of the scope, which `prepare` copies, with the two modules that it calls; seeded cases, and its answers to them.
+pub mod calls;
+pub mod counted;
+pub mod draw;
 pub mod error;
 pub mod float;
+pub mod kinds;
+pub mod line;
+pub mod random;
+pub mod rules;
 #[path = "../semiflow/tt_chernoff.rs"]
 pub mod tt_chernoff;
 #[path = "../semiflow/tt_core.rs"]

@@ -1,5 +1,5 @@
 //! One case as a line of words: names, counts in decimal, and floats as the 16 hex digits of their bits.
-use oracle::tt_core::TtCore;
+use crate::tt_core::TtCore;
 use std::fmt::{Display, Write};
 
 pub struct Line(String);

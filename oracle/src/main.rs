@@ -1,14 +1,8 @@
 //! Prints cases with the Rust's answers, one a line; README.md says how to read them.
-mod calls;
-mod counted;
-mod draw;
-mod kinds;
-mod line;
-mod random;
-
-use draw::Most;
-use line::Line;
-use random::Random;
+use oracle::draw::Most;
+use oracle::kinds;
+use oracle::line::Line;
+use oracle::random::Random;
 use std::io::{BufWriter, Write};
 
 const USAGE: &str = "usage: oracle KIND SEED COUNT [CORES SIZE RANK STEPS]

@@ -1,20 +1,29 @@
 // Comparisons bit for bit: zeros of two signs differ.
 ghost use mathlib.Core.Path.{_≡_};
-ghost use lib.ListN.{length};
+ghost use mathlib.Core.Bool.{true};
+ghost use lib.Ieee.{binary64, toBits};
 
 // The bits of a number; one pattern stands for every NaN.
-fn bits(x: f64) -> u64 {
+fn bits(x: f64) -> u64
+    ensures { λ r. ⌜ r ≡ toBits binary64 x ⌝ }
+{
     if x != x {
         return 0x7ff8_0000_0000_0000;
     }
     f64::to_bits(x)
 }
 
-pub fn same_number(x: f64, y: f64) -> bool {
-    bits(x) == bits(y)
+pub fn same_number(x: f64, y: f64) -> bool
+    ensures { λ r. ⌜ (r ≡ true → x ≡ y) × (x ≡ y → r ≡ true) ⌝ }
+{
+    let a = bits(x);
+    let b = bits(y);
+    a == b
 }
 
-pub fn same_list(a: &[f64], b: &[f64]) -> bool {
+pub fn same_list(a: &[f64], b: &[f64]) -> bool
+    ensures { λ r. ⌜ (r ≡ true → now (a .entry) ≡ now (b .entry)) ⌝ }
+{
     if a.len() != b.len() {
         return false;
     }

@@ -44,8 +44,8 @@ module _ (r : Run) (z : ℕ) (weights chain carries sums scratch : List Float) (
   all-sums : (n : ℕ) → n ≡ 128 → allSums (r .shape) ≤ n
   all-sums n e = omega (arith, sums-most (r .shape) sizes (r .shape .d) (omega arith))
 
-  pub carry-asks : (n : ℕ) → n ≡ 1024 → SizesWithin (r .shape) × ((z < r .shape .d) × (offset (carrySize (r .shape)) (r .shape .d) ≤ length carries) × (offset (carrySize (r .shape)) (r .shape .d) ≤ n))
-  carry-asks n e = (sizes, (A .zone, omega (arith, A .carries-long), all-carries n e))
+  pub carry-asks : (y n : ℕ) → y < r .shape .d → n ≡ 1024 → SizesWithin (r .shape) × ((y < r .shape .d) × (offset (carrySize (r .shape)) (r .shape .d) ≤ length carries) × (offset (carrySize (r .shape)) (r .shape .d) ≤ n))
+  carry-asks y n l e = (sizes, (l, omega (arith, A .carries-long), all-carries n e))
 
   pub sum-asks : (n : ℕ) → n ≡ 128 → SizesWithin (r .shape) × ((z < r .shape .d) × (offset (sumSize (r .shape)) (r .shape .d) ≤ length sums) × (offset (sumSize (r .shape)) (r .shape .d) ≤ n))
   sum-asks n e = (sizes, (A .zone, omega (arith, A .sums-long), all-sums n e))

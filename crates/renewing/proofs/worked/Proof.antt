@@ -6,7 +6,7 @@ use Rattle.renewing.proofs.worked.Statement.{statement}
 use Rattle.renewing.proofs.worked.Tie as tie
 
 take-carry-requires : tie.Need-take-carry-requires
-take-carry-requires c κs = carry-asks _ _ _ _ _ _ _ (c .before .before .before .before .before .before .before .before .before .before .pre) _ (search needs)
+take-carry-requires c κs = carry-asks _ _ _ _ _ _ _ (c .before .before .before .before .before .before .before .before .before .before .pre) _ _ (search needs) (search needs)
 
 take-sum-requires : tie.Need-take-sum-requires
 take-sum-requires c κs = sum-asks _ _ _ _ _ _ _ (c .before .before .before .before .before .before .before .before .before .before .before .before .before .before .pre) _ (search needs)

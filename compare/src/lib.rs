@@ -1,0 +1,22 @@
+//! The port, linked as an archive, beside the Rust of the scope: every call on the same inputs.
+pub mod asked;
+pub mod case;
+pub mod chains;
+pub mod clock;
+pub mod files;
+pub mod kernels;
+pub mod kinds;
+pub mod lent;
+pub mod model;
+pub mod pairs;
+pub mod port;
+pub mod products;
+pub mod profile;
+pub mod roots;
+pub mod rounds;
+pub mod rows;
+pub mod runs;
+pub mod spoil;
+pub mod steps;
+pub mod table;
+pub mod views;

@@ -1,0 +1,366 @@
+//! The rows that are measured: one call of the port and one of the Rust on the same inputs.
+use crate::chains::{flat, scratch_for, shape_of};
+use crate::clock::Clock;
+use crate::model::{self, Run};
+use crate::port::{self, Course, Record, Shape};
+use crate::table;
+use oracle::draw::{self, Manner};
+use oracle::random::Random;
+use oracle::tt_chernoff::{TtChernoff, TtState};
+use oracle::tt_core::{self, TtCore};
+use oracle::tt_coupled_pair;
+use std::hint::black_box;
+
+/// A dense chain of one size and one rank, numbers between -1 and 1.
+pub fn chain<const D: usize, const N: usize, const R: usize>() -> Vec<TtCore<f64>> {
+    let mut r = Random::of_case(1, "measured", D * N * R);
+    let rank = |k: usize| if k == 0 || k == D { 1 } else { R };
+    (0..D)
+        .map(|k| draw::core(&mut r, Manner::Plain, 1.0, rank(k), N, rank(k + 1)))
+        .collect()
+}
+
+fn shape(cores: &[TtCore<f64>]) -> Shape {
+    shape_of(&mut Random::of_case(1, "measured", 0), cores)
+}
+
+fn weights(cores: &[TtCore<f64>]) -> Vec<Vec<f64>> {
+    let list = |n: usize| (0..n).map(|i| 1.0 / (1.0 + i as f64)).collect();
+    cores.iter().map(|c| list(c.n)).collect()
+}
+
+const TAU: f64 = 0.1;
+const EPS: f64 = 1e-12;
+const AXIS: [f64; 4] = [0.3, 0.1, 0.0, 4.0];
+
+/// With a tau of 1 a distance of all 64 points, which brings every number back to its place; and one of none.
+pub const ROUND_TRIP: [f64; 4] = [0.0, 64.0, 0.0, 63.0];
+pub const NO_TRIP: [f64; 4] = [0.0, 0.0, 0.0, 63.0];
+
+fn rule(d: usize, [a, b, low, high]: [f64; 4]) -> TtChernoff<f64> {
+    TtChernoff::new(vec![a; d], vec![b; d], 0.05, vec![(low, high); d], EPS)
+}
+
+fn round_port<const D: usize, const N: usize, const R: usize>(clock: &mut Clock) {
+    rounded_port(clock, &chain::<D, N, R>());
+}
+
+fn round_rust<const D: usize, const N: usize, const R: usize>(clock: &mut Clock) {
+    rounded_rust(clock, &chain::<D, N, R>());
+}
+
+pub fn rounded_port(clock: &mut Clock, cores: &[TtCore<f64>]) {
+    let (s, given) = (shape(cores), flat(cores));
+    let mut scratch = vec![0.0; scratch_for(&given)];
+    clock.run(
+        || given.clone(),
+        |chain| _ = black_box(port::tt_round(&s, EPS, chain, &mut scratch)),
+    );
+}
+
+pub fn rounded_rust(clock: &mut Clock, cores: &[TtCore<f64>]) {
+    clock.run(|| cores.to_vec(), |cores| tt_core::tt_round(cores, EPS));
+}
+
+/// Two cores; the first's columns are all but orthogonal: off the diagonal their Gram matrix has twice `off`.
+pub fn level(off: f64) -> Vec<TtCore<f64>> {
+    let mut cores = chain::<2, 64, 8>();
+    for (at, x) in cores[0].data.iter_mut().enumerate() {
+        let (row, column) = (at / 8, at % 8);
+        *x = match row {
+            _ if row == column => 1.0,
+            0..8 => off,
+            _ => 0.0,
+        };
+    }
+    cores
+}
+
+fn step_port<const D: usize, const N: usize, const R: usize>(clock: &mut Clock) {
+    moved_port(clock, &chain::<D, N, R>(), TAU, AXIS);
+}
+
+fn step_rust<const D: usize, const N: usize, const R: usize>(clock: &mut Clock) {
+    moved_rust(clock, &chain::<D, N, R>(), TAU, AXIS);
+}
+
+pub fn moved_port(clock: &mut Clock, cores: &[TtCore<f64>], tau: f64, axis: [f64; 4]) {
+    let (s, given) = (shape(cores), flat(cores));
+    let mut scratch = vec![0.0; scratch_for(&given)];
+    let (set, axes) = ([tau, 0.05, EPS], vec![axis; s.d]);
+    clock.run(
+        || given.clone(),
+        |chain| _ = black_box(port::step(&s, set, &axes, chain, &mut scratch)),
+    );
+}
+
+pub fn moved_rust(clock: &mut Clock, cores: &[TtCore<f64>], tau: f64, axis: [f64; 4]) {
+    let rule = rule(cores.len(), axis);
+    clock.run(
+        || TtState {
+            cores: cores.to_vec(),
+        },
+        |state| rule.step(tau, state),
+    );
+}
+
+fn evolve_port<const D: usize, const N: usize, const R: usize>(clock: &mut Clock) {
+    let cores = chain::<D, N, R>();
+    let (s, given) = (shape(&cores), flat(&cores));
+    let mut scratch = vec![0.0; scratch_for(&given)];
+    let course = Course {
+        t_final: 10.0 * TAU,
+        steps: 10,
+        c: 0.05,
+        eps: EPS,
+    };
+    clock.run(
+        || given.clone(),
+        |chain| _ = black_box(port::evolve(&s, course, &[AXIS; D], chain, &mut scratch)),
+    );
+}
+
+fn evolve_rust<const D: usize, const N: usize, const R: usize>(clock: &mut Clock) {
+    let state = TtState {
+        cores: chain::<D, N, R>(),
+    };
+    let rule = rule(D, AXIS);
+    clock.run(|| state.clone(), |state| rule.evolve(10.0 * TAU, 10, state));
+}
+
+fn inner_port<const D: usize, const N: usize, const R: usize>(clock: &mut Clock) {
+    let cores = chain::<D, N, R>();
+    let (s, chain, weights) = (shape(&cores), flat(&cores), weights(&cores).concat());
+    clock.run(
+        || (),
+        |_| _ = black_box(port::inner_separable(&s, &chain, &weights)),
+    );
+}
+
+fn inner_rust<const D: usize, const N: usize, const R: usize>(clock: &mut Clock) {
+    let state = TtState {
+        cores: chain::<D, N, R>(),
+    };
+    let weights = weights(&state.cores);
+    clock.run(|| (), |_| _ = black_box(state.inner_separable(&weights)));
+}
+
+fn start_port<const D: usize, const N: usize>(clock: &mut Clock) {
+    let cores = chain::<D, N, 1>();
+    let (s, vectors) = (shape(&cores), weights(&cores).concat());
+    let mut chain = vec![0.0; vectors.len()];
+    clock.run(
+        || (),
+        |_| _ = black_box(port::rank1_separable(&s, &vectors, &mut chain)),
+    );
+}
+
+fn start_rust<const D: usize, const N: usize>(clock: &mut Clock) {
+    let vectors = weights(&chain::<D, N, 1>());
+    clock.run(
+        || vectors.clone(),
+        |vectors| _ = black_box(TtState::rank1_separable(std::mem::take(vectors))),
+    );
+}
+
+/// Two cores (1, 64, 8) and (8, 64, 1): 64 rows and 64 columns of rank 8.
+fn pair_port(clock: &mut Clock) {
+    let [left, right] = chain::<2, 64, 8>().try_into().expect("two cores");
+    let (mut lefts, mut rights) = (vec![0.0; 512], vec![0.0; 512]);
+    let mut scratch = vec![0.0; 20_480];
+    clock.run(
+        || (),
+        |_| {
+            let room = [&mut lefts[..], &mut rights[..], &mut scratch[..]];
+            let (sizes, cores) = ([[1, 64, 8], [8, 64, 1]], [&left.data[..], &right.data[..]]);
+            _ = black_box(port::contract_and_split(sizes, EPS, cores, room));
+        },
+    );
+}
+
+fn pair_rust(clock: &mut Clock) {
+    let state = TtState {
+        cores: chain::<2, 64, 8>(),
+    };
+    clock.run(
+        || state.clone(),
+        |state| {
+            let (left, right) = (&state.cores[0], &state.cores[1]);
+            let slab = tt_coupled_pair::contract_slab(left, right, 1, 8, 1, 64, 64, 4096);
+            tt_coupled_pair::split_slab_into_cores(state, 0, 1, &slab, 1, 1, 64, 64, 4096, EPS);
+        },
+    );
+}
+
+/// A run on a dense chain, made fresh by the port.
+fn run<const D: usize, const N: usize, const R: usize>() -> Run {
+    let cores = chain::<D, N, R>();
+    let record = Record {
+        shape: shape(&cores),
+        axes: [AXIS; 16],
+        tau: TAU,
+        c: 0.05,
+        eps: EPS,
+        ranks: [0; 16],
+        sweeps: [0; 16],
+        settled: [false; 16],
+        figure: 0.0,
+    };
+    let (source, weights) = (flat(&cores), weights(&cores).concat());
+    let (chain, carries, sums) = (vec![], vec![], vec![]);
+    let mut run = model::blank(&Run {
+        record,
+        source,
+        weights,
+        chain,
+        carries,
+        sums,
+    });
+    let mut scratch = vec![0.0; scratch_for(&run.source)];
+    (_, run.record) = port::fresh_run(&run.record.clone(), slices(&mut run), &mut scratch);
+    run
+}
+
+fn slices(run: &mut Run) -> port::Slices<'_> {
+    [
+        &mut run.source,
+        &mut run.weights,
+        &mut run.chain,
+        &mut run.carries,
+        &mut run.sums,
+    ]
+}
+
+fn fresh_port<const D: usize, const N: usize, const R: usize>(clock: &mut Clock) {
+    let mut run = run::<D, N, R>();
+    let record = run.record.clone();
+    let mut scratch = vec![0.0; scratch_for(&run.source)];
+    clock.run(
+        || (),
+        |_| _ = black_box(port::fresh_run(&record, slices(&mut run), &mut scratch)),
+    );
+}
+
+/// The Rust has no runs: whatever is replaced, it makes the step and the inner product.
+fn fresh_rust<const D: usize, const N: usize, const R: usize>(clock: &mut Clock) {
+    let state = TtState {
+        cores: chain::<D, N, R>(),
+    };
+    let (rule, weights) = (rule(D, AXIS), weights(&state.cores));
+    clock.run(
+        || state.clone(),
+        |state| {
+            rule.step(TAU, state);
+            _ = black_box(state.inner_separable(&weights));
+        },
+    );
+}
+
+/// The zone's own core, axis record or weights, given anew.
+fn replace_port(clock: &mut Clock, mut run: Run, zone: usize, what: &str) {
+    let (record, s) = (run.record.clone(), run.record.shape.clone());
+    let core = table::part(&run.source, |k| table::core_size(&s, k), zone).to_vec();
+    let points = table::part(&run.weights, |k| s.n[k], zone).to_vec();
+    let mut scratch = vec![0.0; scratch_for(&run.source)];
+    clock.run(
+        || (),
+        |_| {
+            let (held, room) = (slices(&mut run), &mut scratch[..]);
+            _ = black_box(match what {
+                "core" => port::replace_core(&record, zone, held, &core, room),
+                "axis" => port::replace_axis(&record, zone, AXIS, held, room),
+                _ => port::replace_weights(&record, zone, held, &points, room),
+            });
+        },
+    );
+}
+
+/// What is called, and the function that calls it again and again, of the port and of the Rust.
+pub struct Row {
+    pub name: &'static str,
+    pub port: fn(&mut Clock),
+    pub rust: fn(&mut Clock),
+}
+
+pub const ROWS: [Row; 16] = [
+    Row {
+        name: "step, d 8, n 32, rank 4",
+        port: step_port::<8, 32, 4>,
+        rust: step_rust::<8, 32, 4>,
+    },
+    Row {
+        name: "step, d 11, n 64, rank 8",
+        port: step_port::<11, 64, 8>,
+        rust: step_rust::<11, 64, 8>,
+    },
+    Row {
+        name: "evolve of 10 steps, d 6, n 16, rank 2",
+        port: evolve_port::<6, 16, 2>,
+        rust: evolve_rust::<6, 16, 2>,
+    },
+    Row {
+        name: "tt_round, d 16, n 64, rank 8",
+        port: round_port::<16, 64, 8>,
+        rust: round_rust::<16, 64, 8>,
+    },
+    Row {
+        name: "tt_round, d 8, n 32, rank 4",
+        port: round_port::<8, 32, 4>,
+        rust: round_rust::<8, 32, 4>,
+    },
+    Row {
+        name: "inner_separable, d 16, n 64, rank 8",
+        port: inner_port::<16, 64, 8>,
+        rust: inner_rust::<16, 64, 8>,
+    },
+    Row {
+        name: "rank1_separable, d 16, n 64",
+        port: start_port::<16, 64>,
+        rust: start_rust::<16, 64>,
+    },
+    Row {
+        name: "contract_and_split, 64 by 64",
+        port: pair_port,
+        rust: pair_rust,
+    },
+    Row {
+        name: "fresh_run, d 11, n 64, rank 8",
+        port: fresh_port::<11, 64, 8>,
+        rust: fresh_rust::<11, 64, 8>,
+    },
+    Row {
+        name: "replace_core at the first zone, d 11, n 64, rank 8",
+        port: |c| replace_port(c, run::<11, 64, 8>(), 0, "core"),
+        rust: fresh_rust::<11, 64, 8>,
+    },
+    Row {
+        name: "replace_core at the middle zone, d 11, n 64, rank 8",
+        port: |c| replace_port(c, run::<11, 64, 8>(), 5, "core"),
+        rust: fresh_rust::<11, 64, 8>,
+    },
+    Row {
+        name: "replace_core at the last zone, d 11, n 64, rank 8",
+        port: |c| replace_port(c, run::<11, 64, 8>(), 10, "core"),
+        rust: fresh_rust::<11, 64, 8>,
+    },
+    Row {
+        name: "replace_axis at the middle zone, d 11, n 64, rank 8",
+        port: |c| replace_port(c, run::<11, 64, 8>(), 5, "axis"),
+        rust: fresh_rust::<11, 64, 8>,
+    },
+    Row {
+        name: "replace_weights at the first zone, d 11, n 64, rank 8",
+        port: |c| replace_port(c, run::<11, 64, 8>(), 0, "weights"),
+        rust: fresh_rust::<11, 64, 8>,
+    },
+    Row {
+        name: "replace_weights at the middle zone, d 11, n 64, rank 8",
+        port: |c| replace_port(c, run::<11, 64, 8>(), 5, "weights"),
+        rust: fresh_rust::<11, 64, 8>,
+    },
+    Row {
+        name: "replace_weights at the last zone, d 11, n 64, rank 8",
+        port: |c| replace_port(c, run::<11, 64, 8>(), 10, "weights"),
+        rust: fresh_rust::<11, 64, 8>,
+    },
+];

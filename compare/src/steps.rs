@@ -1,0 +1,212 @@
+//! Steps, steps at the edges of the rules, and evolves.
+use crate::case::{numbered, Case, Refusal};
+use crate::chains::{cores_of, flat, scratch_for, shape_of};
+use crate::lent::{self, Lent};
+use crate::port::{self, Course, Shape};
+use crate::rounds::{ended, Ended};
+use crate::{chains, spoil, table};
+use oracle::draw::{self, Most};
+use oracle::random::Random;
+use oracle::tt_chernoff::{TtChernoff, TtState};
+use oracle::{calls, rules};
+
+/// A chain and its rule: what a step and an evolve are both given.
+#[derive(Debug)]
+struct Moving {
+    shape: Shape,
+    axes: Vec<[f64; 4]>,
+    c: f64,
+    eps: f64,
+    chain: Vec<f64>,
+    scratch: usize,
+}
+
+impl Moving {
+    fn of(r: &mut Random, rule: &TtChernoff<f64>, state: &TtState<f64>) -> Moving {
+        let record = |j: usize| [rule.a[j], rule.b[j], rule.domain[j].0, rule.domain[j].1];
+        let chain = flat(&state.cores);
+        Moving {
+            shape: shape_of(r, &state.cores),
+            axes: (0..state.cores.len()).map(record).collect(),
+            c: rule.c,
+            eps: rule.eps_round,
+            scratch: scratch_for(&chain),
+            chain,
+        }
+    }
+
+    fn spoil(&mut self, r: &mut Random) {
+        match r.below(8) {
+            0 => spoil::shape(r, &mut self.shape),
+            1 => spoil::length(r, &mut self.axes),
+            2 => spoil::length(r, &mut self.chain),
+            3 => spoil::room(r, &mut self.scratch),
+            4 => spoil::number(r, &mut self.chain),
+            5 => spoil::number(r, self.axes.as_flattened_mut()),
+            6 => self.c = spoil::setting(r),
+            _ => self.eps = spoil::setting(r),
+        }
+    }
+
+    /// What the table looks at; `far` is tau, or t_final.
+    fn refused<T>(&self, far: f64, judge: impl Fn(&table::Moved) -> T) -> T {
+        judge(&table::Moved {
+            shape: &self.shape,
+            axes: &self.axes,
+            chain: &self.chain,
+            scratch: self.scratch,
+            lone: &[far, self.c, self.eps],
+            not_below_zero: &[far, self.eps],
+        })
+    }
+
+    fn rule(&self) -> TtChernoff<f64> {
+        TtChernoff::new(
+            self.axes.iter().map(|x| x[0]).collect(),
+            self.axes.iter().map(|x| x[1]).collect(),
+            self.c,
+            self.axes.iter().map(|x| (x[2], x[3])).collect(),
+            self.eps,
+        )
+    }
+
+    fn state(&self) -> TtState<f64> {
+        TtState {
+            cores: cores_of(&self.shape, &self.chain),
+        }
+    }
+}
+
+#[derive(Debug)]
+pub struct Step {
+    given: Moving,
+    tau: f64,
+}
+
+impl Step {
+    pub fn draw(r: &mut Random, most: &Most) -> Step {
+        let state = TtState {
+            cores: chains::draw(r, most),
+        };
+        let tau = draw::tau(r);
+        let rule = rules::any(r, tau, &state.cores);
+        Step {
+            given: Moving::of(r, &rule, &state),
+            tau,
+        }
+    }
+
+    /// With settings at the edges of the rules.
+    pub fn at_the_edge(r: &mut Random, most: &Most, index: usize) -> Step {
+        let (rule, tau, state) = rules::at_the_edge(r, most, index);
+        Step {
+            given: Moving::of(r, &rule, &state),
+            tau,
+        }
+    }
+}
+
+impl Case for Step {
+    type Answer = Ended;
+
+    fn spoil(&mut self, r: &mut Random) {
+        match r.below(8) {
+            0 => self.tau = spoil::setting(r),
+            _ => self.given.spoil(r),
+        }
+    }
+
+    fn refused(&self) -> Option<Refusal> {
+        self.given.refused(self.tau, |m| m.step())
+    }
+
+    fn rust(&self) -> Result<Ended, Refusal> {
+        let mut state = self.given.state();
+        let bonds = calls::step(&self.given.rule(), self.tau, &mut state).map_err(numbered)?;
+        Ok(Ended {
+            cores: state.cores,
+            bonds,
+        })
+    }
+
+    fn port(&self, r: &mut Random, want: &Result<Ended, Refusal>) -> Result<(), String> {
+        let m = &self.given;
+        let mut chain = Lent::of("chain", &m.chain);
+        let mut scratch = lent::room(r, "scratch", m.scratch);
+        let set = [self.tau, m.c, m.eps];
+        let got = port::step(&m.shape, set, &m.axes, chain.part(), scratch.part());
+        ended(&m.shape, &got, &chain, &scratch, want)
+    }
+}
+
+#[derive(Debug)]
+pub struct Evolve {
+    given: Moving,
+    t_final: f64,
+    steps: usize,
+}
+
+/// So many that the numbers moved stay about the same for every chain; for a small one at times the most there may be.
+fn steps_for(r: &mut Random, chain: &[f64]) -> usize {
+    if chain.len() <= 8 && r.one_in(8) {
+        return 10_000;
+    }
+    draw::count(r, (20_000 / chain.len()).clamp(1, 200))
+}
+
+impl Evolve {
+    pub fn draw(r: &mut Random, most: &Most) -> Evolve {
+        let state = TtState {
+            cores: chains::draw(r, most),
+        };
+        let tau = draw::tau(r);
+        let rule = rules::any(r, tau, &state.cores);
+        let given = Moving::of(r, &rule, &state);
+        let steps = steps_for(r, &given.chain);
+        Evolve {
+            given,
+            t_final: tau * steps as f64,
+            steps,
+        }
+    }
+}
+
+impl Case for Evolve {
+    type Answer = Ended;
+
+    fn spoil(&mut self, r: &mut Random) {
+        match r.below(8) {
+            0 => self.t_final = spoil::setting(r),
+            1 => self.steps = r.of(&[0, 0, 10_001, usize::MAX]),
+            _ => self.given.spoil(r),
+        }
+    }
+
+    fn refused(&self) -> Option<Refusal> {
+        self.given.refused(self.t_final, |m| m.evolve(self.steps))
+    }
+
+    fn rust(&self) -> Result<Ended, Refusal> {
+        let mut state = self.given.state();
+        let bonds = calls::evolve(&self.given.rule(), self.t_final, self.steps, &mut state)
+            .map_err(numbered)?;
+        Ok(Ended {
+            cores: state.cores,
+            bonds,
+        })
+    }
+
+    fn port(&self, r: &mut Random, want: &Result<Ended, Refusal>) -> Result<(), String> {
+        let m = &self.given;
+        let mut chain = Lent::of("chain", &m.chain);
+        let mut scratch = lent::room(r, "scratch", m.scratch);
+        let course = Course {
+            t_final: self.t_final,
+            steps: self.steps,
+            c: m.c,
+            eps: m.eps,
+        };
+        let got = port::evolve(&m.shape, course, &m.axes, chain.part(), scratch.part());
+        ended(&m.shape, &got, &chain, &scratch, want)
+    }
+}

@@ -1,0 +1,115 @@
+// A plan of five zones: the fresh figure, then what a day replaces, each time with the figure and a fresh run beside it.
+mod table;
+
+use example::inputs;
+use example::plans;
+use example::same;
+use printing::say;
+
+// The plan so far, and whether it had the bits of a fresh run each time.
+struct State {
+    plan: plans::Plan,
+    same: bool,
+}
+
+fn refused(q: answers::Refusal) {
+    say(b"   refused with ");
+    printing::refusal(q);
+    say(b"\n   written: nothing\n");
+}
+
+// What an accepted call writes, from zone z to the last.
+fn written(what: &[u8], z: usize) {
+    say(b"   written: ");
+    say(what);
+    say(b" of zones ");
+    printing::number(z);
+    say(b" to ");
+    printing::number(inputs::ZONES - 1);
+    say(b"\n");
+}
+
+// What became of the plan, and whether a fresh run has the same bits.
+fn told(before: bool, a: plans::Answer, what: &[u8], z: usize) -> State {
+    let verdict = a.verdict;
+    match verdict {
+        answers::Verdict::Fits => written(what, z),
+        answers::Verdict::Refused(q) => refused(q),
+    }
+    let plan = a.plan;
+    let run = plan.run;
+    say(b"   ");
+    printing::figure(run.figure);
+    let same = same::as_fresh(plan);
+    say(b"   same bits as a fresh run: ");
+    printing::yes(same);
+    say(b"\n\n");
+    State {
+        plan,
+        same: before & same,
+    }
+}
+
+fn morning() -> State {
+    say(
+        b"A heating plan of five zones in a row. A zone's load is one of a few points, and the weather ties\n",
+    );
+    say(
+        b"it to its neighbours: a rank counts the kinds of weather told apart, a kept rank those that rounding\n",
+    );
+    say(
+        b"leaves; sweeps are the work of that, until it is settled. A weight is 1 where a load is within the\n",
+    );
+    say(
+        b"pipe's limit, and less where it is not. The figure is the chance that every zone is within its\n",
+    );
+    say(b"limit, a quarter of an hour on.\n\n");
+    say(b"The fresh run:\n");
+    let a = plans::fresh(inputs::plan());
+    told(true, a, b"cores, carries and sums", 0)
+}
+
+fn wider_pipe(now: State) -> State {
+    say(b"New weights for zone 3, Station: a wider pipe.\n");
+    let p = now.plan;
+    let part = inputs::wider_pipe();
+    let a = plans::new_weights(p, inputs::STATION, &part);
+    told(now.same, a, b"sums alone,", inputs::STATION)
+}
+
+fn new_forecast(now: State) -> State {
+    say(b"A new core for zone 1, Old Town: a new forecast.\n");
+    let p = now.plan;
+    let part = inputs::new_forecast();
+    let a = plans::new_core(p, inputs::OLD_TOWN, &part);
+    told(now.same, a, b"cores, carries and sums", inputs::OLD_TOWN)
+}
+
+fn insulated(now: State, x: axes::Axis) -> State {
+    let p = now.plan;
+    let a = plans::new_axis(p, inputs::MILL, x);
+    told(now.same, a, b"cores, carries and sums", inputs::MILL)
+}
+
+fn show(now: State) {
+    let p = now.plan;
+    let run = p.run;
+    table::zones(run);
+    say(b"\n");
+}
+
+fn main() {
+    let a = morning();
+    show(a);
+    let b = wider_pipe(a);
+    let c = new_forecast(b);
+    say(b"A new axis record for zone 2, Mill, with a slip of the pen: a = -0.01.\n");
+    let d = insulated(c, inputs::slip());
+    say(b"The same with a = 0.01: insulation, the loads spread less.\n");
+    let e = insulated(d, inputs::insulated());
+    say(b"At the end of the day:\n\n");
+    show(e);
+    say(b"Every run had the bits of a fresh run: ");
+    printing::yes(e.same);
+    say(b"\n");
+}

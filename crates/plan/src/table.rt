@@ -1,0 +1,53 @@
+// The table of zones: what their inputs have, and what the run keeps of the bond behind each.
+ghost use Prim.Native.Nat.{_<_};
+ghost use Rattle.shape.specs.Limits.{mostAxes};
+use example::inputs;
+use printing::say;
+
+fn name(z: usize) {
+    match z {
+        0 => say(b"0 Harbour "),
+        1 => say(b"1 Old Town"),
+        2 => say(b"2 Mill    "),
+        3 => say(b"3 Station "),
+        _ => say(b"4 Hospital"),
+    }
+}
+
+fn sizes(s: shape::Shape, z: usize)
+    requires { ⌜ z < mostAxes ⌝ }
+{
+    printing::column(s.left[z], 12);
+    printing::column(s.n[z], 8);
+    printing::column(s.right[z], 12);
+}
+
+fn bond(r: kept::Run, z: usize)
+    requires { ⌜ z < mostAxes ⌝ }
+{
+    printing::column(r.ranks[z], 11);
+    printing::column(r.sweeps[z], 8);
+    say(b"  ");
+    printing::yes(r.settled[z]);
+}
+
+fn row(r: kept::Run, z: usize)
+    requires { ⌜ z < mostAxes ⌝ }
+{
+    name(z);
+    let s = r.shape;
+    sizes(s, z);
+    if z + 1 < inputs::ZONES {
+        bond(r, z);
+    }
+    say(b"\n");
+}
+
+pub fn zones(r: kept::Run) {
+    say(b"zone         left rank  points  right rank  kept rank  sweeps  settled\n");
+    let mut z = 0;
+    while z < inputs::ZONES {
+        row(r, z);
+        z += 1;
+    }
+}
