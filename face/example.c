@@ -17,9 +17,9 @@ static void print_numbers(const char *name, const double *numbers, size_t count)
 /* Prints a refusal, and tells whether there was one. */
 static bool refused(uyavsker_refusal refusal)
 {
-    if (refusal.number != 0)
+    if (refusal.number != UYAVSKER_NONE)
         printf("refused %d at %zu\n", refusal.number, refusal.place);
-    return refusal.number != 0;
+    return refusal.number != UYAVSKER_NONE;
 }
 
 static void print_figure(uyavsker_shape shape, const double *chain)

@@ -29,7 +29,23 @@ extern "C" {
 /* Bytes of the text that a listing is put into. */
 #define UYAVSKER_TEXT 2048
 
-/* A refusal by its number in the scope's table and its place. Number 0 is none. */
+/* The numbers of the scope's table, and what the place is. */
+enum {
+    UYAVSKER_NONE = 0,    /* not refused */
+    UYAVSKER_AXES = 1,    /* d is outside its limits: 0 */
+    UYAVSKER_SIZE = 2,    /* a size is outside its limits: the first such core */
+    UYAVSKER_BOND = 3,    /* ranks that don't meet, or a kept rank that can't be: the bond's left core */
+    UYAVSKER_ZONE = 4,    /* a zone number of d or more: 0 */
+    UYAVSKER_LENGTH = 5,  /* a lent length is wrong: the slice, from 0, in the call's order */
+    UYAVSKER_NUMBER = 6,  /* a number isn't finite: its core, axis or zone; a lone setting 0 */
+    UYAVSKER_SETTING = 7, /* a setting is below zero, or steps are outside limits: the axis for a, else 0 */
+    UYAVSKER_REACH = 8,   /* a shift is too far: the first such axis */
+    UYAVSKER_STORED = 9,  /* a number to be stored isn't finite: the core or axis being made */
+    UYAVSKER_RANK = 10,   /* a pair's kept rank is above 8: 0 */
+    UYAVSKER_FILE = 11    /* a file breaks its rules: the byte */
+};
+
+/* A refusal by its number and its place. */
 typedef struct {
     uint8_t number;
     size_t place;

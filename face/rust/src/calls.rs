@@ -1,4 +1,5 @@
 //! The calls over slices that the caller lends. Refusal 5 gives the position of a slice in the order of docs/CALLS.md.
+use crate::layout;
 use crate::raw;
 use crate::records::{listed, Axis, Course, Paired, Rounded, Settings};
 use crate::refusal::Refusal;
@@ -104,7 +105,7 @@ pub fn contract_and_split(
     outputs: [&mut [f64]; 2],
     scratch: &mut [f64],
 ) -> Result<Paired, Refusal> {
-    let [left, right] = sizes.map(|(left, n, right)| raw::Sizes { left, n, right });
+    let [left, right] = sizes.map(|(left, n, right)| layout::Sizes { left, n, right });
     let [left_out, right_out] = outputs;
     let told = raw::contract_and_split(
         (left, right),
@@ -133,7 +134,7 @@ pub fn write_chain(shape: &Shape, chain: &[f64], out: &mut [u8]) -> Result<(), R
 
 /// The text that `ttlist` prints of a file.
 pub fn text_of(bytes: &[u8]) -> String {
-    let mut text = [0; raw::TEXT];
+    let mut text = [0; layout::TEXT];
     let length = raw::text_of(bytes, &mut text);
     String::from_utf8_lossy(text.get(..length).unwrap_or(&[])).into_owned()
 }

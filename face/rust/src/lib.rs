@@ -6,6 +6,7 @@
 
 mod calls;
 mod chain;
+mod layout;
 #[allow(unsafe_code)]
 mod raw;
 mod records;
@@ -24,4 +25,4 @@ pub use run::Run;
 pub use shape::Shape;
 
 /// The most axes that a chain has.
-pub const MOST_AXES: usize = raw::MOST_AXES;
+pub const MOST_AXES: usize = layout::MOST_AXES;

@@ -1,5 +1,5 @@
 //! What goes into a call, and what it answers.
-use crate::raw;
+use crate::layout;
 use crate::refusal::Refusal;
 use crate::shape::Shape;
 use crate::MOST_AXES;
@@ -43,7 +43,7 @@ pub struct Rounded {
 }
 
 impl Rounded {
-    pub(crate) fn of(told: raw::Rounded) -> Result<Rounded, Refusal> {
+    pub(crate) fn of(told: layout::Rounded) -> Result<Rounded, Refusal> {
         let rounded = Rounded {
             shape: Shape { raw: told.shape },
             sweeps: told.sweeps,
@@ -73,10 +73,10 @@ pub struct Paired {
 }
 
 // The records with blanks behind them; a call that gets another count than its own refuses it.
-pub(crate) fn listed(axes: &[Axis]) -> raw::Axes {
+pub(crate) fn listed(axes: &[Axis]) -> layout::Axes {
     let mut axis = [Axis::default(); MOST_AXES];
     for (place, given) in axis.iter_mut().zip(axes) {
         *place = *given;
     }
-    raw::Axes { axis }
+    layout::Axes { axis }
 }

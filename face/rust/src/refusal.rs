@@ -1,5 +1,5 @@
 //! Refusals by their number in the table, with its words.
-use crate::raw;
+use crate::layout;
 use std::error::Error;
 use std::fmt;
 
@@ -32,7 +32,7 @@ impl Refusal {
     }
 
     /// The answer, unless the call was refused.
-    pub(crate) fn or<A>(told: raw::Refusal, answer: A) -> Result<A, Refusal> {
+    pub(crate) fn or<A>(told: layout::Refusal, answer: A) -> Result<A, Refusal> {
         match told.number {
             0 => Ok(answer),
             number => Err(Refusal {

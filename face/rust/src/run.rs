@@ -1,19 +1,46 @@
 //! A kept run that owns its slices.
+use crate::layout;
 use crate::raw;
 use crate::records::{listed, Axis, Settings};
 use crate::refusal::Refusal;
 use crate::shape::Shape;
 
-/// One step of a source chain and its figure, kept so that a replaced zone costs only the work from it on.
+// What a run keeps, and scratch.
 #[derive(Clone, Debug)]
-pub struct Run {
-    record: raw::Run,
-    source: Vec<f64>,
-    weights: Vec<f64>,
+struct Slices {
     chain: Vec<f64>,
     carries: Vec<f64>,
     sums: Vec<f64>,
     scratch: Vec<f64>,
+}
+
+impl Slices {
+    fn new(shape: &Shape) -> Slices {
+        Slices {
+            chain: vec![0.0; shape.entries()],
+            carries: vec![0.0; shape.carries()],
+            sums: vec![0.0; shape.sums()],
+            scratch: vec![0.0; shape.scratch()],
+        }
+    }
+
+    fn lent(&mut self) -> raw::Room<'_> {
+        raw::Room {
+            chain: &mut self.chain,
+            carries: &mut self.carries,
+            sums: &mut self.sums,
+            scratch: &mut self.scratch,
+        }
+    }
+}
+
+/// One step of a source chain and its figure, kept so that a replaced zone costs only the work from it on.
+#[derive(Clone, Debug)]
+pub struct Run {
+    record: layout::Run,
+    source: Vec<f64>,
+    weights: Vec<f64>,
+    kept: Slices,
 }
 
 impl Run {
@@ -31,70 +58,43 @@ impl Run {
                 place: 0,
             });
         }
-        let mut chain = vec![0.0; shape.entries()];
-        let mut carries = vec![0.0; shape.carries()];
-        let mut sums = vec![0.0; shape.sums()];
-        let mut scratch = vec![0.0; shape.scratch()];
-        let room = raw::Room {
-            chain: &mut chain,
-            carries: &mut carries,
-            sums: &mut sums,
-            scratch: &mut scratch,
-        };
+        let mut kept = Slices::new(shape);
         let axes = listed(axes);
-        let told = raw::fresh_run(shape.raw, axes, *settings, &source, &weights, room);
+        let told = raw::fresh_run(shape.raw, axes, *settings, &source, &weights, kept.lent());
         let run = Run {
             record: told.run,
             source,
             weights,
-            chain,
-            carries,
-            sums,
-            scratch,
+            kept,
         };
         Refusal::or(told.refusal, run)
     }
 
     /// New numbers for the core of a zone. Answers the figure; refused, the run is as it was.
     pub fn replace_core(&mut self, zone: usize, numbers: &[f64]) -> Result<f64, Refusal> {
-        let room = raw::Room {
-            chain: &mut self.chain,
-            carries: &mut self.carries,
-            sums: &mut self.sums,
-            scratch: &mut self.scratch,
-        };
+        let room = self.kept.lent();
         let (source, weights) = (&mut self.source, &self.weights);
         let told = raw::replace_core(self.record, zone, source, weights, numbers, room);
-        self.kept(told)
+        self.answered(told)
     }
 
     /// New weights for the points of a zone. Answers the figure; refused, the run is as it was.
     pub fn replace_weights(&mut self, zone: usize, numbers: &[f64]) -> Result<f64, Refusal> {
-        let room = raw::Room {
-            chain: &mut self.chain,
-            carries: &mut self.carries,
-            sums: &mut self.sums,
-            scratch: &mut self.scratch,
-        };
+        let room = self.kept.lent();
         let (source, weights) = (&self.source, &mut self.weights);
         let told = raw::replace_weights(self.record, zone, source, weights, numbers, room);
-        self.kept(told)
+        self.answered(told)
     }
 
     /// A new record for the axis of a zone. Answers the figure; refused, the run is as it was.
     pub fn replace_axis(&mut self, zone: usize, axis: &Axis) -> Result<f64, Refusal> {
-        let room = raw::Room {
-            chain: &mut self.chain,
-            carries: &mut self.carries,
-            sums: &mut self.sums,
-            scratch: &mut self.scratch,
-        };
+        let room = self.kept.lent();
         let (source, weights) = (&self.source, &self.weights);
         let told = raw::replace_axis(self.record, zone, *axis, source, weights, room);
-        self.kept(told)
+        self.answered(told)
     }
 
-    fn kept(&mut self, told: raw::Ran) -> Result<f64, Refusal> {
+    fn answered(&mut self, told: layout::Ran) -> Result<f64, Refusal> {
         self.record = told.run;
         Refusal::or(told.refusal, told.run.figure)
     }
@@ -130,7 +130,7 @@ impl Run {
 
     /// The stepped chain, each core where its source begins.
     pub fn stepped(&self) -> &[f64] {
-        &self.chain
+        &self.kept.chain
     }
 
     /// The rank that each bond keeps.

@@ -1,4 +1,5 @@
 //! Shapes that passed the checks, so that no call refuses them.
+use crate::layout;
 use crate::raw;
 use crate::refusal::Refusal;
 use crate::MOST_AXES;
@@ -7,7 +8,7 @@ use std::fmt;
 /// The ranks and sizes of a chain's cores, within their limits and with ranks that meet.
 #[derive(Clone, Copy)]
 pub struct Shape {
-    pub(crate) raw: raw::Shape,
+    pub(crate) raw: layout::Shape,
 }
 
 impl Shape {
@@ -69,9 +70,9 @@ impl Shape {
 }
 
 // The record, which says how many cores there were even where it has no room for all.
-pub(crate) fn unchecked(cores: &[(usize, usize, usize)]) -> raw::Shape {
+pub(crate) fn unchecked(cores: &[(usize, usize, usize)]) -> layout::Shape {
     let none = [0; MOST_AXES];
-    let mut raw = raw::Shape {
+    let mut raw = layout::Shape {
         d: cores.len(),
         left: none,
         n: none,

@@ -1,0 +1,120 @@
+//! The records as C has them, with the layout that face/layout.c states too.
+use crate::records::{Axis, Course, Settings};
+use std::mem::{offset_of, size_of};
+
+pub const MOST_AXES: usize = 16;
+pub const TEXT: usize = 2048;
+
+#[repr(C)]
+#[derive(Clone, Copy)]
+pub struct Refusal {
+    pub number: u8,
+    pub place: usize,
+}
+
+#[repr(C)]
+#[derive(Clone, Copy, Debug)]
+pub struct Shape {
+    pub d: usize,
+    pub left: [usize; MOST_AXES],
+    pub n: [usize; MOST_AXES],
+    pub right: [usize; MOST_AXES],
+}
+
+#[repr(C)]
+#[derive(Clone, Copy)]
+pub struct Axes {
+    pub axis: [Axis; MOST_AXES],
+}
+
+#[repr(C)]
+#[derive(Clone, Copy)]
+pub struct Sizes {
+    pub left: usize,
+    pub n: usize,
+    pub right: usize,
+}
+
+#[repr(C)]
+#[derive(Clone, Copy)]
+pub struct Rounded {
+    pub refusal: Refusal,
+    pub shape: Shape,
+    pub sweeps: [usize; MOST_AXES],
+    pub settled: [bool; MOST_AXES],
+}
+
+#[repr(C)]
+#[derive(Clone, Copy)]
+pub struct Figure {
+    pub refusal: Refusal,
+    pub value: f64,
+}
+
+#[repr(C)]
+#[derive(Clone, Copy)]
+pub struct Formed {
+    pub refusal: Refusal,
+    pub shape: Shape,
+}
+
+#[repr(C)]
+#[derive(Clone, Copy)]
+pub struct Paired {
+    pub refusal: Refusal,
+    pub rank: usize,
+    pub passes: usize,
+}
+
+#[repr(C)]
+#[derive(Clone, Copy)]
+pub struct Seen {
+    pub inside: bool,
+    pub value: f64,
+}
+
+#[repr(C)]
+#[derive(Clone, Copy, Debug)]
+pub struct Run {
+    pub shape: Shape,
+    pub axes: [Axis; MOST_AXES],
+    pub settings: Settings,
+    pub ranks: [usize; MOST_AXES],
+    pub sweeps: [usize; MOST_AXES],
+    pub settled: [bool; MOST_AXES],
+    pub figure: f64,
+}
+
+#[repr(C)]
+#[derive(Clone, Copy)]
+pub struct Ran {
+    pub refusal: Refusal,
+    pub run: Run,
+}
+
+const _: () = {
+    assert!(size_of::<Refusal>() == 16 && offset_of!(Refusal, place) == 8);
+    assert!(size_of::<Shape>() == 392 && offset_of!(Shape, left) == 8);
+    assert!(offset_of!(Shape, n) == 136 && offset_of!(Shape, right) == 264);
+    assert!(size_of::<Axis>() == 32 && offset_of!(Axis, b) == 8);
+    assert!(offset_of!(Axis, xmin) == 16 && offset_of!(Axis, xmax) == 24);
+    assert!(size_of::<Axes>() == 512);
+    assert!(size_of::<Settings>() == 24 && offset_of!(Settings, c) == 8);
+    assert!(offset_of!(Settings, eps) == 16);
+    assert!(size_of::<Course>() == 32 && offset_of!(Course, steps) == 8);
+    assert!(offset_of!(Course, c) == 16 && offset_of!(Course, eps) == 24);
+    assert!(size_of::<Sizes>() == 24 && offset_of!(Sizes, n) == 8);
+    assert!(offset_of!(Sizes, right) == 16);
+    assert!(size_of::<Rounded>() == 552 && offset_of!(Rounded, shape) == 16);
+    assert!(offset_of!(Rounded, sweeps) == 408 && offset_of!(Rounded, settled) == 536);
+    assert!(size_of::<Figure>() == 24 && offset_of!(Figure, value) == 16);
+    assert!(size_of::<Formed>() == 408 && offset_of!(Formed, shape) == 16);
+    assert!(size_of::<Paired>() == 32 && offset_of!(Paired, rank) == 16);
+    assert!(offset_of!(Paired, passes) == 24);
+    assert!(size_of::<Seen>() == 16 && offset_of!(Seen, value) == 8);
+    assert!(size_of::<Run>() == 1208 && offset_of!(Run, axes) == 392);
+    assert!(offset_of!(Run, settings) == 904 && offset_of!(Run, ranks) == 928);
+    assert!(offset_of!(Run, sweeps) == 1056 && offset_of!(Run, settled) == 1184);
+    assert!(offset_of!(Run, figure) == 1200);
+    assert!(size_of::<Ran>() == 1224 && offset_of!(Ran, run) == 16);
+};
