@@ -32,7 +32,8 @@ use Rattle.stepping.proofs.Restart.{step-length}
 use Rattle.committing.proofs.Committed.{committed-from}
 use Rattle.kept.specs.Kept.{Inputs, Summed, Kept, running, allCarries, allSums, zoneAt, zonesFrom, leftRank, rightRank, keptCore, carryAt, sumsAt, weighedAt, weighedFrom}
 use Rattle.kept.specs.Work.{keepSums, sumZone, restep, resum, sumFrom, workFrom}
-use Rattle.redoing.specs.InPlace.{inPlace, summedIn, Beside, Memory, over, steppedOver, summedOver}
+use Rattle.committing.specs.Slices.{Beside, over}
+use Rattle.redoing.specs.InPlace.{inPlace, summedIn, Memory, steppedOver, summedOver}
 
 abbrev Traces : Type 0
 Traces = List (Carry × Cut) × List (List Float × Unit {0})

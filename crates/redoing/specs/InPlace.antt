@@ -8,6 +8,7 @@ use lib.Ieee.{Float}
 use Rattle.answers.specs.declared.Verdict.the-variants.{Fits}
 use Rattle.answers.specs.Outcome.{done}
 use Rattle.lists.specs.Slots.{offset, slot}
+use Rattle.committing.specs.Slices.{Beside, over}
 use Rattle.lists.specs.Floats.{at}
 use Rattle.shape.specs.declared.Shape.{Shape}
 use Rattle.shape.specs.Shapes.{rightOf, chainOk, coreSize, entriesOf, allPoints}
@@ -52,11 +53,6 @@ pub record Sums (s : Shape) (weights sums : List Float) : Type 0 where
   pub summed : allSums s ≤ length sums
 
 -- ---- the memory that a call works in, for a run with inputs i that keeps h and u
--- in the slot left of zone z l' holds what l does
-abbrev pub Beside : (ℕ → ℕ) → ℕ → List Float → List Float → Type 0
-Beside size zero l l' = Unit {0}
-Beside size (suc k) l l' = slot size k l' ≡ slot size k l
-
 pub record Memory (i : Inputs) (h : Stepped) (u : Summed) (z : ℕ) (work carries sums : List Float) : Type 0 where
   pub sources : (k : ℕ) → z ≤ k → k < i .shape .d → slot (coreSize (i .shape)) k work ≡ slot (coreSize (i .shape)) k (i .source)
   pub carry : Beside (carrySize (i .shape)) z (h .carries) carries
@@ -69,10 +65,6 @@ pub record Memory (i : Inputs) (h : Stepped) (u : Summed) (z : ℕ) (work carrie
   pub sums-long : length (u .sums) ≡ allSums (i .shape)
 
 -- ---- what is committed
--- l with what w holds from place `at` on
-abbrev pub over : ℕ → List Float → List Float → List Float
-over at l w = take at l ++ drop at (take (length l) w)
-
 -- what a run kept, with what the work t left of each zone from one on: its core stands at a, its carry at b; its sums at c
 abbrev pub steppedOver : ℕ → ℕ → Stepped → Stepped → Stepped
 steppedOver a b h t = record { ranks = t .ranks; sweeps = t .sweeps; settled = t .settled; chain = over a (h .chain) (t .chain); carries = over b (h .carries) (t .carries) }

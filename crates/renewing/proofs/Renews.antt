@@ -27,7 +27,8 @@ use Rattle.kept.specs.declared.Run.{Run}
 use Rattle.kept.specs.declared.Ran.{Ran}
 use Rattle.kept.specs.Kept.{Kept, keptOf, allCarries, allSums}
 use Rattle.kept.specs.Work.{workFrom}
-use Rattle.redoing.specs.InPlace.{inPlace, heldIn, Steps, Sums, Beside, Memory, over}
+use Rattle.committing.specs.Slices.{Beside, over}
+use Rattle.redoing.specs.InPlace.{inPlace, heldIn, Steps, Sums, Memory}
 use Rattle.redoing.proofs.Over.{work-over}
 use Rattle.renewing.specs.Renewed.{SourcesFrom, Asked, Renewed, walkedOf, runWith}
 

@@ -1,10 +1,10 @@
--- `renewing::commit` meets its contract. Assumes nothing.
+-- `handing::commit` meets its contract. Assumes nothing.
 use borrow.Author.Needs.{needs}
 use mathlib.Core.Path.{ap}
 use Rattle.lists.specs.Floats.{at}
-use Rattle.renewing.proofs.Taken.{slot-starts, over-at, last-within, last-fits}
-use Rattle.renewing.proofs.commit.Statement.{statement}
-use Rattle.renewing.proofs.commit.Tie as tie
+use Rattle.handing.proofs.Taken.{slot-starts, over-at, last-within, last-fits}
+use Rattle.handing.proofs.commit.Statement.{statement}
+use Rattle.handing.proofs.commit.Tie as tie
 
 copy-from-requires : tie.Need-copy-from-requires
 copy-from-requires c κs = (slot-starts _ _ _ (search needs) _ (c .before .before .before .offset .ensures) _ (c .before .before .before .before .before .before .before .before .before .before .pre .1 .0 .0), c .before .before .before .before .before .before .before .before .before .before .pre .1 .1 .0)

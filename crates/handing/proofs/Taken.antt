@@ -14,7 +14,7 @@ use Rattle.shape.specs.declared.Shape.{Shape}
 use Rattle.shape.specs.Sizes.{SizesWithin}
 use Rattle.summing.specs.Sums.{sumSize}
 use Rattle.summing.proofs.Slotted.{sum-size, sums-most}
-use Rattle.redoing.specs.InPlace.{Beside, over}
+use Rattle.committing.specs.Slices.{Beside, over}
 
 module _ (size : ℕ → ℕ) (z d : ℕ) where
   -- left of zone 0 there is none

@@ -1,11 +1,11 @@
--- `renewing::take_sum` meets its contract. Assumes nothing.
+-- `handing::take_sum` meets its contract. Assumes nothing.
 use borrow.Author.Needs.{needs}
 use Prim.Native.Nat.{_*_, _^_, _≤_, _<_}
 use lib.ListN.{length}
 use Rattle.summing.specs.Sums.{sumSize}
-use Rattle.renewing.proofs.Taken.{none-left, starts, part-ends, part-fits, taken-left, start-fits}
-use Rattle.renewing.proofs.take_sum.Statement.{statement}
-use Rattle.renewing.proofs.take_sum.Tie as tie
+use Rattle.handing.proofs.Taken.{none-left, starts, part-ends, part-fits, taken-left, start-fits}
+use Rattle.handing.proofs.take_sum.Statement.{statement}
+use Rattle.handing.proofs.take_sum.Tie as tie
 
 returns : tie.Need-returns
 returns c = none-left (sumSize (c .before .before .before .args .s)) (c .before .before .before .args .z) (c .before .before .before .args .s .d) _ _ (c .if1 .taken)

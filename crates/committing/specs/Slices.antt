@@ -1,0 +1,16 @@
+-- What passes between a run's slices and the work. Definitions for code only.
+use mathlib.Core.Path.{_≡_}
+use Prim.Native.Nat.{ℕ, zero, suc}
+use mathlib.Core.List.{List, _++_}
+use lib.ListN.{length, take, drop}
+use lib.Ieee.{Float}
+use Rattle.lists.specs.Slots.{slot}
+
+-- in the slot left of zone z l' holds what l does
+abbrev pub Beside : (ℕ → ℕ) → ℕ → List Float → List Float → Type 0
+Beside size zero l l' = Unit {0}
+Beside size (suc k) l l' = slot size k l' ≡ slot size k l
+
+-- l with what w holds from place `at` on
+abbrev pub over : ℕ → List Float → List Float → List Float
+over at l w = take at l ++ drop at (take (length l) w)

@@ -1,0 +1,2 @@
+-- slots taken in, and where a commit starts
+pub mod Taken
