@@ -2,4 +2,3 @@ pub mod Units
 pub mod Examples
 pub mod Checks
 pub mod Walking
-pub mod Starts

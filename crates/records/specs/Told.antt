@@ -7,7 +7,7 @@ use Rattle.answers.specs.Table.{numberOf, placeOf}
 use Rattle.shape.specs.declared.Shape.{Shape}
 use Rattle.rounding.specs.declared.Rounded.{Rounded}
 use Rattle.product.specs.declared.Figure.{Figure}
-use Rattle.product.specs.declared.Started.{Started}
+use Rattle.starting.specs.declared.Started.{Started}
 use Rattle.splitting.specs.declared.Paired.{Paired}
 use Rattle.fileform.specs.declared.Read.{Read}
 use Rattle.view.specs.declared.Seen.{Seen}

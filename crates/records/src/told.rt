@@ -109,7 +109,7 @@ pub fn figure_out(w: product::Figure) -> CFigure
     }
 }
 
-pub fn started_out(w: product::Started) -> CFormed
+pub fn started_out(w: starting::Started) -> CFormed
     ensures { λ r. ⌜ r ≡ startedOut w ⌝ }
 {
     let verdict = w.verdict;

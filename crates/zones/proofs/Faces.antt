@@ -18,8 +18,8 @@ use Rattle.records.specs.declared.given.CAxis.{CAxis}
 use Rattle.records.specs.Given.{axisIn, lentOf}
 use Rattle.rounding.specs.declared.Rounded.{Rounded}
 use Rattle.rounding.specs.Call.{Ended}
-use Rattle.product.specs.declared.Started.{Started}
-use Rattle.product.specs.Call.{StartEnded}
+use Rattle.starting.specs.declared.Started.{Started}
+use Rattle.starting.specs.Start.{StartEnded}
 use Rattle.evolving.specs.Held.{Answers}
 use Rattle.pair.specs.declared.Sizes.{Sizes}
 use Rattle.pair.specs.Call.{PairEnded}

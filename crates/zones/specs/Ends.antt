@@ -5,7 +5,7 @@ use mathlib.Core.List.{List}
 use lib.Ieee.{Float}
 use Rattle.answers.specs.declared.Verdict.{Verdict}
 use Rattle.rounding.specs.Call.{Ended}
-use Rattle.product.specs.Call.{StartEnded}
+use Rattle.starting.specs.Start.{StartEnded}
 use Rattle.pair.specs.Call.{PairEnded}
 use Rattle.fileform.specs.declared.Read.{Read}
 use Rattle.fileform.specs.Calls.{Exit}

@@ -3,7 +3,8 @@ ghost use mathlib.Core.Path.{_≡_};
 ghost use Rattle.answers.specs.Outcome.{verdictOf};
 ghost use Rattle.shape.specs.Shapes.{chainOk};
 ghost use Rattle.view.specs.View.{viewOf, seen};
-ghost use Rattle.product.specs.Call.{innerCall, startCall};
+ghost use Rattle.starting.specs.Start.{startCall};
+ghost use Rattle.product.specs.Call.{innerCall};
 ghost use Rattle.rounding.specs.Call.{roundCall};
 ghost use Rattle.records.specs.Given.{shapeIn};
 ghost use Rattle.records.specs.Told.{refusalOf, figureOut, seenOut};
@@ -43,7 +44,7 @@ pub extern "C" fn uyavsker_rank1_separable(
     ensures { λ r. ⌜ StartsAs (startCall (shapeIn s) (now (vectors .entry)) (now (chain .entry))) r (now (chain .exit)) ⌝ }
 {
     let shape = records::given::shape_in(s);
-    told::started_out(product::rank1_separable(shape, vectors, chain))
+    told::started_out(starting::rank1_separable(shape, vectors, chain))
 }
 
 #[no_mangle]

@@ -1,10 +1,10 @@
--- `product::start_ok` meets its contract. Assumes nothing.
+-- `starting::start_ok` meets its contract. Assumes nothing.
 use borrow.Author.Needs.{needs}
 use Rattle.answers.proofs.Checks.{then-stops, then-passes}
-use Rattle.product.specs.Call.{startOk}
-use Rattle.product.proofs.Starts.{sized-points, vectors-long}
-use Rattle.product.proofs.start_ok.Statement.{statement}
-use Rattle.product.proofs.start_ok.Tie as tie
+use Rattle.starting.specs.Start.{startOk}
+use Rattle.starting.proofs.Starts.{sized-points, vectors-long}
+use Rattle.starting.proofs.start_ok.Statement.{statement}
+use Rattle.starting.proofs.start_ok.Tie as tie
 
 pub start-ok-spec : {M : Type 1} → statement M
 unfolding startOk

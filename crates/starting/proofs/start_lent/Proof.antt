@@ -1,9 +1,9 @@
--- `product::start_lent` meets its contract. Assumes nothing.
+-- `starting::start_lent` meets its contract. Assumes nothing.
 use borrow.Author.Needs.{needs}
 use Rattle.lists.proofs.Asked.{lengths-asked}
-use Rattle.product.specs.Call.{startLent}
-use Rattle.product.proofs.start_lent.Statement.{statement}
-use Rattle.product.proofs.start_lent.Tie as tie
+use Rattle.starting.specs.Start.{startLent}
+use Rattle.starting.proofs.start_lent.Statement.{statement}
+use Rattle.starting.proofs.start_lent.Tie as tie
 
 pub start-lent-spec : {M : Type 1} → statement M
 unfolding startLent

@@ -23,8 +23,8 @@ use Rattle.shape.specs.Shapes.{pointsOf, allPoints}
 use Rattle.shape.specs.Cores.{pointsAt}
 use Rattle.shape.specs.Sizes.{PointsWithin}
 use Rattle.shape.proofs.Shaped.{within-is}
-use Rattle.product.specs.declared.Started.{Started}
-use Rattle.product.specs.Call.{startSized, startLent, startFinite, startOk, rankOne, startBy, startCall}
+use Rattle.starting.specs.declared.Started.{Started}
+use Rattle.starting.specs.Start.{startSized, startLent, startFinite, startOk, rankOne, startBy, startCall}
 
 module _ (s : Shape) where
   abbrev few : ℕ → Bool

@@ -1,11 +1,11 @@
--- `product::start_of` meets its contract. Assumes nothing.
+-- `starting::start_of` meets its contract. Assumes nothing.
 use borrow.Author.Needs.{needs}
 use mathlib.Core.Path.{ap}
 use Rattle.answers.specs.declared.Verdict.the-variants.{Fits}
 use Rattle.shape.specs.declared.Shape.{Shape}
-use Rattle.product.specs.Call.{rankOne}
-use Rattle.product.proofs.start_of.Statement.{statement}
-use Rattle.product.proofs.start_of.Tie as tie
+use Rattle.starting.specs.Start.{rankOne}
+use Rattle.starting.proofs.start_of.Statement.{statement}
+use Rattle.starting.proofs.start_of.Tie as tie
 
 pub start-of-spec : {M : Type 1} → statement M
 unfolding rankOne
