@@ -2,7 +2,7 @@
 ghost use mathlib.Core.Path.{_≡_};
 ghost use Prim.Native.Nat.{_≤_};
 ghost use lib.ListN.{length};
-ghost use Rattle.answers.specs.Outcome.{done, refused, verdictOf};
+ghost use Rattle.answers.specs.Outcome.{verdictOf};
 ghost use Rattle.shape.specs.Shapes.{entriesOf};
 ghost use Rattle.shape.specs.Sizes.{SizesWithin};
 ghost use Rattle.fileform.specs.Calls.{numbersOk};
@@ -14,32 +14,7 @@ use fileform::Read;
 use shape::Shape;
 
 pub mod body;
-pub mod contents;
 pub mod making;
-
-pub(crate) fn refused_read(r: Refusal) -> Read
-    ensures { λ x. ⌜ x ≡ readBy (refused r) ⌝ }
-{
-    let none = [0; shape::MOST_AXES];
-    Read {
-        verdict: Verdict::Refused(r),
-        shape: Shape {
-            d: 0,
-            left: none,
-            n: none,
-            right: none,
-        },
-    }
-}
-
-pub(crate) fn read_as(s: Shape) -> Read
-    ensures { λ x. ⌜ x ≡ readBy (done s) ⌝ }
-{
-    Read {
-        verdict: Verdict::Fits,
-        shape: s,
-    }
-}
 
 // The file's length, then the room.
 fn lengths_ok(s: Shape, bytes: usize, room: usize) -> Verdict
@@ -63,18 +38,18 @@ pub fn read_ok(bytes: &[u8], room: usize) -> Read
     let found = contents::read_contents(bytes);
     let told = found.verdict;
     if let Verdict::Refused(r) = told {
-        return refused_read(r);
+        return contents::refused_read(r);
     }
     let s = found.shape;
     let lent = lengths_ok(s, bytes.len(), room);
     if let Verdict::Refused(r) = lent {
-        return refused_read(r);
+        return contents::refused_read(r);
     }
     let ok = body::numbers_ok(bytes, s);
     if let Verdict::Refused(r) = ok {
-        return refused_read(r);
+        return contents::refused_read(r);
     }
-    read_as(s)
+    contents::read_as(s)
 }
 
 // Reading a chain file: the shape that its table gives, and its numbers at the front of out, +0 behind them.
@@ -84,11 +59,11 @@ pub fn read_chain(bytes: &[u8], out: &mut [f64]) -> Read
     let found = read_ok(bytes, out.len());
     let told = found.verdict;
     if let Verdict::Refused(r) = told {
-        return refused_read(r);
+        return contents::refused_read(r);
     }
     let s = found.shape;
     body::take_numbers(bytes, s, out);
-    read_as(s)
+    contents::read_as(s)
 }
 
 // The chain's length, then the output's.

@@ -1,8 +1,8 @@
--- `chainfile::contents::read_table` meets its contract. Assumes nothing.
+-- `contents::read_table` meets its contract. Assumes nothing.
 use borrow.Author.Needs.{needs}
-use Rattle.chainfile.proofs.Tables.{table-asks, tabled}
-use Rattle.chainfile.proofs.contents.read_table.Statement.{statement}
-use Rattle.chainfile.proofs.contents.read_table.Tie as tie
+use Rattle.contents.proofs.Tables.{table-asks, tabled}
+use Rattle.contents.proofs.read_table.Statement.{statement}
+use Rattle.contents.proofs.read_table.Tie as tie
 
 ruleset ways = (needs, tabled)
 

@@ -1,8 +1,8 @@
--- `chainfile::contents::entry_ok` meets its contract. Assumes nothing.
+-- `contents::entry_ok` meets its contract. Assumes nothing.
 use borrow.Author.Needs.{needs}
-use Rattle.chainfile.proofs.Headers.{entered}
-use Rattle.chainfile.proofs.contents.entry_ok.Statement.{statement}
-use Rattle.chainfile.proofs.contents.entry_ok.Tie as tie
+use Rattle.contents.proofs.Headers.{entered}
+use Rattle.contents.proofs.entry_ok.Statement.{statement}
+use Rattle.contents.proofs.entry_ok.Tie as tie
 
 ruleset ways = (needs, entered)
 

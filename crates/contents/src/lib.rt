@@ -1,9 +1,9 @@
-// What stands before the bodies: the header and the table.
+// What stands before the bodies of a chain file: the header and the table.
 ghost use mathlib.Core.Path.{_≡_};
 ghost use mathlib.Core.Bool.{true};
 ghost use Prim.Native.Nat.{ℕ, _+_, _*_, _≤_, _<_};
 ghost use lib.ListN.{length};
-ghost use Rattle.answers.specs.Outcome.{verdictOf};
+ghost use Rattle.answers.specs.Outcome.{done, refused, verdictOf};
 ghost use Rattle.lists.specs.Lists.{tab};
 ghost use Rattle.lists.specs.Slots.{fit};
 ghost use Rattle.lists.specs.Walks.{turning};
@@ -15,6 +15,30 @@ ghost use Rattle.fileform.specs.Reading.{readHeader, shapeIn, entryOk, tableOk,
 use answers::Refusal;
 use answers::Verdict;
 use fileform::Read;
+
+pub fn refused_read(r: Refusal) -> Read
+    ensures { λ x. ⌜ x ≡ readBy (refused r) ⌝ }
+{
+    let none = [0; shape::MOST_AXES];
+    Read {
+        verdict: Verdict::Refused(r),
+        shape: shape::Shape {
+            d: 0,
+            left: none,
+            n: none,
+            right: none,
+        },
+    }
+}
+
+pub fn read_as(s: shape::Shape) -> Read
+    ensures { λ x. ⌜ x ≡ readBy (done s) ⌝ }
+{
+    Read {
+        verdict: Verdict::Fits,
+        shape: s,
+    }
+}
 
 // "TTC1", as the number in four bytes.
 const MARK: usize = 0x3143_5454;
@@ -125,14 +149,14 @@ fn read_table(bytes: &[u8], d: usize) -> Read
     ensures { λ r. ⌜ r ≡ readBy (readTable (now (bytes .entry)) d) ⌝ }
 {
     if bytes.len() < 8 + 12 * d {
-        return crate::refused_read(Refusal::File(bytes.len()));
+        return refused_read(Refusal::File(bytes.len()));
     }
     let s = shape_in(bytes, d);
     let ok = table_ok(bytes, s);
     if let Verdict::Refused(r) = ok {
-        return crate::refused_read(r);
+        return refused_read(r);
     }
-    crate::read_as(s)
+    read_as(s)
 }
 
 // Header and table: the contents, bodies aside.
@@ -141,7 +165,7 @@ pub fn read_contents(bytes: &[u8]) -> Read
 {
     let ok = header_ok(bytes);
     if let Verdict::Refused(r) = ok {
-        return crate::refused_read(r);
+        return refused_read(r);
     }
     read_table(bytes, words::u16_at(bytes, 4))
 }

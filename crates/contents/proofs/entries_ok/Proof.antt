@@ -1,9 +1,9 @@
--- `chainfile::contents::entries_ok` meets its contract. Assumes nothing.
+-- `contents::entries_ok` meets its contract. Assumes nothing.
 use borrow.Author.Needs.{needs}
 use Prim.Native.Nat.{_-_}
-use Rattle.chainfile.proofs.Tables.{AtEntry, entries-none, entries-stop, entry-sized, entries-more, entries-done, start-fits}
-use Rattle.chainfile.proofs.contents.entries_ok.Statement.{statement}
-use Rattle.chainfile.proofs.contents.entries_ok.Tie as tie
+use Rattle.contents.proofs.Tables.{AtEntry, entries-none, entries-stop, entry-sized, entries-more, entries-done, start-fits}
+use Rattle.contents.proofs.entries_ok.Statement.{statement}
+use Rattle.contents.proofs.entries_ok.Tie as tie
 
 ruleset ways = (needs, entries-none, entries-stop, entry-sized, entries-more, entries-done, start-fits)
 

@@ -1,8 +1,8 @@
--- `chainfile::contents::body_size` meets its contract. Assumes nothing.
+-- `contents::body_size` meets its contract. Assumes nothing.
 use borrow.Author.Needs.{needs}
-use Rattle.chainfile.proofs.Headers.{bodies}
-use Rattle.chainfile.proofs.contents.body_size.Statement.{statement}
-use Rattle.chainfile.proofs.contents.body_size.Tie as tie
+use Rattle.contents.proofs.Headers.{bodies}
+use Rattle.contents.proofs.body_size.Statement.{statement}
+use Rattle.contents.proofs.body_size.Tie as tie
 
 ruleset ways = (needs, bodies)
 

@@ -1,9 +1,9 @@
--- `chainfile::contents::read_contents` meets its contract. Assumes nothing.
+-- `contents::read_contents` meets its contract. Assumes nothing.
 use borrow.Author.Needs.{needs}
 use native.Mathlib.Omega.{arith}
-use Rattle.chainfile.proofs.Tables.{contents-stop, header-long, header-few, contents-read}
-use Rattle.chainfile.proofs.contents.read_contents.Statement.{statement}
-use Rattle.chainfile.proofs.contents.read_contents.Tie as tie
+use Rattle.contents.proofs.Tables.{contents-stop, header-long, header-few, contents-read}
+use Rattle.contents.proofs.read_contents.Statement.{statement}
+use Rattle.contents.proofs.read_contents.Tie as tie
 
 ruleset ways = (needs, contents-stop)
 

@@ -1,4 +1,4 @@
--- `chainfile::contents::sizes_at` meets its contract. Assumes nothing.
+-- `contents::sizes_at` meets its contract. Assumes nothing.
 use borrow.Author.Needs.{needs}
 use Prim.Native.Nat.{ℕ, _≤_, _-_, _+_}
 use mathlib.Core.Path.{_≡_}
@@ -8,9 +8,9 @@ use Rattle.lists.specs.Slots.{fit}
 use Rattle.shape.specs.Limits.{mostAxes}
 use Rattle.words.specs.Bytes.{u16At}
 use Rattle.fileform.specs.File.{entryStart}
-use Rattle.chainfile.proofs.Tables.{fit-none, fit-more, fit-done}
-use Rattle.chainfile.proofs.contents.sizes_at.Statement.{statement}
-use Rattle.chainfile.proofs.contents.sizes_at.Tie as tie
+use Rattle.contents.proofs.Tables.{fit-none, fit-more, fit-done}
+use Rattle.contents.proofs.sizes_at.Statement.{statement}
+use Rattle.contents.proofs.sizes_at.Tie as tie
 
 ruleset ways = (needs, fit-none, fit-more, fit-done)
 

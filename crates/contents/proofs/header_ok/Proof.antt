@@ -1,8 +1,8 @@
--- `chainfile::contents::header_ok` meets its contract. Assumes nothing.
+-- `contents::header_ok` meets its contract. Assumes nothing.
 use borrow.Author.Needs.{needs}
-use Rattle.chainfile.proofs.Headers.{headed}
-use Rattle.chainfile.proofs.contents.header_ok.Statement.{statement}
-use Rattle.chainfile.proofs.contents.header_ok.Tie as tie
+use Rattle.contents.proofs.Headers.{headed}
+use Rattle.contents.proofs.header_ok.Statement.{statement}
+use Rattle.contents.proofs.header_ok.Tie as tie
 
 ruleset ways = (needs, headed)
 

@@ -1,9 +1,9 @@
--- `chainfile::contents::table_ok` meets its contract. Assumes nothing.
+-- `contents::table_ok` meets its contract. Assumes nothing.
 use borrow.Author.Needs.{needs}
 use Rattle.answers.proofs.Checks.{then-stops, then-passes}
 use Rattle.fileform.specs.Reading.{tableOk}
-use Rattle.chainfile.proofs.contents.table_ok.Statement.{statement}
-use Rattle.chainfile.proofs.contents.table_ok.Tie as tie
+use Rattle.contents.proofs.table_ok.Statement.{statement}
+use Rattle.contents.proofs.table_ok.Tie as tie
 
 ruleset ways = (needs, then-stops, then-passes)
 

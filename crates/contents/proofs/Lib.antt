@@ -1,0 +1,3 @@
+-- header and table
+pub mod Headers
+pub mod Tables
