@@ -15,7 +15,7 @@ use Rattle.lists.proofs.Sums.{sum-same, sum-rows}
 use Rattle.shape.specs.Cores.{coreWith, entry}
 use Rattle.shape.proofs.Places.{entry-row, entry-line, block-lines}
 use Rattle.strips.specs.Products.{dotAt, productOf}
-use Rattle.bond.specs.Bonds.{gram, absorb}
+use Rattle.cutform.specs.Bonds.{gram, absorb}
 
 -- ---- sizes: a row and a line are at most all
 pub row-most : (rl n rr l : ℕ) → l ≡ rl * n * rr → 1 ≤ rl → 1 ≤ n → rr ≤ l

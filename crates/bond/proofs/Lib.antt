@@ -1,4 +1,3 @@
 pub mod Made
-pub mod Examples
 pub mod Cores
 pub mod Staged

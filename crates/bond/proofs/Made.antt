@@ -12,12 +12,12 @@ use Rattle.lists.proofs.Tables.{length-grid}
 use Rattle.lists.proofs.Floats.{making-stored}
 use Rattle.shape.specs.Cores.{Core, coreWith}
 use Rattle.shape.proofs.Places.{block-length}
-use Rattle.sweeps.specs.Sweeps.{eig, diagonalized}
+use Rattle.cutform.specs.Sweeps.{eig, diagonalized}
 use Rattle.rotation.specs.Rotation.{eye}
-use Rattle.values.specs.Values.{singulars, order, sorted, keptRank}
+use Rattle.cutform.specs.Values.{singulars, order, sorted, keptRank}
 use Rattle.values.proofs.Ranked.{rank-least, rank-most}
-use Rattle.bond.specs.Bonds.{gram, Bond, cutBond}
-use Rattle.factors.specs.Factors.{leftFactor, carryOf}
+use Rattle.cutform.specs.Bonds.{gram, Bond, cutBond}
+use Rattle.cutform.specs.Factors.{leftFactor, carryOf}
 
 -- the core c cut
 pub record CutFrom (c : Core) (b : Bond) : Type 0 where

@@ -17,11 +17,11 @@ use Rattle.lists.specs.Floats.{stored}
 use Rattle.lists.proofs.Parts.{part-again}
 use Rattle.lists.proofs.Stages.{stored-staged, staged-on, staged-stop}
 use Rattle.shape.specs.Cores.{Core, coreWith}
-use Rattle.sweeps.specs.Sweeps.{eig, Swept, swept, diagonalized}
+use Rattle.cutform.specs.Sweeps.{eig, Swept, swept, diagonalized}
 use Rattle.rotation.specs.Rotation.{eye}
-use Rattle.values.specs.Values.{singulars, order, sorted, keptRank}
-use Rattle.bond.specs.Bonds.{gram, Bond, cutBond}
-use Rattle.factors.specs.Factors.{leftFactor, carryOf}
+use Rattle.cutform.specs.Values.{singulars, order, sorted, keptRank}
+use Rattle.cutform.specs.Bonds.{gram, Bond, cutBond}
+use Rattle.cutform.specs.Factors.{leftFactor, carryOf}
 use Rattle.bond.specs.Stages.{sweptOf, restOf}
 use Rattle.factors.specs.Rows.{Factors, factorsOf}
 use Rattle.values.specs.Chosen.{Chosen, chosenOf}

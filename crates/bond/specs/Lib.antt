@@ -1,2 +1,1 @@
-pub mod Bonds
 pub mod Stages

@@ -6,10 +6,10 @@ use Rattle.answers.specs.Outcome.{Answer, Made, done, bind, making}
 use Rattle.lists.specs.Floats.{stored}
 use Rattle.shape.specs.Cores.{Core, coreWith}
 use Rattle.rotation.specs.Rotation.{eye}
-use Rattle.sweeps.specs.Sweeps.{Swept, eig, diagonalized}
+use Rattle.cutform.specs.Sweeps.{Swept, eig, diagonalized}
 use Rattle.values.specs.Chosen.{chosenOf}
 use Rattle.factors.specs.Rows.{factorsOf}
-use Rattle.bond.specs.Bonds.{gram, Bond}
+use Rattle.cutform.specs.Bonds.{gram, Bond}
 
 -- the Gram matrix made diagonal
 unfoldable pub sweptOf : Core → Made Swept

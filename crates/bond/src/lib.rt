@@ -9,8 +9,8 @@ ghost use Rattle.answers.specs.declared.Verdict.the-variants.{Fits, Refused};
 ghost use Rattle.answers.specs.Outcome.{staged, answered};
 ghost use Rattle.shape.specs.Limits.{mostRank};
 ghost use Rattle.shape.specs.Cores.{coreWith};
-ghost use Rattle.sweeps.specs.Sweeps.{eig, swept};
-ghost use Rattle.bond.specs.Bonds.{gram, cutBond, absorb};
+ghost use Rattle.cutform.specs.Sweeps.{eig, swept};
+ghost use Rattle.cutform.specs.Bonds.{gram, cutBond, absorb};
 ghost use Rattle.bond.specs.Stages.{sweptOf, restOf};
 
 // The Gram matrix of a core's rows.

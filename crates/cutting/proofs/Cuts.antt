@@ -12,9 +12,9 @@ use Rattle.lists.specs.Floats.{allFinite, stored}
 use Rattle.lists.proofs.Floats.{making-stored}
 use Rattle.shape.specs.Cores.{Core, coreWith}
 use Rattle.shape.proofs.Places.{block-length}
-use Rattle.bond.specs.Bonds.{Bond, cutBond, absorb}
+use Rattle.cutform.specs.Bonds.{Bond, cutBond, absorb}
 use Rattle.bond.proofs.Made.{CutFrom, cut-from}
-use Rattle.cutting.specs.Rounding.{Carry, none, some, Cut, takenIn, cutIf, roundCore}
+use Rattle.cutform.specs.Rounding.{Carry, none, some, Cut, takenIn, cutIf, roundCore}
 
 -- a carry out of a core with right rank rr
 pub record Carried (rr : ℕ) (s : Carry) : Type 0 where

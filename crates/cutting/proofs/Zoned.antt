@@ -25,9 +25,9 @@ use Rattle.lists.proofs.Slots.{fit-whole}
 use Rattle.lists.proofs.Stages.{stored-staged}
 use Rattle.lists.proofs.Parts.{span-again}
 use Rattle.shape.specs.Cores.{Core, coreWith}
-use Rattle.bond.specs.Bonds.{Bond, cutBond, absorb}
+use Rattle.cutform.specs.Bonds.{Bond, cutBond, absorb}
 use Rattle.bond.proofs.Made.{cut-from}
-use Rattle.cutting.specs.Rounding.{Carry, some, takenIn, cutIf, roundCore}
+use Rattle.cutform.specs.Rounding.{Carry, some, takenIn, cutIf, roundCore}
 use Rattle.cutting.specs.Slots.{carryFrom, Laid, laidCut, laidAs}
 
 -- ---- sizes

@@ -7,7 +7,7 @@ use lib.Ieee.{Float}
 use Rattle.numbers.specs.Arithmetic.{zero64}
 use Rattle.lists.specs.Slots.{slot, fit}
 use Rattle.shape.specs.Limits.{mostRank}
-use Rattle.cutting.specs.Rounding.{Carry, none, some, Cut, rankIn, numbersIn}
+use Rattle.cutform.specs.Rounding.{Carry, none, some, Cut, rankIn, numbersIn}
 
 -- the carry left of zone k: r rows, the numbers b
 abbrev pub carryFrom : ℕ → ℕ → List Float → Carry

@@ -11,8 +11,8 @@ ghost use Rattle.lists.specs.Slots.{fit};
 ghost use Rattle.lists.specs.Floats.{stored};
 ghost use Rattle.shape.specs.Limits.{mostRank};
 ghost use Rattle.shape.specs.Cores.{coreWith};
-ghost use Rattle.bond.specs.Bonds.{cutBond, absorb};
-ghost use Rattle.cutting.specs.Rounding.{takenIn, cutIf, roundCore};
+ghost use Rattle.cutform.specs.Bonds.{cutBond, absorb};
+ghost use Rattle.cutform.specs.Rounding.{takenIn, cutIf, roundCore};
 ghost use Rattle.cutting.specs.Slots.{carryFrom, laidCut, laidAs, ZoneFits};
 
 // The room of a slot behind what is used of it becomes +0.

@@ -21,7 +21,7 @@ use Rattle.shape.proofs.Shaped.{shaped, within-is}
 use Rattle.axes.specs.declared.Axis.{Axis}
 use Rattle.rounding.specs.declared.Rounded.{Rounded}
 use Rattle.walking.specs.declared.Walked.{Walked}
-use Rattle.cutting.specs.Rounding.{Carry, Cut}
+use Rattle.cutform.specs.Rounding.{Carry, Cut}
 use Rattle.rounding.specs.Call.{notBelowZero, Ended, endedBy}
 use Rattle.rounding.specs.Slots.{finishedBy, finished}
 use Rattle.stepping.specs.declared.Settings.{Settings}

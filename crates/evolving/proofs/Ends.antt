@@ -28,7 +28,7 @@ use Rattle.shape.specs.Cores.{Core, standing, reshaped}
 use Rattle.axes.specs.declared.Axis.{Axis}
 use Rattle.rounding.specs.declared.Rounded.{Rounded}
 use Rattle.walking.specs.declared.Walked.{Walked}
-use Rattle.cutting.specs.Rounding.{Carry, Cut, coresIn, countsIn}
+use Rattle.cutform.specs.Rounding.{Carry, Cut, coresIn, countsIn}
 use Rattle.rounding.specs.Call.{lengthsOk, scratchAfter, endedBy}
 use Rattle.rounding.proofs.Early.{Early, early-demand, early-then, early-each, early-shape}
 use Rattle.rounding.proofs.Ends.{early-lengths}

@@ -24,7 +24,7 @@ use Rattle.lists.proofs.Tables.{iter-keeps, grid-is, grid-same, length-grid, ge
 use Rattle.lists.proofs.Turns.{iter-done}
 use Rattle.shape.specs.Cores.{Core, coreWith, entry}
 use Rattle.shape.proofs.Places.{entry-row, block-rows}
-use Rattle.factors.specs.Factors.{divided, leftFactor, carryOf}
+use Rattle.cutform.specs.Factors.{divided, leftFactor, carryOf}
 use Rattle.strips.specs.Products.{dotAt, productOf}
 use Rattle.factors.specs.Rows.{Factors, factorsOf, Columns, gathered, finished, finishColumn, leftRows, carryRows}
 

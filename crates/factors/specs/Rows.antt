@@ -9,7 +9,7 @@ use Rattle.lists.specs.Lists.{pick, grid, iter}
 use Rattle.lists.specs.Floats.{at, cell, stored}
 use Rattle.shape.specs.Cores.{Core}
 use Rattle.strips.specs.Products.{dotAt}
-use Rattle.factors.specs.Factors.{divided, leftFactor, carryOf}
+use Rattle.cutform.specs.Factors.{divided, leftFactor, carryOf}
 
 pub record Factors : Type 0 where
   pub left : List Float

@@ -11,7 +11,7 @@ ghost use Rattle.lists.specs.Floats.{at, cell, stored};
 ghost use Rattle.shape.specs.Cores.{coreWith};
 ghost use Rattle.lists.specs.Strips.{storedFrom};
 ghost use Rattle.strips.specs.Products.{productOf};
-ghost use Rattle.factors.specs.Factors.{divided};
+ghost use Rattle.cutform.specs.Factors.{divided};
 ghost use Rattle.factors.specs.Rows.{Columns, gathered, finished, finishColumn, leftRows, carryRows, factorsOf};
 
 // Row k of the basis' columns that js names.

@@ -15,13 +15,13 @@ use Rattle.shape.specs.Shapes.{sizeOk, bondOk, shapeOk, coreSize, pointSize}
 use Rattle.axes.specs.Axes.{axisFinite, axisOk}
 use Rattle.shift.specs.Shifts.{distance, spacing, shiftOf, shifted, scaled}
 use Rattle.bands.specs.Weights.{cubicBandWeights, bandOn, shiftedAt}
-use Rattle.bond.specs.Bonds.{gram, cutBond, absorb}
-use Rattle.factors.specs.Factors.{divided, leftFactor, carryOf}
+use Rattle.cutform.specs.Bonds.{gram, cutBond, absorb}
+use Rattle.cutform.specs.Factors.{divided, leftFactor, carryOf}
 use Rattle.rotation.specs.Rotation.{tangentOf, slopeOf, cosineOf, turnedAt, eye}
-use Rattle.sweeps.specs.Sweeps.{turnColumns, turnRows, cleared, turned, skipped, rotate, sweep, offSum, settled, sweepsFrom, diagonalized}
-use Rattle.values.specs.Values.{singularOf, singulars, rankIn, indexAt, order, sorted, thresholdOf, keptRank}
+use Rattle.cutform.specs.Sweeps.{turnColumns, turnRows, cleared, turned, skipped, rotate, sweep, offSum, settled, sweepsFrom, diagonalized}
+use Rattle.cutform.specs.Values.{singularOf, singulars, rankIn, indexAt, order, sorted, thresholdOf, keptRank}
 use Rattle.rounding.specs.Call.{lengthsOk, coreFinite, notBelowZero, roundFinite, roundOk, scratchAfter, endedBy, roundCall}
-use Rattle.cutting.specs.Rounding.{roundCore, rounding}
+use Rattle.cutform.specs.Rounding.{roundCore, rounding}
 use Rattle.product.specs.Call.{innerLent, innerFinite, innerOk, weighed, innerCall}
 use Rattle.contraction.specs.Contract.{contract}
 use Rattle.product.specs.Product.{contractAt, sumAxis, sums, inner}

@@ -22,7 +22,7 @@ use Rattle.shape.specs.Limits.{within}
 use Rattle.shape.specs.Shapes.{pointsOf, rightOf, coreSize}
 use Rattle.shape.specs.Cores.{Core, coreWith}
 use Rattle.shape.proofs.Shaped.{shape-same}
-use Rattle.cutting.specs.Rounding.{Carry, Cut, rankIn, numbersIn}
+use Rattle.cutform.specs.Rounding.{Carry, Cut, rankIn, numbersIn}
 use Rattle.stepping.specs.Zones.{Rules}
 use Rattle.kept.specs.Kept.{Inputs, Summed, Kept, running, leftRank, rightRank, keptCore, keptCarry, keptSums}
 use Rattle.walking.specs.Keeping.{Stepped, bondSize, carrySize, rankAt, keepStep}

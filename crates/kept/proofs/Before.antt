@@ -16,7 +16,7 @@ use Rattle.lists.proofs.Slots.{offset-suc, offset-mono, slot-before, write-befo
 use Rattle.shape.specs.declared.Shape.{Shape}
 use Rattle.shape.specs.Shapes.{pointsOf, rightOf, coreSize}
 use Rattle.shape.specs.Cores.{Core, coreWith}
-use Rattle.cutting.specs.Rounding.{Carry, Cut, rankIn, numbersIn}
+use Rattle.cutform.specs.Rounding.{Carry, Cut, rankIn, numbersIn}
 use Rattle.kept.specs.Kept.{leftRank, rightRank, keptCore, keptCarry}
 use Rattle.walking.specs.Keeping.{Stepped, bondSize, carrySize, rankAt, keepStep}
 use Rattle.walking.proofs.Bonds.{bond-offset}

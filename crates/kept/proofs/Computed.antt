@@ -11,13 +11,13 @@ use Rattle.shape.specs.Cores.{place, entry, block, coreAt, pointsAt}
 use Rattle.shape.specs.Shapes.{sizeOk, bondOk, shapeOk, coreSize, pointSize}
 use Rattle.axes.specs.Axes.{axisFinite, axisOk}
 use Rattle.shift.specs.Shifts.{distance, spacing, shiftOf, scaled}
-use Rattle.bond.specs.Bonds.{gram, cutBond, absorb}
-use Rattle.factors.specs.Factors.{divided, leftFactor, carryOf}
+use Rattle.cutform.specs.Bonds.{gram, cutBond, absorb}
+use Rattle.cutform.specs.Factors.{divided, leftFactor, carryOf}
 use Rattle.rotation.specs.Rotation.{eye}
-use Rattle.sweeps.specs.Sweeps.{offSum, settled, sweepsFrom, diagonalized}
-use Rattle.values.specs.Values.{singularOf, singulars, rankIn, indexAt, order, sorted, thresholdOf, keptRank}
+use Rattle.cutform.specs.Sweeps.{offSum, settled, sweepsFrom, diagonalized}
+use Rattle.cutform.specs.Values.{singularOf, singulars, rankIn, indexAt, order, sorted, thresholdOf, keptRank}
 use Rattle.rounding.specs.Call.{coreFinite, notBelowZero, scratchAfter}
-use Rattle.cutting.specs.Rounding.{roundCore}
+use Rattle.cutform.specs.Rounding.{roundCore}
 use Rattle.contraction.specs.Contract.{contract}
 use Rattle.product.specs.Product.{contractAt}
 use Rattle.stepping.specs.Call.{reachesAt}

@@ -20,7 +20,7 @@ use Rattle.shape.specs.Limits.{within}
 use Rattle.shape.specs.Shapes.{rightOf, shapeOk, coreSize, entriesOf}
 use Rattle.shape.proofs.Shaped.{shape-same}
 use Rattle.axes.specs.Axes.{axisOk}
-use Rattle.cutting.specs.Rounding.{Carry, Cut, numbersIn}
+use Rattle.cutform.specs.Rounding.{Carry, Cut, numbersIn}
 use Rattle.stepping.specs.Zones.{axisAt, Rules}
 use Rattle.summing.specs.Sums.{sumSize}
 use Rattle.kept.specs.Kept.{Inputs, Summed, allCarries, allSums, bare, blank, keptCarry}

@@ -25,7 +25,7 @@ use Rattle.lists.proofs.Walks.{All, all-at, listed-all, every-all, walk-all, wa
 use Rattle.shape.specs.Shapes.{pointsOf, rightOf, coreSize}
 use Rattle.shape.specs.Cores.{Core, coreWith, coreAt}
 use Rattle.shape.proofs.Shaped.{Shaped, shaped}
-use Rattle.cutting.specs.Rounding.{Carry, none, some, Cut, rankIn, numbersIn}
+use Rattle.cutform.specs.Rounding.{Carry, none, some, Cut, rankIn, numbersIn}
 use Rattle.rounding.specs.Call.{coreFinite}
 use Rattle.walking.proofs.Bonds.{bond-one, bond-at}
 use Rattle.product.specs.Product.{startSums}

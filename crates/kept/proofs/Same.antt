@@ -21,7 +21,7 @@ use Rattle.shape.specs.Limits.{mostAxes}
 use Rattle.shape.specs.Shapes.{coreSize}
 use Rattle.shape.specs.Cores.{Core, pointsAt}
 use Rattle.axes.specs.declared.Axis.{Axis}
-use Rattle.cutting.specs.Rounding.{Carry, none, Cut, rankIn, numbersIn}
+use Rattle.cutform.specs.Rounding.{Carry, none, Cut, rankIn, numbersIn}
 use Rattle.product.specs.Product.{startSums}
 use Rattle.stepping.specs.Zones.{Zone, Rules}
 use Rattle.stepping.specs.Steps.{stepFrom}

@@ -8,7 +8,7 @@ use lib.Ieee.{Float}
 use Rattle.answers.specs.Outcome.{done}
 use Rattle.lists.specs.Floats.{allFinite}
 use Rattle.shape.specs.Cores.{Core}
-use Rattle.cutting.specs.Rounding.{Carry, Cut}
+use Rattle.cutform.specs.Rounding.{Carry, Cut}
 use Rattle.cutting.proofs.Cuts.{Carried, volume, CutOf}
 use Rattle.stepping.specs.declared.Settings.{Settings}
 use Rattle.stepping.specs.Zones.{Zone, Rules}

@@ -23,7 +23,7 @@ use Rattle.shape.specs.declared.Shape.{Shape}
 use Rattle.shape.specs.Shapes.{leftOf, pointsOf, rightOf, atBond, coreSize}
 use Rattle.shape.specs.Cores.{Core, coreWith, coreAt, coresOf, pointsAt}
 use Rattle.axes.specs.declared.Axis.{Axis}
-use Rattle.cutting.specs.Rounding.{Carry, none, Cut, coresIn}
+use Rattle.cutform.specs.Rounding.{Carry, none, Cut, coresIn}
 use Rattle.product.specs.Product.{startSums, sumAxis, sums, inner}
 use Rattle.stepping.specs.declared.Settings.{Settings}
 use Rattle.stepping.specs.Zones.{Zone, zone, axisAt, zonesOf, Rules, rules}

@@ -16,7 +16,7 @@ use Rattle.lists.proofs.Tests.{eqb-yes, eqb-is, both}
 use Rattle.shape.specs.Shapes.{chainOk, entriesOf, allPoints}
 use Rattle.shape.specs.Cores.{pointsAt}
 use Rattle.axes.specs.Axes.{axisFinite, axisOk}
-use Rattle.cutting.specs.Rounding.{Carry, none, Cut}
+use Rattle.cutform.specs.Rounding.{Carry, none, Cut}
 use Rattle.rounding.specs.Call.{coreFinite}
 use Rattle.product.specs.Product.{startSums}
 use Rattle.stepping.specs.Zones.{axisAt, Rules}

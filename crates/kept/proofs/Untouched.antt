@@ -22,7 +22,7 @@ use Rattle.shape.specs.declared.Shape.{Shape}
 use Rattle.shape.specs.Limits.{mostAxes}
 use Rattle.shape.specs.Shapes.{coreSize, entriesOf}
 use Rattle.shape.proofs.Shaped.{Shaped, shaped}
-use Rattle.cutting.specs.Rounding.{Carry, Cut, rankIn, numbersIn}
+use Rattle.cutform.specs.Rounding.{Carry, Cut, rankIn, numbersIn}
 use Rattle.stepping.specs.Zones.{Rules}
 use Rattle.stepping.specs.Steps.{stepFrom}
 use Rattle.stepping.proofs.Restart.{step-length}

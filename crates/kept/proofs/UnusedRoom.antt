@@ -20,7 +20,7 @@ use Rattle.shape.specs.declared.Shape.{Shape}
 use Rattle.shape.specs.Shapes.{rightOf}
 use Rattle.shape.specs.Cores.{Core, pointsAt}
 use Rattle.shape.proofs.Shaped.{Shaped, shaped}
-use Rattle.cutting.specs.Rounding.{Carry, Cut}
+use Rattle.cutform.specs.Rounding.{Carry, Cut}
 use Rattle.stepping.specs.Zones.{Rules}
 use Rattle.stepping.specs.Steps.{stepFrom}
 use Rattle.stepping.proofs.Restart.{step-length}

@@ -13,7 +13,7 @@ use Rattle.shape.specs.Limits.{mostAxes}
 use Rattle.shape.specs.Shapes.{pointsOf, rightOf, atBond, coreSize, entriesOf}
 use Rattle.shape.specs.Cores.{Core, coreWith, coreAt, pointsAt}
 use Rattle.axes.specs.declared.Axis.{Axis}
-use Rattle.cutting.specs.Rounding.{Carry, none, some}
+use Rattle.cutform.specs.Rounding.{Carry, none, some}
 use Rattle.walking.specs.Keeping.{Stepped, carrySize, rankAt}
 use Rattle.product.specs.Product.{startSums}
 use Rattle.summing.specs.Sums.{sumSize}

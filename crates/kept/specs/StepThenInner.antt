@@ -5,7 +5,7 @@ use lib.Ieee.{Float}
 use Rattle.answers.specs.Outcome.{Answer, done, bind}
 use Rattle.shape.specs.declared.Shape.{Shape}
 use Rattle.shape.specs.Cores.{Core, coresOf, pointsAt}
-use Rattle.cutting.specs.Rounding.{coresIn}
+use Rattle.cutform.specs.Rounding.{coresIn}
 use Rattle.product.specs.Product.{sums, inner}
 use Rattle.stepping.specs.Steps.{step}
 use Rattle.kept.specs.Kept.{Inputs, Kept, running, blank}

@@ -25,7 +25,7 @@ use Rattle.lists.specs.Floats.{stored}
 use Rattle.shape.specs.Limits.{mostRank}
 use Rattle.shape.specs.Cores.{Core, coreWith}
 use Rattle.rounding.specs.Call.{scratchAfter}
-use Rattle.values.specs.Values.{order, sorted, keptRank}
+use Rattle.cutform.specs.Values.{order, sorted, keptRank}
 use Rattle.passes.specs.Passes.{Passes, orthogonalized, start}
 use Rattle.pair.specs.declared.Sizes as given
 use Rattle.splitting.specs.declared.Paired.{Paired}

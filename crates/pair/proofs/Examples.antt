@@ -19,7 +19,7 @@ use Rattle.lists.specs.Walks.{along}
 use Rattle.lists.specs.Floats.{zeros, sumOn, sumTo, allFinite, firstNotFinite, stored}
 use Rattle.shape.specs.Cores.{Core, coreWith, place, entry, block}
 use Rattle.rotation.specs.Rotation.{tangentOf, slopeOf, cosineOf, turnedAt, eye}
-use Rattle.values.specs.Values.{rankIn, indexAt, order, sorted, thresholdOf, keptRank}
+use Rattle.cutform.specs.Values.{rankIn, indexAt, order, sorted, thresholdOf, keptRank}
 use Rattle.rounding.specs.Call.{notBelowZero, scratchAfter}
 use Rattle.splitting.specs.Slabs.{plusProduct, slabEntry, slab}
 use Rattle.passes.specs.Passes.{turnStored, turned, dot, tolerance64, skipped, rotate, pass, passesFrom, orthogonalized, start}

@@ -22,7 +22,7 @@ use Rattle.shape.specs.Cores.{coreWith, coreAt, standing, reshaped}
 use Rattle.shape.proofs.Shaped.{Shaped, shaped}
 use Rattle.shape.proofs.Insides.{inside-itself}
 use Rattle.axes.specs.declared.Axis.{Axis}
-use Rattle.cutting.specs.Rounding.{Carry, some, Cut, coresIn}
+use Rattle.cutform.specs.Rounding.{Carry, some, Cut, coresIn}
 use Rattle.walking.specs.declared.Walked.{Walked}
 use Rattle.walking.specs.Keeping.{Stepped, carrySize, rankAt, keepStep, carryLeft}
 use Rattle.walking.specs.Slots.{AtZone, heldBy, rankLeft}

@@ -23,7 +23,7 @@ use Rattle.shape.specs.declared.Shape.{Shape}
 use Rattle.shape.specs.Shapes.{leftOf, pointsOf, rightOf, coreSize, entriesOf}
 use Rattle.shape.specs.Cores.{Core, coreWith, coreAt, pointsAt}
 use Rattle.shape.proofs.Shaped.{Shaped}
-use Rattle.cutting.specs.Rounding.{Carry, some, Cut, numbersIn}
+use Rattle.cutform.specs.Rounding.{Carry, some, Cut, numbersIn}
 use Rattle.walking.specs.Keeping.{Stepped, carrySize, rankAt, keepStep}
 use Rattle.summing.specs.Sums.{sumSize}
 use Rattle.stepping.specs.Zones.{zone, axisAt, rules}

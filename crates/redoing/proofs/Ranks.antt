@@ -16,7 +16,7 @@ use Rattle.shape.specs.declared.Shape.{Shape}
 use Rattle.shape.specs.Shapes.{rightOf}
 use Rattle.shape.specs.Cores.{Core, coreAt}
 use Rattle.shape.proofs.Shaped.{Shaped}
-use Rattle.cutting.specs.Rounding.{Carry, Cut, rankIn}
+use Rattle.cutform.specs.Rounding.{Carry, Cut, rankIn}
 use Rattle.cutting.proofs.Cuts.{Carried}
 use Rattle.walking.specs.Keeping.{Stepped, bondSize, rankAt, keepStep}
 use Rattle.walking.proofs.Bonds.{bond-one, bond-at}

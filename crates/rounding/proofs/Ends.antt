@@ -40,13 +40,13 @@ use Rattle.shape.proofs.Shaped.{Shaped}
 use Rattle.shape.proofs.Offsets.{offset-none}
 use Rattle.shape.proofs.Packing.{Fitting, cut-pack}
 use Rattle.rotation.specs.Rotation.{eye}
-use Rattle.sweeps.specs.Sweeps.{eig, diagonalized}
-use Rattle.values.specs.Values.{singulars, order, sorted, keptRank}
-use Rattle.factors.specs.Factors.{leftFactor, carryOf}
-use Rattle.bond.specs.Bonds.{gram, cutBond, absorb}
+use Rattle.cutform.specs.Sweeps.{eig, diagonalized}
+use Rattle.cutform.specs.Values.{singulars, order, sorted, keptRank}
+use Rattle.cutform.specs.Factors.{leftFactor, carryOf}
+use Rattle.cutform.specs.Bonds.{gram, cutBond, absorb}
 use Rattle.rounding.specs.declared.Rounded.{Rounded}
 use Rattle.walking.specs.declared.Walked.{Walked}
-use Rattle.cutting.specs.Rounding.{Carry, none, some, Cut, takenIn, cutIf, roundCore, rounding, coresIn, countsIn, flagsIn}
+use Rattle.cutform.specs.Rounding.{Carry, none, some, Cut, takenIn, cutIf, roundCore, rounding, coresIn, countsIn, flagsIn}
 use Rattle.walking.specs.Keeping.{bondSize, Stepped, keepStep, carryLeft, roundFrom}
 use Rattle.rounding.specs.Call.{Ended, scratchAfter, endedBy, lengthsOk, roundFinite, roundOk, roundCall}
 use Rattle.walking.specs.Slots.{AtZone, heldBy}

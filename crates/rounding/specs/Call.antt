@@ -19,7 +19,7 @@ use Rattle.shape.specs.Limits.{mostAxes, scratchFor}
 use Rattle.shape.specs.Shapes.{chainOk, entriesOf}
 use Rattle.shape.specs.Cores.{coreAt, coresOf, chainAfter, reshaped}
 use Rattle.rounding.specs.declared.Rounded.{Rounded}
-use Rattle.cutting.specs.Rounding.{Carry, Cut, rounding, coresIn, countsIn, flagsIn}
+use Rattle.cutform.specs.Rounding.{Carry, Cut, rounding, coresIn, countsIn, flagsIn}
 
 -- ---- checks that every call over a chain makes
 -- 5: the chain has exactly N numbers, scratch exactly 4N + 2,048; the chain is slice i, scratch slice j

@@ -12,7 +12,7 @@ ghost use Rattle.shape.specs.Limits.{mostAxes};
 ghost use Rattle.shape.specs.Shapes.{chainOk, coreSize, entriesOf};
 ghost use Rattle.shape.specs.Sizes.{SizesWithin, Inside};
 ghost use Rattle.shape.specs.Cores.{coresOf};
-ghost use Rattle.cutting.specs.Rounding.{rounding};
+ghost use Rattle.cutform.specs.Rounding.{rounding};
 ghost use Rattle.rounding.specs.Call.{endedBy, roundCall};
 ghost use Rattle.rounding.specs.Slots.{unrounded, finished};
 

@@ -23,7 +23,7 @@ use Rattle.shape.specs.declared.Shape.{Shape}
 use Rattle.shape.specs.Limits.{scratchFor}
 use Rattle.shape.specs.Shapes.{coreSize, entriesOf}
 use Rattle.axes.specs.declared.Axis.{Axis}
-use Rattle.cutting.specs.Rounding.{Carry, none, Cut, numbersIn}
+use Rattle.cutform.specs.Rounding.{Carry, none, Cut, numbersIn}
 use Rattle.walking.specs.Keeping.{Stepped, carrySize, keepStep}
 use Rattle.rounding.specs.Call.{scratchAfter}
 use Rattle.rounding.proofs.Early.{Early, early-demand, early-then, early-each, early-shape}

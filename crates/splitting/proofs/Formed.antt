@@ -35,7 +35,7 @@ use Rattle.shape.specs.Limits.{mostRank}
 use Rattle.shape.specs.Cores.{Core, coreWith}
 use Rattle.shape.proofs.Places.{block-rows, block-lines}
 use Rattle.rotation.specs.Rotation.{eye}
-use Rattle.values.specs.Values.{order, sorted, keptRank}
+use Rattle.cutform.specs.Values.{order, sorted, keptRank}
 use Rattle.passes.specs.Passes.{svd, dot, Passes, made, orthogonalized, start}
 use Rattle.passes.specs.Loops.{squares}
 use Rattle.passes.proofs.Laws.{grid-finite}

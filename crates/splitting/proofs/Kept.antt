@@ -7,7 +7,7 @@ use mathlib.Core.List.{List}
 use lib.ListN.{length}
 use lib.Ieee.{Float}
 use Rattle.lists.specs.Floats.{allFinite}
-use Rattle.values.specs.Values.{order, keptRank}
+use Rattle.cutform.specs.Values.{order, keptRank}
 use Rattle.values.proofs.Ranked.{order-lt, rank-most}
 use Rattle.factors.specs.Rows.{Columns}
 

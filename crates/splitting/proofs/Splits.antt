@@ -16,7 +16,7 @@ use Rattle.lists.proofs.Floats.{stored-is}
 use Rattle.lists.proofs.Tests.{leb-is}
 use Rattle.shape.specs.Limits.{mostRank}
 use Rattle.shape.specs.Cores.{Core, coreWith}
-use Rattle.values.specs.Values.{order, sorted, keptRank}
+use Rattle.cutform.specs.Values.{order, sorted, keptRank}
 use Rattle.splitting.specs.Slabs.{slab}
 use Rattle.passes.specs.Passes.{Passes, mostPasses, orthogonalized, start}
 use Rattle.splitting.specs.Splits.{values, leftNumbers, rightNumbers, Halves, formed, cut, split, pairOf}

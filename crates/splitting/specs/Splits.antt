@@ -13,7 +13,7 @@ use Rattle.lists.specs.Lists.{pick, tab}
 use Rattle.lists.specs.Floats.{at, cell, stored}
 use Rattle.shape.specs.Limits.{mostRank}
 use Rattle.shape.specs.Cores.{Core, coreWith, block}
-use Rattle.values.specs.Values.{order, sorted, keptRank}
+use Rattle.cutform.specs.Values.{order, sorted, keptRank}
 use Rattle.splitting.specs.Slabs.{slab}
 use Rattle.passes.specs.Passes.{dot, Passes, orthogonalized, start}
 

@@ -24,7 +24,7 @@ use Rattle.axes.specs.Axes.{axisFinite, axisOk, axisAt, gathered}
 use Rattle.axes.proofs.Gathered.{gathered-at}
 use Rattle.shift.specs.Shifts.{shiftOf, reaches}
 use Rattle.rounding.specs.Call.{lengthsOk, coreFinite, notBelowZero, endedBy}
-use Rattle.cutting.specs.Rounding.{Carry, Cut, none, coresIn}
+use Rattle.cutform.specs.Rounding.{Carry, Cut, none, coresIn}
 use Rattle.stepping.specs.declared.Settings.{Settings}
 use Rattle.stepping.specs.Zones.{Zone, zone, zonesOf, rules}
 use Rattle.stepping.specs.Steps.{stepFrom, step, stepsAndOne}

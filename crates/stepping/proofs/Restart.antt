@@ -9,7 +9,7 @@ use Rattle.answers.specs.Outcome.{Outcome, done, bind}
 use Rattle.answers.proofs.Outcomes.{bind-assoc, bind-cong, bind-done}
 use Rattle.lists.specs.Walks.{every, walk, stateAt}
 use Rattle.lists.proofs.Walks.{walk-length, walk-restart, every-length, every-restart}
-use Rattle.cutting.specs.Rounding.{Carry, Cut}
+use Rattle.cutform.specs.Rounding.{Carry, Cut}
 use Rattle.stepping.specs.declared.Settings.{Settings}
 use Rattle.stepping.specs.Zones.{Zone, Rules}
 use Rattle.stepping.specs.Steps.{shiftZone, scaleZone, roundZone, stepFrom}

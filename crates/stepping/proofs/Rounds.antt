@@ -10,7 +10,7 @@ use Rattle.lists.specs.Walks.{every, walk}
 use Rattle.lists.proofs.Walks.{every-length}
 use Rattle.shape.specs.Cores.{Core}
 use Rattle.axes.specs.declared.Axis.{Axis}
-use Rattle.cutting.specs.Rounding.{none, roundCore, rounding}
+use Rattle.cutform.specs.Rounding.{none, roundCore, rounding}
 use Rattle.stepping.specs.declared.Settings.{Settings}
 use Rattle.stepping.specs.Zones.{zonesOf, rules}
 use Rattle.stepping.specs.Steps.{shiftZone, scaleZone, roundZone, stepFrom, step}

@@ -8,7 +8,7 @@ use Rattle.answers.specs.Outcome.{Answer, done, bind}
 use Rattle.lists.specs.Walks.{every, walk}
 use Rattle.shape.specs.Cores.{Core, coreWith}
 use Rattle.axes.specs.declared.Axis.{Axis}
-use Rattle.cutting.specs.Rounding.{Carry, none, Cut, coresIn}
+use Rattle.cutform.specs.Rounding.{Carry, none, Cut, coresIn}
 use Rattle.stepping.specs.declared.Settings.{Settings}
 use Rattle.stepping.specs.Zones.{Zone, zonesOf, Rules, rules}
 

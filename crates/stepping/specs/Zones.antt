@@ -9,7 +9,7 @@ use Rattle.answers.specs.Outcome.{Answer}
 use Rattle.shape.specs.Cores.{Core}
 use Rattle.axes.specs.declared.Axis.{Axis}
 use Rattle.shift.specs.Shifts.{shiftOf, reaches, moveCore, scaled}
-use Rattle.cutting.specs.Rounding.{Carry, Cut, roundCore}
+use Rattle.cutform.specs.Rounding.{Carry, Cut, roundCore}
 use Rattle.product.specs.Product.{contractAt}
 use Rattle.stepping.specs.declared.Settings.{Settings}
 

@@ -20,7 +20,7 @@ use Rattle.shape.specs.Sizes.{Inside}
 use Rattle.shape.specs.Cores.{Core, standing, reshaped}
 use Rattle.shape.proofs.Ranks.{reshaped-left, reshaped-right}
 use Rattle.axes.specs.declared.Axis.{Axis}
-use Rattle.cutting.specs.Rounding.{Carry, Cut, coresIn}
+use Rattle.cutform.specs.Rounding.{Carry, Cut, coresIn}
 use Rattle.stepping.specs.declared.Settings.{Settings}
 use Rattle.stepping.specs.Steps.{step, stepsAndOne}
 use Rattle.striding.specs.Held.{Ends, Came, Placed, Ready}

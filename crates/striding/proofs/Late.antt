@@ -19,7 +19,7 @@ use Rattle.axes.specs.declared.Axis.{Axis}
 use Rattle.shift.specs.declared.Shift.{Shift}
 use Rattle.shift.specs.declared.Shift.the-variants.{Stay, By}
 use Rattle.shift.specs.Shifts.{shiftOf, shifted, moveCore, scaled}
-use Rattle.cutting.specs.Rounding.{Carry, none, coresIn}
+use Rattle.cutform.specs.Rounding.{Carry, none, coresIn}
 use Rattle.rounding.proofs.Ends.{late-rounding}
 use Rattle.stepping.specs.declared.Settings.{Settings}
 use Rattle.stepping.specs.Zones.{Zone, zonesOf, rules}

@@ -35,7 +35,7 @@ use Rattle.axes.specs.declared.Axis.{Axis}
 use Rattle.shift.specs.declared.Shift.{Shift}
 use Rattle.shift.specs.declared.Shift.the-variants.{Stay, By}
 use Rattle.shift.specs.Shifts.{shiftOf, shifted, moveCore, scaled}
-use Rattle.cutting.specs.Rounding.{Carry, none, Cut, roundCore, coresIn}
+use Rattle.cutform.specs.Rounding.{Carry, none, Cut, roundCore, coresIn}
 use Rattle.walking.specs.Keeping.{Stepped, keepStep, carryLeft, roundFrom}
 use Rattle.cutting.proofs.Cuts.{volume}
 use Rattle.stepping.specs.declared.Settings.{Settings}

@@ -26,8 +26,8 @@ use Rattle.shape.specs.Sizes.{Inside}
 use Rattle.shape.specs.Cores.{Core, coreWith, standing, reshaped}
 use Rattle.shape.proofs.Insides.{inside-size}
 use Rattle.shape.proofs.Ranks.{reshaped-points}
-use Rattle.bond.specs.Bonds.{cutBond}
-use Rattle.cutting.specs.Rounding.{Carry, none, Cut, takenIn, cutIf, roundCore, coresIn, countsIn, flagsIn}
+use Rattle.cutform.specs.Bonds.{cutBond}
+use Rattle.cutform.specs.Rounding.{Carry, none, Cut, takenIn, cutIf, roundCore, coresIn, countsIn, flagsIn}
 use Rattle.walking.specs.Keeping.{bondSize, Stepped, keepStep}
 use Rattle.cutting.proofs.Cuts.{volume, round-of}
 use Rattle.striding.proofs.Reshapes.{reshaped-at}

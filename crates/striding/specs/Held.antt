@@ -17,7 +17,7 @@ use Rattle.shape.specs.Shapes.{chainOk, entriesOf}
 use Rattle.shape.specs.Sizes.{Inside}
 use Rattle.shape.specs.Cores.{standing, reshaped}
 use Rattle.axes.specs.declared.Axis.{Axis}
-use Rattle.cutting.specs.Rounding.{Carry, Cut, coresIn, countsIn, flagsIn}
+use Rattle.cutform.specs.Rounding.{Carry, Cut, coresIn, countsIn, flagsIn}
 use Rattle.walking.specs.Keeping.{Stepped, keepStep, carryLeft}
 use Rattle.stepping.specs.declared.Settings.{Settings}
 use Rattle.stepping.specs.Zones.{rules}

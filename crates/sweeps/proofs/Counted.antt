@@ -7,7 +7,7 @@ use native.Mathlib.Omega.{arith}
 use mathlib.Core.Bool.{Bool, true, false}
 use Rattle.answers.specs.Outcome.{Made, done, bind}
 use Rattle.answers.proofs.Outcomes.{bind-done, done-inj}
-use Rattle.sweeps.specs.Sweeps.{Eig, Swept, sweep, settled, sweepsFrom, diagonalized, mostSweeps}
+use Rattle.cutform.specs.Sweeps.{Eig, Swept, sweep, settled, sweepsFrom, diagonalized, mostSweeps}
 use Rattle.sweeps.specs.Iteration.{sweeps, Counted}
 
 module _ (n : ℕ) where

@@ -14,7 +14,7 @@ use Rattle.lists.specs.Lists.{pick}
 use Rattle.lists.specs.Floats.{cell, stored}
 use Rattle.lists.proofs.Stages.{stored-staged, staged-on, staged-stop, staged-last}
 use Rattle.rotation.specs.Rotation.{tangentOf, slopeOf, cosineOf}
-use Rattle.sweeps.specs.Sweeps.{Eig, eig, turnColumns, turnRows, cleared, turned, skipped, rotate}
+use Rattle.cutform.specs.Sweeps.{Eig, eig, turnColumns, turnRows, cleared, turned, skipped, rotate}
 use Rattle.rotation.specs.Pairs.{turnPairs}
 use Rattle.rotation.proofs.Turned.{columns-turned, rows-turned}
 

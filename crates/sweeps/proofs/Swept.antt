@@ -16,7 +16,7 @@ use Rattle.lists.specs.Floats.{cell}
 use Rattle.lists.specs.Walks.{turning}
 use Rattle.lists.proofs.Pairs.{along-pairs, folded-pairs, along-idle}
 use Rattle.lists.proofs.Stages.{turning-start}
-use Rattle.sweeps.specs.Sweeps.{Eig, eig, skipped, rotate, sweep, offSum, settled, Swept, swept, sweepsFrom, diagonalized, mostSweeps}
+use Rattle.cutform.specs.Sweeps.{Eig, eig, skipped, rotate, sweep, offSum, settled, Swept, swept, sweepsFrom, diagonalized, mostSweeps}
 use Rattle.sweeps.specs.Rows.{sweepRow, offRow, stillRow, still}
 
 -- ---- row by row

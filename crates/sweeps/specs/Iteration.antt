@@ -4,7 +4,7 @@ use mathlib.Core.Logic.{_⊎_}
 use Prim.Native.Nat.{ℕ, zero, suc, _≤_, _<_}
 use mathlib.Core.Bool.{true, false}
 use Rattle.answers.specs.Outcome.{Made, done, bind}
-use Rattle.sweeps.specs.Sweeps.{Eig, Swept, sweep, settled}
+use Rattle.cutform.specs.Sweeps.{Eig, Swept, sweep, settled}
 
 -- c sweeps, one after another
 unfoldable pub sweeps : ℕ → ℕ → Eig → Made Eig

@@ -1,3 +1,2 @@
-pub mod Sweeps
 pub mod Iteration
 pub mod Rows

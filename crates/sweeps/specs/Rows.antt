@@ -8,7 +8,7 @@ use Rattle.numbers.specs.Arithmetic.{plus, times, two64}
 use Rattle.lists.specs.Lists.{iterFrom, pairs, folded}
 use Rattle.lists.specs.Walks.{turning}
 use Rattle.lists.specs.Floats.{cell}
-use Rattle.sweeps.specs.Sweeps.{Eig, skipped, rotate}
+use Rattle.cutform.specs.Sweeps.{Eig, skipped, rotate}
 
 -- the pairs (p, q) of one p
 unfoldable pub sweepRow : ℕ → ℕ → Eig → Made Eig

@@ -6,7 +6,7 @@ ghost use lib.ListN.{length, set};
 ghost use Rattle.answers.specs.Outcome.{staged};
 ghost use Rattle.lists.specs.Floats.{cell};
 ghost use Rattle.rotation.specs.Rotation.{slopeOf};
-ghost use Rattle.sweeps.specs.Sweeps.{eig, turnColumns, turnRows, cleared, turned, skipped, rotate, sweep, offSum, settled, swept, diagonalized};
+ghost use Rattle.cutform.specs.Sweeps.{eig, turnColumns, turnRows, cleared, turned, skipped, rotate, sweep, offSum, settled, swept, diagonalized};
 ghost use Rattle.sweeps.specs.Rows.{sweepRow, offRow, stillRow, still};
 
 // The number at row i and column j.

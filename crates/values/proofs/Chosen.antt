@@ -16,7 +16,7 @@ use Rattle.lists.proofs.Floats.{stored-is}
 use Rattle.lists.proofs.Parts.{part-again}
 use Rattle.lists.proofs.Stages.{stored-staged, staged-on, staged-stop}
 use Rattle.lists.proofs.Tables.{length-tab}
-use Rattle.values.specs.Values.{singulars, order, sorted, keptRank}
+use Rattle.cutform.specs.Values.{singulars, order, sorted, keptRank}
 use Rattle.values.specs.Chosen.{Chosen, chosenOf}
 use Rattle.values.proofs.Ranked.{order-lt, rank-most}
 

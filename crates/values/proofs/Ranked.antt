@@ -20,7 +20,7 @@ use Rattle.lists.proofs.Ranks.{Strict, rank, rank-rises, rank-within, rank-apar
 use Rattle.lists.proofs.Tables.{length-tab, getD-tab, tab-is, listed-same, fill-all}
 use Rattle.lists.proofs.Turns.{iter-done}
 use Rattle.lists.proofs.Tests.{ltb-yes, ltb-is, both, fails, below-or-not}
-use Rattle.values.specs.Values.{rankIn, indexAt, order, sorted, thresholdOf, keptRank}
+use Rattle.cutform.specs.Values.{rankIn, indexAt, order, sorted, thresholdOf, keptRank}
 
 module _ (n : ℕ) (sv : List Float) (long : length sv ≡ n) (fine : allFinite sv ≡ true) where
   -- value k stands before value i

@@ -4,7 +4,7 @@ use mathlib.Core.List.{List}
 use lib.Ieee.{Float}
 use Rattle.answers.specs.Outcome.{Made, done, bind}
 use Rattle.lists.specs.Floats.{stored}
-use Rattle.values.specs.Values.{singulars, order, sorted, keptRank}
+use Rattle.cutform.specs.Values.{singulars, order, sorted, keptRank}
 
 pub record Chosen : Type 0 where
   pub rank : ℕ

@@ -9,7 +9,7 @@ ghost use Rattle.lists.specs.Lists.{count};
 ghost use Rattle.lists.specs.Floats.{at, allFinite};
 ghost use Rattle.shape.specs.Limits.{mostRank};
 ghost use Rattle.values.specs.Chosen.{chosenOf};
-ghost use Rattle.values.specs.Values.{singularOf, singulars, rankIn, order, sorted, thresholdOf, keptRank};
+ghost use Rattle.cutform.specs.Values.{singularOf, singulars, rankIn, order, sorted, thresholdOf, keptRank};
 
 // The root of a diagonal entry, +0 where it isn't above zero.
 fn singular(x: f64) -> f64

@@ -30,7 +30,7 @@ use Rattle.shape.specs.Shapes.{leftOf, pointsOf, rightOf, coreSize, entriesOf}
 use Rattle.shape.specs.Sizes.{Inside}
 use Rattle.shape.specs.Cores.{Core, standing, withCore, reshaped}
 use Rattle.shape.proofs.Ranks.{left-other, right-other, size-other, left-here, right-here, still-within}
-use Rattle.cutting.specs.Rounding.{Carry, some, Cut, roundCore, coresIn, rankIn, numbersIn}
+use Rattle.cutform.specs.Rounding.{Carry, some, Cut, roundCore, coresIn, rankIn, numbersIn}
 use Rattle.walking.specs.Keeping.{bondSize, carrySize, Stepped, rankAt, keepStep, carryLeft, roundFrom}
 use Rattle.walking.specs.Slots.{turned, zoneTurn, rankLeft, AtZone}
 use Rattle.cutting.proofs.Cuts.{Carried, volume, rankOn, CutOf, round-carried, round-of}

@@ -26,7 +26,7 @@ use Rattle.shape.proofs.Offsets.{core-most}
 use Rattle.bond.specs.declared.BondCut.{BondCut}
 use Rattle.walking.specs.declared.Places.{Places}
 use Rattle.walking.specs.declared.Walked.{Walked}
-use Rattle.cutting.specs.Rounding.{Carry, some, Cut, roundCore, rankIn, numbersIn}
+use Rattle.cutform.specs.Rounding.{Carry, some, Cut, roundCore, rankIn, numbersIn}
 use Rattle.walking.specs.Keeping.{bondSize, carrySize, Stepped, rankAt, carryLeft}
 use Rattle.cutting.specs.Slots.{carryFrom, Laid, laidCut, laidAs, ZoneFits}
 use Rattle.walking.specs.Slots.{turned, zoneTurn, rankLeft, AtZone, mostCore, heldBy, placesOf, ZoneCut}

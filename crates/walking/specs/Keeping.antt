@@ -13,7 +13,7 @@ use Rattle.lists.specs.Walks.{walk}
 use Rattle.shape.specs.declared.Shape.{Shape}
 use Rattle.shape.specs.Shapes.{leftOf, rightOf, atBond, coreSize}
 use Rattle.shape.specs.Cores.{standing, reshaped}
-use Rattle.cutting.specs.Rounding.{Carry, none, some, Cut, roundCore, coresIn, rankIn, numbersIn}
+use Rattle.cutform.specs.Rounding.{Carry, none, some, Cut, roundCore, coresIn, rankIn, numbersIn}
 
 -- ---- the slots: how many places zone k has. A bond has one place in each array; its carry has r_right*r_right
 unfoldable pub bondSize : Shape → ℕ → ℕ

@@ -18,7 +18,7 @@ use Rattle.shape.specs.Cores.{standing, withCore}
 use Rattle.walking.specs.declared.Walked.{Walked}
 use Rattle.walking.specs.declared.Places.{Places}
 use Rattle.cutting.specs.Slots.{laidCut, laidAs}
-use Rattle.cutting.specs.Rounding.{Carry, Cut, roundCore, rankIn, numbersIn}
+use Rattle.cutform.specs.Rounding.{Carry, Cut, roundCore, rankIn, numbersIn}
 use Rattle.walking.specs.Keeping.{bondSize, carrySize, Stepped, rankAt, carryLeft}
 
 -- ---- zone after zone

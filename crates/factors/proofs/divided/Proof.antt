@@ -1,6 +1,6 @@
 -- `factors::divided` meets its contract. Assumes nothing.
 use mathlib.Core.Path.{refl}
-use Rattle.factors.specs.Factors.{divided}
+use Rattle.cutform.specs.Factors.{divided}
 use Rattle.factors.proofs.divided.Statement.{statement}
 use Rattle.factors.proofs.divided.Tie as tie
 

@@ -1,6 +1,6 @@
 -- `sweeps::clear` meets its contract. Assumes nothing.
 use borrow.Author.Needs.{needs}
-use Rattle.sweeps.specs.Sweeps.{cleared}
+use Rattle.cutform.specs.Sweeps.{cleared}
 use Rattle.sweeps.proofs.clear.Statement.{statement}
 use Rattle.sweeps.proofs.clear.Tie as tie
 

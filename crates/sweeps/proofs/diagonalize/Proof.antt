@@ -3,7 +3,7 @@ use Prim.Native.Nat.{_-_, _≤_}
 use mathlib.Core.Path.{_≡_}
 use lib.ListN.{length}
 use Rattle.lists.proofs.Turns.{turns}
-use Rattle.sweeps.specs.Sweeps.{eig, settled, sweepsFrom, diagonalized, mostSweeps}
+use Rattle.cutform.specs.Sweeps.{eig, settled, sweepsFrom, diagonalized, mostSweeps}
 use Rattle.sweeps.proofs.Swept.{sweeps-start, sweeps-settled, sweeps-idle, sweeps-stop, sweeps-more, sweeps-done}
 use Rattle.sweeps.proofs.diagonalize.Statement.{statement}
 use Rattle.sweeps.proofs.diagonalize.Tie as tie

@@ -4,7 +4,7 @@ use mathlib.Core.Path.{_≡_}
 use lib.ListN.{length}
 use Rattle.lists.specs.Walks.{turning}
 use Rattle.lists.proofs.Turns.{turns}
-use Rattle.sweeps.specs.Sweeps.{eig, sweep}
+use Rattle.cutform.specs.Sweeps.{eig, sweep}
 use Rattle.sweeps.specs.Rows.{sweepRow}
 use Rattle.lists.proofs.Stages.{stagings}
 use Rattle.sweeps.proofs.Swept.{sweep-rows}

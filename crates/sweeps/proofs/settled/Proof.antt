@@ -1,6 +1,6 @@
 -- `sweeps::settled` meets its contract. Assumes nothing.
 use borrow.Author.Needs.{needs}
-use Rattle.sweeps.specs.Sweeps.{settled}
+use Rattle.cutform.specs.Sweeps.{settled}
 use Rattle.sweeps.proofs.settled.Statement.{statement}
 use Rattle.sweeps.proofs.settled.Tie as tie
 

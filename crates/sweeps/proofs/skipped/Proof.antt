@@ -1,6 +1,6 @@
 -- `sweeps::skipped` meets its contract. Assumes nothing.
 use borrow.Author.Needs.{needs}
-use Rattle.sweeps.specs.Sweeps.{skipped}
+use Rattle.cutform.specs.Sweeps.{skipped}
 use Rattle.sweeps.proofs.skipped.Statement.{statement}
 use Rattle.sweeps.proofs.skipped.Tie as tie
 

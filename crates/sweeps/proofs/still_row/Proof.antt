@@ -4,7 +4,7 @@ use mathlib.Core.Path.{_≡_}
 use mathlib.Core.Bool.{Bool, _&&_}
 use Rattle.lists.specs.Lists.{iterFrom}
 use Rattle.lists.proofs.Turns.{turns, from-more}
-use Rattle.sweeps.specs.Sweeps.{skipped}
+use Rattle.cutform.specs.Sweeps.{skipped}
 use Rattle.sweeps.specs.Rows.{stillRow}
 use Rattle.sweeps.proofs.still_row.Statement.{statement}
 use Rattle.sweeps.proofs.still_row.Tie as tie

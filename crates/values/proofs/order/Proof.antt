@@ -7,7 +7,7 @@ use native.Mathlib.Numerals.{add-one}
 use lib.ListN.{length, set}
 use Rattle.lists.specs.Lists.{iter}
 use Rattle.lists.proofs.Turns.{turns}
-use Rattle.values.specs.Values.{rankIn}
+use Rattle.cutform.specs.Values.{rankIn}
 use Rattle.values.proofs.Ranked.{rank-lt, order-is}
 use Rattle.values.proofs.order.Statement.{statement}
 use Rattle.values.proofs.order.Tie as tie

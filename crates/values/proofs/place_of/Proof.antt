@@ -1,6 +1,6 @@
 -- `values::place_of` meets its contract. Assumes nothing.
 use borrow.Author.Needs.{needs}
-use Rattle.values.specs.Values.{rankIn}
+use Rattle.cutform.specs.Values.{rankIn}
 use Rattle.values.proofs.place_of.Statement.{statement}
 use Rattle.values.proofs.place_of.Tie as tie
 

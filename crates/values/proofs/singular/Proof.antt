@@ -1,7 +1,7 @@
 -- `values::singular` meets its contract. Assumes nothing.
 use borrow.Author.Needs.{needs}
 use Rattle.lists.proofs.Picks.{picks}
-use Rattle.values.specs.Values.{singularOf}
+use Rattle.cutform.specs.Values.{singularOf}
 use Rattle.values.proofs.singular.Statement.{statement}
 use Rattle.values.proofs.singular.Tie as tie
 

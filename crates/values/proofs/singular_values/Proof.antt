@@ -10,7 +10,7 @@ use Rattle.lists.specs.Floats.{cell}
 use Rattle.lists.proofs.Cells.{exacts}
 use Rattle.lists.proofs.Turns.{turns}
 use Rattle.lists.proofs.Tables.{fill-all}
-use Rattle.values.specs.Values.{singularOf, singulars}
+use Rattle.cutform.specs.Values.{singularOf, singulars}
 use Rattle.values.proofs.singular_values.Statement.{statement}
 use Rattle.values.proofs.singular_values.Tie as tie
 

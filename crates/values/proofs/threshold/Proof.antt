@@ -1,7 +1,7 @@
 -- `values::threshold` meets its contract. Assumes nothing.
 use borrow.Author.Needs.{needs}
 use Rattle.lists.proofs.Picks.{picks}
-use Rattle.values.specs.Values.{thresholdOf}
+use Rattle.cutform.specs.Values.{thresholdOf}
 use Rattle.values.proofs.threshold.Statement.{statement}
 use Rattle.values.proofs.threshold.Tie as tie
 

@@ -11,7 +11,7 @@ use Rattle.lists.specs.Walks.{walk}
 use Rattle.lists.specs.Lists.{flat}
 use Rattle.lists.specs.Floats.{stored}
 use Rattle.shape.specs.Cores.{Core, coreWith}
-use Rattle.bond.specs.Bonds.{cutBond, absorb}
+use Rattle.cutform.specs.Bonds.{cutBond, absorb}
 
 -- what a bond hands on: nothing left of core 0, else so many rows of numbers
 pub data Carry : Type 0 where

@@ -9,10 +9,10 @@ use Rattle.answers.specs.Outcome.{Answer, done, bind, making}
 use Rattle.lists.specs.Lists.{grid}
 use Rattle.lists.specs.Floats.{cell, sumTo, sumRows, stored}
 use Rattle.shape.specs.Cores.{Core, coreWith, entry, block}
-use Rattle.factors.specs.Factors.{leftFactor, carryOf}
-use Rattle.sweeps.specs.Sweeps.{eig, diagonalized}
+use Rattle.cutform.specs.Factors.{leftFactor, carryOf}
+use Rattle.cutform.specs.Sweeps.{eig, diagonalized}
 use Rattle.rotation.specs.Rotation.{eye}
-use Rattle.values.specs.Values.{singulars, order, sorted, keptRank}
+use Rattle.cutform.specs.Values.{singulars, order, sorted, keptRank}
 
 -- entry (i, j) is the sum over the rows (il, im), ascending
 unfoldable pub gram : Core → List Float

@@ -1,0 +1,5 @@
+pub mod Sweeps
+pub mod Values
+pub mod Factors
+pub mod Bonds
+pub mod Rounding
