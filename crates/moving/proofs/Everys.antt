@@ -1,7 +1,7 @@
--- A loop over zones, each by itself, by what is left of it; and a pass that leaves zones as they are. Assumes nothing.
+-- A loop over zones, each by itself, by what is left of it. Assumes nothing.
 use mathlib.Core.Path.{_≡_, refl, sym, ap, _∙_}
 use Prim.Native.Nat.{ℕ, zero, suc, _+_, _-_, _≤_, _<_}
-use native.Mathlib.Nat.{sub-self, le-refl}
+use native.Mathlib.Nat.{sub-self}
 use native.Mathlib.Numerals.{add-one}
 use native.Mathlib.Omega.{arith}
 use mathlib.Core.List.{List, [], _∷_, _++_, append-assoc, append-nil}
@@ -61,9 +61,3 @@ module _ {E X Y : Type 0} (f : ℕ → X → Outcome E Y) (d z : ℕ) where
           go : (o : Outcome E (List Y)) {w : List Y} → listed (k - z) z y ++ (y' k ∷ []) ≡ w → bind o (λ ys. done (listed (k - z) z y ++ (y' k ∷ ys))) ≡ bind o (λ ys. done (w ++ ys))
           go (done ys) e = ap done (sym (append-assoc (listed (k - z) z y) (y' k ∷ []) ys) ∙ ap (λ (u : List Y). u ++ ys) e)
           go (refused q) e = refl
-
--- a pass that leaves each zone as it is
-pub every-kept : {E X : Type 0} (f : ℕ → X → Outcome E X) (x : ℕ → X) (m k : ℕ) → ((j : ℕ) → k ≤ j → f j (x j) ≡ done (x j)) → every f k (listed m k x) ≡ done (listed m k x)
-unfolding every listed
-every-kept f x zero k h = refl
-every-kept f x (suc m) k h = rw (h k (le-refl k), every-kept f x m (suc k) (λ j l. h j (omega arith)))

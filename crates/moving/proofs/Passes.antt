@@ -1,10 +1,10 @@
--- The shifts as a loop over zones in place, and the scaling of core 0. Assumes nothing.
+-- The shifts as a loop over zones in place, and the scaling behind them. Assumes nothing.
 use mathlib.Core.Path.{_≡_, refl, sym, ap, _∙_}
-use Prim.Native.Nat.{ℕ, zero, suc, _+_, _-_, _≤_, _<_}
+use Prim.Native.Nat.{ℕ, _+_, _-_, _≤_, _<_}
 use native.Mathlib.Nat.{le-refl}
 use native.Mathlib.Omega.{arith}
 use mathlib.Core.Bool.{true}
-use mathlib.Core.List.{List, _∷_}
+use mathlib.Core.List.{List}
 use lib.ListN.{length, take}
 use lib.Seq.{take-take}
 use lib.Ieee.{Float}
@@ -17,23 +17,18 @@ use Rattle.lists.specs.Lists.{listed}
 use Rattle.lists.specs.Slots.{offset, slot}
 use Rattle.lists.specs.Walks.{every}
 use Rattle.lists.proofs.Slots.{offset-mono}
-use Rattle.lists.proofs.Tables.{listed-same}
 use Rattle.shape.specs.declared.Shape.{Shape}
-use Rattle.shape.specs.Shapes.{leftOf, pointsOf, rightOf, coreSize}
-use Rattle.shape.specs.Cores.{Core, coreWith, standing}
+use Rattle.shape.specs.Shapes.{pointsOf, coreSize}
+use Rattle.shape.specs.Cores.{Core, standing}
 use Rattle.axes.specs.declared.Axis.{Axis}
 use Rattle.axes.specs.Axes.{axisAt}
 use Rattle.shift.specs.Shifts.{shiftOf, reaches}
 use Rattle.stepping.specs.declared.Settings.{Settings}
 use Rattle.stepping.specs.Zones.{zone, rules}
-use Rattle.stepping.specs.Steps.{shiftZone, scaleZone}
+use Rattle.stepping.specs.Steps.{shiftZone}
 use Rattle.stepping.specs.Over.{axisReaches, Onward, Elsewhere, zoneIn, standFrom, Stands, Rooms}
-use Rattle.stepping.proofs.Everys.{Left, left-none, left-done, left-stop, left-more, every-kept}
-
--- a core stands as its slot does
-pub stand-same : (s t : Shape) (w v : List Float) (j : ℕ) → slot (coreSize s) j v ≡ slot (coreSize s) j w → standing s t v j ≡ standing s t w j
-unfolding standing
-stand-same s t w v j e = ap (λ (l : List Float). coreWith (leftOf t j) (pointsOf t j) (rightOf t j) (take (coreSize t j) l)) e
+use Rattle.stepping.proofs.Scalings.{stand-same}
+use Rattle.moving.proofs.Everys.{Left, left-none, left-done, left-stop, left-more}
 
 -- what a call in place asks is met as long as lengths stay
 pub stands-on : (s t : Shape) (w v : List Float) → Stands s t w → length v ≡ length w → Stands s t v
@@ -46,19 +41,16 @@ pub reach-of : (set : Settings) (s : Shape) (xs : List Axis) (k : ℕ) (x : Axis
 unfolding axisReaches
 reach-of set s xs k x e h = ap (λ (y : Axis). reaches (shiftOf y (set .tau) (pointsOf s k))) e ∙ h
 
-pub onward-none : (s : Shape) (z : ℕ) (w : List Float) → Onward s z w w
-onward-none s z w = record { front = refl; behind = refl }
-
 pub onward-both : (s : Shape) (z : ℕ) (w v u : List Float) → Onward s z w v → Onward s z v u → Onward s z w u
 onward-both s z w v u P Q = record { front = Q .front ∙ P .front; behind = Q .behind ∙ P .behind }
 
 -- ---- one phase after another: r is the verdict of the first, a what it leaves
 module _ {A B : Type 0} (o : Answer A) (f : A → Answer B) (r : Verdict) (a : A) (e : o ≡ answered r a) where
-  pub phase-stops : (q : Refusal) → r ≡ Refused q → (b : B) → bind o f ≡ answered (Refused q) b
+  phase-stops : (q : Refusal) → r ≡ Refused q → (b : B) → bind o f ≡ answered (Refused q) b
   unfolding answered
   phase-stops q h b = ap (λ (x : Answer A). bind x f) (e ∙ ap (λ (v : Verdict). answered v a) h)
 
-  pub phase-goes : r ≡ Fits → (p : Answer B) → f a ≡ p → bind o f ≡ p
+  phase-goes : r ≡ Fits → (p : Answer B) → f a ≡ p → bind o f ≡ p
   unfolding answered
   phase-goes h p g = ap (λ (x : Answer A). bind x f) (e ∙ ap (λ (v : Verdict). answered v a) h) ∙ g
 
@@ -78,8 +70,12 @@ module _ (s t : Shape) (set : Settings) (xs : List Axis) (z : ℕ) (w : List Flo
   shifting-none h = record { low = le-refl z; most = h; long = refl; onward = record { front = refl; behind = refl }; rest = left-none (shiftZone rules set) (s .d) z (zoneIn s t xs w) (standing s t w) }
 
   module _ (k : ℕ) (v : List Float) (S : Shifting k v) where
-    pub shifting-done : s .d ≤ k → shifts ≡ answered Fits (standFrom s t z v)
+    shifting-done : s .d ≤ k → shifts ≡ answered Fits (standFrom s t z v)
     shifting-done l = left-done (shiftZone rules set) (s .d) z shifts k (zoneIn s t xs v) (standing s t v) (S .rest) (S .low) l (S .most) ∙ sym (answered-fits (standFrom s t z v))
+
+    -- what is behind the shifts takes what they left
+    pub moving-done : s .d ≤ k → {B : Type 0} (f : List Core → Answer B) (p : Answer B) → f (standFrom s t z v) ≡ p → bind shifts f ≡ p
+    moving-done l f p g = phase-goes shifts f Fits (standFrom s t z v) (shifting-done l) refl p g
 
     pub onward-on : (u : List Float) → Elsewhere s k v u → Onward s z w u
     onward-on u E =
@@ -94,9 +90,12 @@ module _ (s t : Shape) (set : Settings) (xs : List Axis) (z : ℕ) (w : List Flo
       here : shiftZone rules set k (zoneIn s t xs v k) ≡ answered r (standing s t u k)
       here = ap (λ (y : Axis). shiftZone rules set k (zone (standing s t v k) y)) (sym a) ∙ e
 
-      pub shifting-stop : (q : Refusal) → r ≡ Refused q → (b : List Float) → shifts ≡ answered (Refused q) (standFrom s t z b)
+      shifting-stop : (q : Refusal) → r ≡ Refused q → (b : List Float) → shifts ≡ answered (Refused q) (standFrom s t z b)
       unfolding answered
       shifting-stop q h b = left-stop (shiftZone rules set) (s .d) z shifts k (zoneIn s t xs v) (standing s t v) (S .rest) l q (here ∙ ap (λ (o : Verdict). answered o (standing s t u k)) h)
+
+      pub moving-stop : (q : Refusal) → r ≡ Refused q → {B : Type 0} (f : List Core → Answer B) (b : B) → bind shifts f ≡ answered (Refused q) b
+      moving-stop q h f b = phase-stops shifts f (Refused q) (standFrom s t z v) (shifting-stop q h v) q refl b
 
       pub shifting-more : r ≡ Fits → length u ≡ length v → Elsewhere s k v u → Shifting (k + 1) u
       shifting-more h same E =
@@ -111,28 +110,3 @@ module _ (s t : Shape) (set : Settings) (xs : List Axis) (z : ℕ) (w : List Flo
                 (λ j p q. ap (λ (c : Core). zone c (axisAt xs j)) (still j q (λ n. omega arith)))
                 (λ j p. still j (omega arith) (λ n. omega arith));
           }
-
--- ---- the scaling
-module _ (s t : Shape) (set : Settings) (w : List Float) where
-  -- no zone but the first is scaled
-  later : (x : ℕ → Core) (j : ℕ) → 1 ≤ j → scaleZone rules set j (x j) ≡ done (x j)
-  unfolding scaleZone
-  later x zero l = let n : ⊥ = omega arith in absurd n
-  later x (suc j) l = refl
-
-  pub none-scaled : (z : ℕ) → ¬ (z ≡ 0) → every (scaleZone rules set) z (standFrom s t z w) ≡ answered Fits (standFrom s t z w)
-  none-scaled z n = every-kept (scaleZone rules set) (standing s t w) (s .d - z) z (λ j l. later (standing s t w) j (omega arith)) ∙ sym (answered-fits (standFrom s t z w))
-
-  -- core 0 has become that of v
-  pub first-scaled : (z : ℕ) → z ≡ 0 → 1 ≤ s .d → (v : List Float) (r : Verdict) → scaleZone rules set 0 (standing s t w 0) ≡ answered r (standing s t v 0) → Elsewhere s 0 w v
-      → every (scaleZone rules set) z (standFrom s t z w) ≡ answered r (standFrom s t z v)
-  unfolding every listed answered
-  first-scaled z e least v r h E =
-      let m : s .d - 0 ≡ suc (s .d - 1) = omega arith in
-      let tail : listed (s .d - 1) 1 (standing s t w) ≡ listed (s .d - 1) 1 (standing s t v) =
-      listed-same (s .d - 1) 1 (standing s t w) (standing s t v) (λ j p q. sym (stand-same s t w v j (E .others j (omega arith) (λ n. omega arith)))) in
-      rw (e, m, h, every-kept (scaleZone rules set) (standing s t w) (s .d - 1) 1 (λ j l. later (standing s t w) j l), tail) (go r)
-    where
-      go : (r : Verdict) → bind (answered r (standing s t v 0)) (λ y. done (y ∷ listed (s .d - 1) 1 (standing s t v))) ≡ answered r (standing s t v 0 ∷ listed (s .d - 1) 1 (standing s t v))
-      go Fits = refl
-      go (Refused q) = refl
