@@ -36,7 +36,7 @@ pub fn fresh_ok(
     if let answers::Verdict::Refused(q) = lent {
         return answers::Verdict::Refused(q);
     }
-    if scratch != 4 * s.entries() + rounding::checks::SCRATCH_BESIDE {
+    if scratch != 4 * s.entries() + measuring::SCRATCH_BESIDE {
         return answers::Verdict::Refused(answers::Refusal::Length(5));
     }
     let numbers = super::numeric::numbers_made(s, xs, set, source, weights);
@@ -76,7 +76,7 @@ pub fn weights_ok(
     if part.len() != s.n[z] {
         return answers::Verdict::Refused(answers::Refusal::Length(5));
     }
-    if scratch != 4 * s.entries() + rounding::checks::SCRATCH_BESIDE {
+    if scratch != 4 * s.entries() + measuring::SCRATCH_BESIDE {
         return answers::Verdict::Refused(answers::Refusal::Length(6));
     }
     let finite = lists::all_finite(part);
@@ -113,7 +113,7 @@ pub fn core_ok(
     if part.len() != s.core_size(z) {
         return answers::Verdict::Refused(answers::Refusal::Length(5));
     }
-    if scratch != 4 * s.entries() + rounding::checks::SCRATCH_BESIDE {
+    if scratch != 4 * s.entries() + measuring::SCRATCH_BESIDE {
         return answers::Verdict::Refused(answers::Refusal::Length(6));
     }
     let finite = lists::all_finite(part);
@@ -163,7 +163,7 @@ pub fn axis_ok(
     if let answers::Verdict::Refused(q) = found {
         return answers::Verdict::Refused(q);
     }
-    if scratch != 4 * s.entries() + rounding::checks::SCRATCH_BESIDE {
+    if scratch != 4 * s.entries() + measuring::SCRATCH_BESIDE {
         return answers::Verdict::Refused(answers::Refusal::Length(5));
     }
     let finite = axes::axis_finite(a);

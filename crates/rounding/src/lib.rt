@@ -16,8 +16,6 @@ ghost use Rattle.cutting.specs.Rounding.{rounding};
 ghost use Rattle.rounding.specs.Call.{endedBy, roundCall};
 ghost use Rattle.rounding.specs.Slots.{unrounded, finished};
 
-pub mod checks;
-
 // The chain's shape at the end; for each bond the sweeps made, and whether the sum is below 1e-30 at the end.
 pub struct Rounded {
     pub verdict: answers::Verdict,
@@ -140,7 +138,7 @@ fn round_all(s: shape::Shape, eps: f64, chain: &mut [f64], scratch: &mut [f64]) 
 pub fn tt_round(s: shape::Shape, eps: f64, chain: &mut [f64], scratch: &mut [f64]) -> Rounded
     ensures { λ r. ⌜ record { result = r; chain = now (chain .exit); scratch = now (scratch .exit) } ≡ roundCall s eps (now (chain .entry)) (now (scratch .entry)) ⌝ }
 {
-    let ok = checks::round_ok(s, eps, chain, scratch.len());
+    let ok = measuring::round_ok(s, eps, chain, scratch.len());
     if let answers::Verdict::Refused(r) = ok {
         return refused_rounding(r, s);
     }

@@ -1,10 +1,10 @@
--- `rounding::checks::lengths_ok` meets its contract. Assumes nothing.
+-- `measuring::lengths_ok` meets its contract. Assumes nothing.
 use borrow.Author.Needs.{needs}
 use Rattle.lists.proofs.Asked.{lengths-asked}
-use Rattle.rounding.specs.Call.{lengthsOk}
-use Rattle.rounding.proofs.Verdicts.{scratch-counted}
-use Rattle.rounding.proofs.checks.lengths_ok.Statement.{statement}
-use Rattle.rounding.proofs.checks.lengths_ok.Tie as tie
+use Rattle.measuring.specs.Asked.{lengthsOk}
+use Rattle.measuring.proofs.Verdicts.{scratch-counted}
+use Rattle.measuring.proofs.lengths_ok.Statement.{statement}
+use Rattle.measuring.proofs.lengths_ok.Tie as tie
 
 pub lengths-ok-spec : {M : Type 1} → statement M
 unfolding lengthsOk

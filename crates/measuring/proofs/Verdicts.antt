@@ -23,7 +23,7 @@ use Rattle.shape.specs.Shapes.{entriesOf}
 use Rattle.shape.specs.Sizes.{SizesWithin}
 use Rattle.shape.specs.Cores.{coreAt}
 use Rattle.shape.proofs.Offsets.{entries-most}
-use Rattle.rounding.specs.Call.{lengthsOk, coreFinite, roundFinite}
+use Rattle.measuring.specs.Asked.{lengthsOk, coreFinite, roundFinite}
 
 -- m is the chain's N as code counted it
 module _ (s : Shape) (m : ℕ) (e : m ≡ entriesOf s) where

@@ -5,7 +5,7 @@ ghost use lib.ListN.{length};
 ghost use Rattle.answers.specs.Outcome.{verdictOf};
 ghost use Rattle.shape.specs.Shapes.{entriesOf};
 ghost use Rattle.shape.specs.Sizes.{SizesWithin};
-ghost use Rattle.rounding.specs.Call.{lengthsOk, notBelowZero, roundFinite, roundOk};
+ghost use Rattle.measuring.specs.Asked.{lengthsOk, notBelowZero, roundFinite, roundOk};
 
 // What scratch has beside four times the chain's numbers.
 pub const SCRATCH_BESIDE: usize = 2048;

@@ -1,12 +1,12 @@
--- `rounding::checks::round_ok` meets its contract. Assumes nothing.
+-- `measuring::round_ok` meets its contract. Assumes nothing.
 use borrow.Author.Needs.{needs}
 use Rattle.answers.proofs.Checks.{then-stops, then-passes}
 use Rattle.lists.proofs.Asked.{tested}
 use Rattle.shape.proofs.Shaped.{fits-sizes}
-use Rattle.rounding.specs.Call.{roundOk}
-use Rattle.rounding.proofs.Verdicts.{chain-long}
-use Rattle.rounding.proofs.checks.round_ok.Statement.{statement}
-use Rattle.rounding.proofs.checks.round_ok.Tie as tie
+use Rattle.measuring.specs.Asked.{roundOk}
+use Rattle.measuring.proofs.Verdicts.{chain-long}
+use Rattle.measuring.proofs.round_ok.Statement.{statement}
+use Rattle.measuring.proofs.round_ok.Tie as tie
 
 pub round-ok-spec : {M : Type 1} → statement M
 unfolding roundOk
