@@ -1,15 +1,15 @@
--- `admitting::checks::axis_ok` meets its contract. Assumes nothing.
+-- `new_axis::axis_ok` meets its contract. Assumes nothing.
 use borrow.Author.Needs.{needs}
 use Rattle.shape.proofs.Shaped.{shaped}
 use Rattle.kept.specs.Kept.{keptOf}
 use Rattle.admitting.proofs.InRow.{found-stops, found-says, axis-room, axis-stops, axis-fits}
 use Rattle.stepping.specs.Zones.{rules}
 use Rattle.kept.specs.Requests.{newAxis}
 use Rattle.admitting.specs.Asking.{scratchOf}
 use native.Mathlib.Omega.{arith}
 use Rattle.shape.proofs.Offsets.{entries-most}
-use Rattle.admitting.proofs.checks.axis_ok.Statement.{statement}
-use Rattle.admitting.proofs.checks.axis_ok.Tie as tie
+use Rattle.new_axis.proofs.axis_ok.Statement.{statement}
+use Rattle.new_axis.proofs.axis_ok.Tie as tie
 
 returns : tie.Need-returns
 returns c = let i = c .before .before .before .before .before .before .before .before .before .before .before in found-stops rules (scratchOf (i .args .r .shape) 5 (i .args .scratch)) (keptOf (i .args .r) (i .args .source .now) (i .args .weights .now) (i .args .chain .now) (i .args .carries .now) (i .args .sums .now)) (newAxis (i .args .z) (i .args .a)) _ (c .before .before .before .found-ok .ensures) _ (c .before .found .given .1)
