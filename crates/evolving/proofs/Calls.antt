@@ -10,22 +10,48 @@ use Rattle.answers.specs.declared.Refusal.{Refusal}
 use Rattle.answers.specs.declared.Verdict.{Verdict}
 use Rattle.answers.specs.declared.Verdict.the-variants.{Fits, Refused}
 use Rattle.answers.specs.Outcome.{Answer, Check, _then_, demand, done, verdictOf}
-use Rattle.answers.proofs.Outcomes.{bind-cong}
+use Rattle.answers.proofs.Outcomes.{fits-done, bind-cong}
 use Rattle.lists.proofs.Tests.{both}
 use Rattle.shape.specs.declared.Shape.{Shape}
 use Rattle.shape.specs.Limits.{mostAxes, within}
+use Rattle.shape.specs.Shapes.{chainOk}
+use Rattle.shape.specs.Sizes.{SizesWithin, Inside}
 use Rattle.shape.specs.Cores.{coresOf}
-use Rattle.shape.proofs.Shaped.{within-is}
+use Rattle.shape.proofs.Shaped.{shaped, within-is}
 use Rattle.axes.specs.declared.Axis.{Axis}
 use Rattle.rounding.specs.declared.Rounded.{Rounded}
+use Rattle.walking.specs.declared.Walked.{Walked}
 use Rattle.cutting.specs.Rounding.{Carry, Cut}
 use Rattle.rounding.specs.Call.{notBelowZero, Ended, endedBy}
+use Rattle.rounding.specs.Slots.{finishedBy, finished}
 use Rattle.stepping.specs.declared.Settings.{Settings}
 use Rattle.stepping.specs.Steps.{step, stepsAndOne}
 use Rattle.stepping.specs.Call.{mostSteps, settingsFor}
 use Rattle.stepping.specs.Over.{settingsOk, overOk, stepOver, evolveOver}
-use Rattle.ending.specs.Held.{Answers}
-use Rattle.evolving.proofs.Ends.{over-stops, over-goes, over-passed}
+use Rattle.striding.specs.Held.{Came}
+use Rattle.evolving.specs.Held.{Finished, Answers}
+use Rattle.striding.proofs.Asked.{not-fits}
+use Rattle.striding.proofs.Late.{late-steps}
+use Rattle.evolving.proofs.Ends.{finished-is, over-stops, over-goes, over-passed}
+
+pub came-inside : (T : Answer (List (Carry × Cut))) (s t : Shape) (v : Verdict) (u : Shape) (sweeps : List ℕ) (settled : List Bool) (w : List Float) → Came T s t v u sweeps settled w → v ≡ Fits → Inside s u
+came-inside T s t v u sweeps settled w C h = let D = fits-done T (sym (C .verdict) ∙ h) in C .ends (D .0) (D .1) .inside
+
+pub ok-sizes : (s : Shape) → chainOk s ≡ done tt → SizesWithin s
+ok-sizes s e = shaped s (λ (k : ℕ). true) e .sizes
+
+-- ---- the end
+-- the call's end as `finish` answers it
+pub finished-as : (s : Shape) (w : Walked) (l v : List Float) (e : Ended) → e ≡ finished s w l v → Finished s w l v (e .result) (e .chain) (e .scratch)
+finished-as s w l v e p = go (w .verdict) refl p
+  where
+    go : (x : Verdict) → w .verdict ≡ x → e ≡ finishedBy x s w l v → Finished s w l v (e .result) (e .chain) (e .scratch)
+    go Fits h p = record { cleared = ap (λ (y : Ended). y .scratch) p; refused = λ q g. absurd (not-fits (w .verdict) q g h); made = λ g. (ap (λ (y : Ended). y .result) p, ap (λ (y : Ended). y .chain) p) }
+    go (Refused q) h p = record { cleared = ap (λ (y : Ended). y .scratch) p; refused = λ r g. let z : q ≡ r = cc in (ap (λ (y : Ended). y .result) p ∙ ap (λ (y : Refusal). record { verdict = Refused y; shape = s; sweeps = replicate mostAxes 0; settled = replicate mostAxes false }) z, ap (λ (y : Ended). y .chain) p); made = λ g. absurd (not-fits (w .verdict) q h g) }
+
+pub work-done : (m : ℕ) (set : Settings) (s : Shape) (xs : List Axis) (w : Walked) (l u x : List Float) (r : Rounded) (l' v' : List Float) → length u ≡ length x
+    → Came (stepsAndOne m set xs (coresOf s l)) s s (w .verdict) (w .shape) (w .sweeps) (w .settled) u → Finished s w l u r l' v' → Answers (endedBy s l x (stepsAndOne m set xs (coresOf s l))) r l' v'
+work-done m set s xs w l u x r l' v' n C F = finished-is s w l u x r l' v' F n (stepsAndOne m set xs (coresOf s l)) (late-steps set m xs (coresOf s l)) C
 
 -- ---- `step`
 module _ (set : Settings) (s : Shape) (count : ℕ) (xs : List Axis) (l x : List Float) (lone mild : Bool)

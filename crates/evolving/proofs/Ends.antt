@@ -1,12 +1,13 @@
--- The checks of a call: what they refuse, and what they let the work ask. Assumes nothing.
-use mathlib.Core.Path.{_≡_, refl, sym, ap, subst}
+-- A call by its parts: the checks, the chain taken into scratch, the steps, and the end. Assumes nothing.
+use mathlib.Core.Path.{_≡_, refl, sym, ap, _∙_, subst}
 use Prim.Native.Nat.{ℕ, _≤_, _<_}
 use native.Mathlib.Omega.{arith}
 use mathlib.Core.Bool.{Bool, true, false}
-use mathlib.Core.List.{List}
+use mathlib.Core.List.{List, map}
 use lib.Dec.{eqb}
 use lib.ListN.{length, replicate}
 use lib.Ieee.{Float}
+use Rattle.numbers.specs.Arithmetic.{zero64}
 use Rattle.answers.specs.declared.Refusal.{Refusal}
 use Rattle.answers.specs.declared.Refusal.the-variants.{Length, Number, Setting, Reach}
 use Rattle.answers.specs.declared.Verdict.{Verdict}
@@ -14,21 +15,55 @@ use Rattle.answers.specs.declared.Verdict.the-variants.{Fits, Refused}
 use Rattle.answers.specs.Outcome.{Answer, done, refused, Check, _then_, demand, demandEach, verdictOf}
 use Rattle.answers.specs.Table.{beforeWork}
 use Rattle.answers.proofs.Checks.{demand-is, then-is, each-is, verdict-passed, verdict-refused}
+use Rattle.lists.specs.Lists.{flat, pick}
+use Rattle.lists.specs.Slots.{fit}
 use Rattle.lists.specs.Floats.{zeros}
+use Rattle.lists.proofs.Tables.{tab-map}
 use Rattle.lists.proofs.Asked.{lengths-say}
-use Rattle.lists.proofs.Picks.{pick-true}
+use Rattle.lists.proofs.Picks.{pick-true, pick-false}
 use Rattle.shape.specs.declared.Shape.{Shape}
 use Rattle.shape.specs.Limits.{mostAxes, scratchFor}
 use Rattle.shape.specs.Shapes.{chainOk, entriesOf}
+use Rattle.shape.specs.Cores.{Core, standing, reshaped}
 use Rattle.axes.specs.declared.Axis.{Axis}
 use Rattle.rounding.specs.declared.Rounded.{Rounded}
-use Rattle.cutting.specs.Rounding.{Carry, Cut}
+use Rattle.walking.specs.declared.Walked.{Walked}
+use Rattle.cutting.specs.Rounding.{Carry, Cut, coresIn, countsIn}
 use Rattle.rounding.specs.Call.{lengthsOk, scratchAfter, endedBy}
 use Rattle.rounding.proofs.Early.{Early, early-demand, early-then, early-each, early-shape}
 use Rattle.rounding.proofs.Ends.{early-lengths}
 use Rattle.stepping.specs.declared.Settings.{Settings}
 use Rattle.stepping.specs.Over.{axisReaches, zonesFinite, settingsOk, overOk}
-use Rattle.ending.specs.Held.{Answers}
+use Rattle.striding.specs.Held.{Came, Late}
+use Rattle.evolving.specs.Held.{Finished, Answers}
+
+-- ---- the end
+-- the steps came to w and left u in scratch, which was x
+module _ (s : Shape) (w : Walked) (l u x : List Float) (r : Rounded) (l' v' : List Float) (F : Finished s w l u r l' v') (n : length u ≡ length x) where
+  cleared : v' ≡ zeros (length x)
+  cleared = F .cleared ∙ ap zeros n
+
+  pub finished-is : (T : Answer (List (Carry × Cut))) → Late T → Came T s s (w .verdict) (w .shape) (w .sweeps) (w .settled) u → Answers (endedBy s l x T) r l' v'
+  unfolding endedBy scratchAfter standing
+  finished-is (done tr) L C =
+      let E = C .ends tr refl in
+      let M = F .made (C .verdict) in
+      record {
+        result = M .0
+            ∙ ap (λ (y : Shape). record { verdict = Fits; shape = y; sweeps = w .sweeps; settled = w .settled }) (E .shape)
+            ∙ ap (λ (y : List ℕ). record { verdict = Fits; shape = reshaped 0 s (coresIn tr); sweeps = y; settled = w .settled }) (E .counts)
+            ∙ ap (λ (y : List Bool). record { verdict = Fits; shape = reshaped 0 s (coresIn tr); sweeps = fit 0 mostAxes (countsIn tr); settled = y }) (E .flags);
+        chain = M .1
+            ∙ ap (λ (y : List (List Float)). fit zero64 (length l) (flat y))
+            (sym (ap (map (λ (c : Core). c .entries)) (E .cores) ∙ tab-map (λ (c : Core). c .entries) (s .d) (standing s (w .shape) u)));
+        scratch = cleared;
+      }
+  finished-is (refused q) L C =
+      let M = F .refused q (C .verdict) in
+      record { result = M .0; chain = M .1; scratch = cleared ∙ unpicked (beforeWork q) (L q refl) }
+    where
+      unpicked : (b : Bool) → b ≡ false → zeros (length x) ≡ pick b x (zeros (length x))
+      unpicked b e = pick-false x (zeros (length x)) (zeros (length x)) b e refl
 
 -- ---- the checks refuse before any work
 module _ (lone mild : Bool) (t : Settings) (s : Shape) (count : ℕ) (xs : List Axis) (l : List Float) (scratch : ℕ) where

@@ -1,12 +1,18 @@
 // The calls `step` and `evolve`. Work is done in scratch, and the chain is written once, at the very end.
 ghost use mathlib.Core.Path.{_≡_};
-ghost use mathlib.Core.Bool.{_&&_};
-ghost use Prim.Native.Nat.{_≤_};
+ghost use mathlib.Core.Bool.{_&&_, true};
+ghost use Prim.Native.Nat.{ℕ, _-_, _≤_, _<_};
+ghost use lib.ListN.{length};
+ghost use Rattle.answers.specs.declared.Verdict.the-variants.{Refused};
+ghost use Rattle.answers.specs.Outcome.{done};
 ghost use Rattle.numbers.specs.Finite.{finite};
 ghost use Rattle.shape.specs.Limits.{within};
-ghost use Rattle.rounding.specs.Call.{notBelowZero};
+ghost use Rattle.shape.specs.Shapes.{chainOk, entriesOf};
+ghost use Rattle.shape.specs.Cores.{coresOf};
+ghost use Rattle.rounding.specs.Call.{notBelowZero, endedBy};
+ghost use Rattle.stepping.specs.Steps.{step, stepsAndOne};
 ghost use Rattle.stepping.specs.Call.{mostSteps, settingsFor, stepCall, evolveCall};
-ghost use Rattle.stepping.specs.Over.{stepOver, evolveOver};
+ghost use Rattle.stepping.specs.Over.{axisReaches, stepOver, evolveOver};
 ghost use Rattle.evolving.specs.Held.{Answers};
 
 // Steps one after another: how far, in how many, and the lone settings of each.
@@ -18,6 +24,23 @@ pub struct Course {
 }
 
 const MOST_STEPS: usize = 10000;
+
+// A step and m more, once the checks have passed.
+fn work(
+    m: usize,
+    s: shape::Shape,
+    set: stepping::Settings,
+    xs: [axes::Axis; shape::MOST_AXES],
+    chain: &mut [f64],
+    scratch: &mut [f64],
+) -> rounding::Rounded
+    requires { ⌜ (chainOk s ≡ done tt) × ((k : ℕ) → k < s .d → axisReaches set s xs k ≡ true) ⌝ }
+    requires { ⌜ (length (now chain) ≡ entriesOf s) × (entriesOf s ≤ length (now scratch)) ⌝ }
+    ensures { λ r. ⌜ Answers (endedBy s (now (chain .entry)) (now (scratch .entry)) (stepsAndOne m set xs (coresOf s (now (chain .entry))))) r (now (chain .exit)) (now (scratch .exit)) ⌝ }
+{
+    let w = striding::stepped(m, s, set, xs, chain, scratch);
+    rounding::finish(s, w, chain, scratch)
+}
 
 // What 6 and 7 ask of the lone settings of a step.
 fn step_finite(set: stepping::Settings) -> bool
@@ -54,7 +77,7 @@ pub fn step_over(
     if let answers::Verdict::Refused(q) = ok {
         return rounding::refused_rounding(q, s);
     }
-    ending::steps_ended(1, s, set, xs, chain, scratch)
+    work(0, s, set, xs, chain, scratch)
 }
 
 // The same of a course.
@@ -112,7 +135,7 @@ pub fn evolve_over(
     if let answers::Verdict::Refused(q) = ok {
         return rounding::refused_rounding(q, s);
     }
-    ending::steps_ended(p.steps, s, set, xs, chain, scratch)
+    work(p.steps - 1, s, set, xs, chain, scratch)
 }
 
 // One step of a chain, with one record an axis.

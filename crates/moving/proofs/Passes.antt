@@ -11,10 +11,10 @@ use lib.Ieee.{Float}
 use Rattle.answers.specs.declared.Refusal.{Refusal}
 use Rattle.answers.specs.declared.Verdict.{Verdict}
 use Rattle.answers.specs.declared.Verdict.the-variants.{Fits, Refused}
-use Rattle.answers.specs.Outcome.{Answer, done, bind, answered}
+use Rattle.answers.specs.Outcome.{Answer, bind, answered}
 use Rattle.answers.proofs.Outcomes.{answered-fits}
 use Rattle.lists.specs.Lists.{listed}
-use Rattle.lists.specs.Slots.{offset, slot}
+use Rattle.lists.specs.Slots.{offset}
 use Rattle.lists.specs.Walks.{every}
 use Rattle.lists.proofs.Slots.{offset-mono}
 use Rattle.shape.specs.declared.Shape.{Shape}

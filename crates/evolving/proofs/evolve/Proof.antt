@@ -48,7 +48,7 @@ use Rattle.evolving.specs.declared.Course.{Course}
 use Rattle.stepping.specs.Call.{evolveCall}
 use Rattle.stepping.specs.Over.{evolveOver}
 use Rattle.stepping.proofs.Gathers.{evolve-over}
-use Rattle.ending.specs.Held.{Answers}
+use Rattle.evolving.specs.Held.{Answers}
 use Rattle.axes.proofs.Axis as T
 use Rattle.axes.proofs.Axis.Laws as T′
 use Rattle.shape.proofs.Shape as S

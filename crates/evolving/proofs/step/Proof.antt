@@ -48,7 +48,7 @@ use Rattle.stepping.specs.declared.Settings.{Settings}
 use Rattle.stepping.specs.Call.{stepCall}
 use Rattle.stepping.specs.Over.{stepOver}
 use Rattle.stepping.proofs.Gathers.{step-over}
-use Rattle.ending.specs.Held.{Answers}
+use Rattle.evolving.specs.Held.{Answers}
 use Rattle.axes.proofs.Axis as T
 use Rattle.axes.proofs.Axis.Laws as T′
 use Rattle.shape.proofs.Shape as S

@@ -2,20 +2,17 @@
 use borrow.Author.Needs.{needs}
 use Rattle.evolving.proofs.Calls.{step-stops, step-goes}
 use Rattle.evolving.proofs.Ends.{over-passed}
-use native.Mathlib.Omega.{arith}
 use Rattle.evolving.proofs.step_over.Statement.{statement}
 use Rattle.evolving.proofs.step_over.Tie as tie
 
 returns : tie.Need-returns
 returns c = step-stops _ _ _ _ _ _ _ _ (c .before .before .before .before .before .before .before .step-finite .ensures) (c .before .before .before .before .before .before .step-mild .ensures) _ (c .before .before .before .before .step-ok .ensures) _ (c .before .before .ok .given .1) _ (c .refused-rounding .ensures)
 
-steps-ended-requires : tie.Need-steps-ended-requires
-steps-ended-requires c κs =
-    let P = over-passed _ _ _ _ _ _ _ _ _ (c .before .before .before .before .step-ok .ensures) (c .before .before .enum-told .given .1) in
-    (omega arith, ((P .shape, P .reach), (P .long, P .wide)))
+work-requires : tie.Need-work-requires
+work-requires c κs = (((over-passed _ _ _ _ _ _ _ _ _ (c .before .before .before .before .step-ok .ensures) (c .before .before .enum-told .given .1)) .shape, (over-passed _ _ _ _ _ _ _ _ _ (c .before .before .before .before .step-ok .ensures) (c .before .before .enum-told .given .1)) .reach), ((over-passed _ _ _ _ _ _ _ _ _ (c .before .before .before .before .step-ok .ensures) (c .before .before .enum-told .given .1)) .long, (over-passed _ _ _ _ _ _ _ _ _ (c .before .before .before .before .step-ok .ensures) (c .before .before .enum-told .given .1)) .wide))
 
 returns-2 : tie.Need-returns-2
-returns-2 c = step-goes _ _ _ _ _ _ _ _ (c .before .before .before .before .before .before .before .before .before .before .before .before .step-finite .ensures) (c .before .before .before .before .before .before .before .before .before .before .before .step-mild .ensures) _ (c .before .before .before .before .before .before .before .before .before .step-ok .ensures) (c .before .before .before .before .before .before .before .enum-told .given .1) _ _ _ (c .before .before .before .before .steps-ended .ensures)
+returns-2 c = step-goes _ _ _ _ _ _ _ _ (c .before .before .before .before .before .before .before .before .before .before .before .before .step-finite .ensures) (c .before .before .before .before .before .before .before .before .before .before .before .step-mild .ensures) _ (c .before .before .before .before .before .before .before .before .before .step-ok .ensures) (c .before .before .before .before .before .before .before .enum-told .given .1) _ _ _ (c .before .before .before .before .work .ensures)
 
 pub step-over-spec : {M : Type 1} → statement M
 step-over-spec = tie.close (tie.spec
@@ -27,7 +24,7 @@ step-over-spec = tie.close (tie.spec
     (λ c. search needs)
     returns
     (λ c. search needs)
-    steps-ended-requires
+    work-requires
     (λ c. search needs)
     (λ c. search needs)
     returns-2)

@@ -1,4 +1,4 @@
--- `rounding::pack` meets its contract. Assumes nothing.
+-- `packing::pack` meets its contract. Assumes nothing.
 use Prim.Native.Nat.{_-_, _*_, _^_, _<_}
 use native.Mathlib.Omega.{arith}
 use mathlib.Core.Path.{ap, _∙_}
@@ -10,9 +10,9 @@ use Rattle.shape.specs.Shapes.{coreSize}
 use Rattle.shape.proofs.Offsets.{offsets}
 use Rattle.shape.proofs.Slotwise.{slotwise}
 use Rattle.lists.proofs.Packs.{Packing, packing-none, packing-long, packed-most, from-end, at-end, packing-more, packing-done}
-use Rattle.rounding.proofs.Chains.{room-of}
-use Rattle.rounding.proofs.pack.Statement.{statement}
-use Rattle.rounding.proofs.pack.Tie as tie
+use Rattle.packing.proofs.Rooms.{room-of}
+use Rattle.packing.proofs.pack.Statement.{statement}
+use Rattle.packing.proofs.pack.Tie as tie
 
 abbrev Inv-loop : tie.InvT-loop
 Inv-loop s t work chain₀ from₀ at₀ k₀ chain from at k = Packing (coreSize s) (coreSize t) (s .d) work chain₀ k from at chain
