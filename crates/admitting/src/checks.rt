@@ -1,10 +1,10 @@
-// All that a fresh run and each replacement ask, in their order.
+// All that a fresh run, a new core and new weights ask, in their order.
 ghost use mathlib.Core.Path.{_≡_};
 ghost use Rattle.answers.specs.Outcome.{verdictOf};
 ghost use Rattle.kept.specs.Kept.{keptOf};
 ghost use Rattle.kept.specs.Checks.{freshOk};
 ghost use Rattle.stepping.specs.Zones.{rules};
-ghost use Rattle.kept.specs.Requests.{newCore, newAxis, newWeights, replaceOk};
+ghost use Rattle.kept.specs.Requests.{newCore, newWeights, replaceOk};
 ghost use Rattle.admitting.specs.Asking.{scratchOf, roomOf};
 
 // All that a fresh run asks.
@@ -36,7 +36,7 @@ pub fn fresh_ok(
     if let answers::Verdict::Refused(q) = lent {
         return answers::Verdict::Refused(q);
     }
-    if scratch != 4 * s.entries() + rounding::checks::SCRATCH_BESIDE {
+    if scratch != 4 * s.entries() + measuring::SCRATCH_BESIDE {
         return answers::Verdict::Refused(answers::Refusal::Length(5));
     }
     let numbers = super::numeric::numbers_made(s, xs, set, source, weights);
@@ -76,7 +76,7 @@ pub fn weights_ok(
     if part.len() != s.n[z] {
         return answers::Verdict::Refused(answers::Refusal::Length(5));
     }
-    if scratch != 4 * s.entries() + rounding::checks::SCRATCH_BESIDE {
+    if scratch != 4 * s.entries() + measuring::SCRATCH_BESIDE {
         return answers::Verdict::Refused(answers::Refusal::Length(6));
     }
     let finite = lists::all_finite(part);
@@ -113,7 +113,7 @@ pub fn core_ok(
     if part.len() != s.core_size(z) {
         return answers::Verdict::Refused(answers::Refusal::Length(5));
     }
-    if scratch != 4 * s.entries() + rounding::checks::SCRATCH_BESIDE {
+    if scratch != 4 * s.entries() + measuring::SCRATCH_BESIDE {
         return answers::Verdict::Refused(answers::Refusal::Length(6));
     }
     let finite = lists::all_finite(part);
@@ -133,57 +133,5 @@ pub fn core_ok(
     }
     let set = r.set;
     let xs = r.axes;
-    asking::rooms::reaches_ok(z, set, s, xs)
-}
-
-// All that a new axis record asks.
-pub fn axis_ok(
-    r: kept::Run,
-    z: usize,
-    a: axes::Axis,
-    source: &[f64],
-    weights: &[f64],
-    chain: &[f64],
-    carries: &[f64],
-    sums: &[f64],
-    scratch: usize,
-) -> answers::Verdict
-    ensures { λ v. ⌜ v ≡ verdictOf (replaceOk rules (scratchOf (r .shape) 5 scratch) (keptOf r (now (source .entry)) (now (weights .entry)) (now (chain .entry)) (now (carries .entry)) (now (sums .entry))) (newAxis z a)) ⌝ }
-{
-    let s = r.shape;
-    let ranks = r.ranks;
-    let l = asking::found::Lengths {
-        source: source.len(),
-        weights: weights.len(),
-        chain: chain.len(),
-        carries: carries.len(),
-        sums: sums.len(),
-    };
-    let found = asking::found::found_ok(s, ranks, z, l);
-    if let answers::Verdict::Refused(q) = found {
-        return answers::Verdict::Refused(q);
-    }
-    if scratch != 4 * s.entries() + rounding::checks::SCRATCH_BESIDE {
-        return answers::Verdict::Refused(answers::Refusal::Length(5));
-    }
-    let finite = axes::axis_finite(a);
-    let mild = axes::axis_ok(a);
-    let numbers = super::numeric::numbers_found(
-        r,
-        z,
-        finite,
-        mild,
-        source,
-        weights,
-        chain,
-        carries,
-        sums,
-    );
-    if let answers::Verdict::Refused(q) = numbers {
-        return answers::Verdict::Refused(q);
-    }
-    let set = r.set;
-    let mut xs = r.axes;
-    xs[z] = a;
     asking::rooms::reaches_ok(z, set, s, xs)
 }

@@ -3,7 +3,7 @@ ghost use mathlib.Core.Path.{_≡_};
 ghost use Rattle.answers.specs.declared.Verdict.the-variants.{Refused};
 
 pub mod checks;
-mod numeric;
+pub mod numeric;
 
 // A refusal leaves the run as it was.
 pub fn refused(q: answers::Refusal, r: kept::Run) -> kept::Ran

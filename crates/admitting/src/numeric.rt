@@ -26,8 +26,8 @@ fn lone_finite(set: stepping::Settings) -> bool
 fn lone_ok(set: stepping::Settings) -> bool
     ensures { λ r. ⌜ r ≡ loneOk set ⌝ }
 {
-    let tau = rounding::checks::not_below_zero(set.tau);
-    let eps = rounding::checks::not_below_zero(set.eps);
+    let tau = measuring::not_below_zero(set.tau);
+    let eps = measuring::not_below_zero(set.eps);
     tau & eps
 }
 

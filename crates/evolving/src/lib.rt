@@ -55,8 +55,8 @@ fn step_finite(set: stepping::Settings) -> bool
 fn step_mild(set: stepping::Settings) -> bool
     ensures { λ r. ⌜ r ≡ notBelowZero (set .tau) && notBelowZero (set .eps) ⌝ }
 {
-    let tau = rounding::checks::not_below_zero(set.tau);
-    let eps = rounding::checks::not_below_zero(set.eps);
+    let tau = measuring::not_below_zero(set.tau);
+    let eps = measuring::not_below_zero(set.eps);
     tau & eps
 }
 
@@ -93,9 +93,9 @@ fn course_finite(p: Course) -> bool
 fn course_mild(p: Course) -> bool
     ensures { λ r. ⌜ r ≡ notBelowZero (p .«t_final») && (within mostSteps (p .steps) && notBelowZero (p .eps)) ⌝ }
 {
-    let t_final = rounding::checks::not_below_zero(p.t_final);
+    let t_final = measuring::not_below_zero(p.t_final);
     let steps = shape::within(MOST_STEPS, p.steps);
-    let eps = rounding::checks::not_below_zero(p.eps);
+    let eps = measuring::not_below_zero(p.eps);
     t_final & (steps & eps)
 }
 

@@ -100,7 +100,7 @@ fn finite(eps: f64, left: &[f64], right: &[f64]) -> answers::Verdict
     if !lists::all_finite(right) {
         return answers::Verdict::Refused(answers::Refusal::Number(1));
     }
-    if !rounding::checks::not_below_zero(eps) {
+    if !measuring::not_below_zero(eps) {
         return answers::Verdict::Refused(answers::Refusal::Setting(0));
     }
     answers::Verdict::Fits

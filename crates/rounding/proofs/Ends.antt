@@ -25,7 +25,7 @@ use Rattle.lists.specs.Slots.{offset, slot, fit, laid, write}
 use Rattle.lists.specs.Walks.{walk}
 use Rattle.lists.specs.Floats.{zeros, stored}
 use Rattle.lists.proofs.Tables.{listed-same, listed-length, getD-tab}
-use Rattle.lists.proofs.Slots.{slot-before, slot-length, offset-suc, offset-mono, laid-length, fit-whole, fit-used}
+use Rattle.lists.proofs.Slots.{slot-before, slot-length, offset-mono, laid-length, fit-whole, fit-used}
 use Rattle.lists.proofs.Written.{written-slot}
 use Rattle.lists.proofs.Asked.{lengths-say}
 use Rattle.lists.proofs.Walks.{All, all-at, listed-all, walk-all, walk-length}
@@ -37,7 +37,6 @@ use Rattle.shape.specs.Cores.{Core, coreWith, coreAt, coresOf, packed, standing
 use Rattle.shape.proofs.Ranks.{reshaped-count}
 use Rattle.shape.proofs.Insides.{inside-itself, inside-size}
 use Rattle.shape.proofs.Shaped.{Shaped}
-use Rattle.shape.proofs.Offsets.{offset-none}
 use Rattle.shape.proofs.Packing.{Fitting, cut-pack}
 use Rattle.rotation.specs.Rotation.{eye}
 use Rattle.cutform.specs.Sweeps.{eig, diagonalized}
@@ -51,6 +50,7 @@ use Rattle.walking.specs.Keeping.{bondSize, Stepped, keepStep, carryLeft, round
 use Rattle.rounding.specs.Call.{Ended, scratchAfter, endedBy, lengthsOk, roundFinite, roundOk, roundCall}
 use Rattle.walking.specs.Slots.{AtZone, heldBy}
 use Rattle.rounding.specs.Slots.{unrounded, finished}
+use Rattle.packing.specs.Left.{leftBy}
 use Rattle.walking.proofs.Bonds.{carries-most}
 use Rattle.walking.proofs.From.{bonds-most, at-start}
 use Rattle.rounding.proofs.Chains.{packed-is}
@@ -298,21 +298,15 @@ module _ (eps : Float) (s : Shape) (l w start : List Float) (long : length l ≡
 pub loaded : (l scratch x : List Float) → x ≡ l → take (length l) (x ++ drop (length l - 0) scratch) ≡ l
 loaded l scratch x e = ap (λ (y : List Float). take (length l) (y ++ drop (length l - 0) scratch)) e ∙ take-at l (drop (length l - 0) scratch) (length l) refl
 
-module _ (s : Shape) (w : Walked) (chain scratch : List Float) (r : Rounded) (z : List Float) (f : z ≡ zeros (length scratch)) where
+-- the call's end: c and z are what `leave` left
+module _ (s : Shape) (w : Walked) (chain scratch : List Float) (c z : List Float) (g : c ≡ leftBy (w .verdict) s (w .shape) chain scratch) (f : z ≡ zeros (length scratch)) (r : Rounded) where
   pub finish-stops : (q : Refusal) → w .verdict ≡ Refused q → r ≡ record { verdict = Refused q; shape = s; sweeps = replicate mostAxes 0; settled = replicate mostAxes false }
-      → _≡_ {A = Ended} (record { result = r; chain = chain; scratch = z }) (finished s w chain scratch)
-  finish-stops q v e = rw (v, e, f)
-
-  pub finish-goes : w .verdict ≡ Fits → r ≡ record { verdict = Fits; shape = w .shape; sweeps = w .sweeps; settled = w .settled } → (c : List Float) → c ≡ fit zero64 (length chain) (joined (s .d) (λ (k : ℕ). take (coreSize (w .shape) k) (slot (coreSize s) k scratch)))
       → _≡_ {A = Ended} (record { result = r; chain = c; scratch = z }) (finished s w chain scratch)
-  finish-goes v e c g = rw (v, e, f, g)
+  finish-stops q v e = let h : c ≡ chain = g ∙ ap (λ (y : Verdict). leftBy y s (w .shape) chain scratch) v in rw (v, e, f, h)
 
-pub inside-entries : (s t : Shape) → Inside s t → entriesOf t ≤ entriesOf s
-inside-entries s t I = subst (λ (n : ℕ). offset (coreSize t) n ≤ entriesOf s) (sym (I .axes)) (go (s .d) (le-refl (s .d)))
-  where
-    go : (k : ℕ) → k ≤ s .d → offset (coreSize t) k ≤ offset (coreSize s) k
-    go zero l = omega (arith, offset-none (coreSize t), offset-none (coreSize s))
-    go (suc k) l = omega (arith, go k (omega arith), inside-size s t I k l, offset-suc (coreSize t) k, offset-suc (coreSize s) k)
+  pub finish-goes : w .verdict ≡ Fits → r ≡ record { verdict = Fits; shape = w .shape; sweeps = w .sweeps; settled = w .settled }
+      → _≡_ {A = Ended} (record { result = r; chain = c; scratch = z }) (finished s w chain scratch)
+  finish-goes v e = let h : c ≡ leftBy Fits s (w .shape) chain scratch = g ∙ ap (λ (y : Verdict). leftBy y s (w .shape) chain scratch) v in rw (v, e, f, h)
 
 -- before any turn, whatever carries stand in their room
 pub start-at : (s : Shape) (u : Walked) (work carries : List Float) → Shaped s → u ≡ unrounded s → length (s .left) ≡ mostAxes → length (s .right) ≡ mostAxes → entriesOf s ≤ length work → mostAxes * (mostRank * mostRank) ≤ length carries

@@ -1,5 +1,4 @@
 -- the checks, and the chain packed
-pub mod Verdicts
 pub mod Early
 pub mod Chains
 -- the call

@@ -1,5 +1,5 @@
 -- A whole chain before its rounding, and the end of the call. Definitions for code only.
-use Prim.Native.Nat.{ℕ, _-_}
+use Prim.Native.Nat.{ℕ}
 use mathlib.Core.Bool.{false}
 use mathlib.Core.List.{List}
 use lib.ListN.{length, take, replicate}

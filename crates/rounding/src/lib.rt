@@ -1,22 +1,17 @@
 // Rounding a chain: what the call answers.
 ghost use mathlib.Core.Path.{_≡_};
-ghost use Prim.Native.Nat.{ℕ, _≤_, _<_};
+ghost use Prim.Native.Nat.{_≤_};
 ghost use mathlib.Core.Bool.{false};
 ghost use lib.ListN.{length, replicate, take};
 ghost use Rattle.answers.specs.declared.Verdict.the-variants.{Fits, Refused};
 ghost use Rattle.answers.specs.Outcome.{done};
-ghost use Rattle.numbers.specs.Arithmetic.{zero64};
-ghost use Rattle.lists.specs.Lists.{joined};
-ghost use Rattle.lists.specs.Slots.{slot, fit};
 ghost use Rattle.shape.specs.Limits.{mostAxes};
-ghost use Rattle.shape.specs.Shapes.{chainOk, coreSize, entriesOf};
+ghost use Rattle.shape.specs.Shapes.{chainOk, entriesOf};
 ghost use Rattle.shape.specs.Sizes.{SizesWithin, Inside};
 ghost use Rattle.shape.specs.Cores.{coresOf};
 ghost use Rattle.cutform.specs.Rounding.{rounding};
 ghost use Rattle.rounding.specs.Call.{endedBy, roundCall};
 ghost use Rattle.rounding.specs.Slots.{unrounded, finished};
-
-pub mod checks;
 
 // The chain's shape at the end; for each bond the sweeps made, and whether the sum is below 1e-30 at the end.
 pub struct Rounded {
@@ -36,28 +31,6 @@ pub fn refused_rounding(r: answers::Refusal, s: shape::Shape) -> Rounded
         sweeps: [0; shape::MOST_AXES],
         settled: [false; shape::MOST_AXES],
     }
-}
-
-// The cores' numbers, which stand in `work` where the cores of shape s begin, one after another at the chain's front,
-// the rest +0. The shape t says how many numbers a core has now.
-pub fn pack(s: shape::Shape, t: shape::Shape, work: &[f64], chain: &mut [f64])
-    requires { ⌜ (SizesWithin s) × (SizesWithin t) × (t .d ≡ s .d) ⌝ }
-    requires { ⌜ ((k : ℕ) → k < s .d → coreSize t k ≤ coreSize s k) ⌝ }
-    requires { ⌜ (entriesOf s ≤ length (now work)) × (entriesOf t ≤ length (now chain)) ⌝ }
-    ensures { λ _. ⌜ now (chain .exit) ≡ fit zero64 (length (now (chain .entry))) (joined (s .d) (λ (k : ℕ). take (coreSize t k) (slot (coreSize s) k (now (work .entry))))) ⌝ }
-{
-    let mut from = 0;
-    let mut at = 0;
-    let mut k = 0;
-    while k < s.d {
-        let size = t.core_size(k);
-        let end = at + size;
-        lists::copy(&work[from..from + size], &mut chain[at..end]);
-        from += s.core_size(k);
-        at = end;
-        k += 1;
-    }
-    lists::fill(&mut chain[at..], 0.0);
 }
 
 // A chain before any of its bonds is cut.
@@ -99,13 +72,11 @@ pub fn finish(
     ensures { λ r. ⌜ record { result = r; chain = now (chain .exit); scratch = now (scratch .exit) } ≡ finished s w (now (chain .entry)) (now (scratch .entry)) ⌝ }
 {
     let verdict = w.verdict;
+    let t = w.shape;
+    packing::leave(verdict, s, t, chain, scratch);
     if let answers::Verdict::Refused(q) = verdict {
-        lists::fill(scratch, 0.0);
         return refused_rounding(q, s);
     }
-    let t = w.shape;
-    pack(s, t, scratch, chain);
-    lists::fill(scratch, 0.0);
     rounded_of(w)
 }
 
@@ -140,7 +111,7 @@ fn round_all(s: shape::Shape, eps: f64, chain: &mut [f64], scratch: &mut [f64]) 
 pub fn tt_round(s: shape::Shape, eps: f64, chain: &mut [f64], scratch: &mut [f64]) -> Rounded
     ensures { λ r. ⌜ record { result = r; chain = now (chain .exit); scratch = now (scratch .exit) } ≡ roundCall s eps (now (chain .entry)) (now (scratch .entry)) ⌝ }
 {
-    let ok = checks::round_ok(s, eps, chain, scratch.len());
+    let ok = measuring::round_ok(s, eps, chain, scratch.len());
     if let answers::Verdict::Refused(r) = ok {
         return refused_rounding(r, s);
     }

@@ -121,7 +121,7 @@ pub fn replace_axis(
 ) -> kept::Ran
     ensures { λ a. ⌜ record { result = a; source = now (source .entry); weights = now (weights .entry); chain = now (chain .exit); carries = now (carries .exit); sums = now (sums .exit); scratch = now (scratch .exit) } ≡ replaceAxisCall r z x (now (source .entry)) (now (weights .entry)) (now (chain .entry)) (now (carries .entry)) (now (sums .entry)) (now (scratch .entry)) ⌝ }
 {
-    let ok = admitting::checks::axis_ok(
+    let ok = new_axis::axis_ok(
         r,
         z,
         x,

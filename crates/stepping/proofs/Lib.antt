@@ -2,7 +2,6 @@ pub mod Restart
 pub mod Rounds
 pub mod Verdicts
 pub mod Fronts
-pub mod Everys
 pub mod Standings
-pub mod Passes
+pub mod Scalings
 pub mod Gathers

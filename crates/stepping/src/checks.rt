@@ -136,7 +136,7 @@ pub fn step_ok(
     if count != s.d {
         return answers::Verdict::Refused(answers::Refusal::Length(0));
     }
-    let lent = rounding::checks::lengths_ok(s, 1, chain.len(), 2, scratch);
+    let lent = measuring::lengths_ok(s, 1, chain.len(), 2, scratch);
     if let answers::Verdict::Refused(r) = lent {
         return answers::Verdict::Refused(r);
     }

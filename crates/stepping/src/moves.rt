@@ -2,10 +2,9 @@
 ghost use mathlib.Core.Path.{_≡_};
 ghost use mathlib.Core.Bool.{true};
 ghost use mathlib.Core.List.{_++_};
-ghost use Prim.Native.Nat.{ℕ, _+_, _-_, _≤_, _<_};
+ghost use Prim.Native.Nat.{_+_, _≤_, _<_};
 ghost use lib.ListN.{length, take, drop};
-ghost use Rattle.answers.specs.Outcome.{bind, answered};
-ghost use Rattle.lists.specs.Lists.{listed};
+ghost use Rattle.answers.specs.Outcome.{answered};
 ghost use Rattle.lists.specs.Walks.{every};
 ghost use Rattle.shape.specs.Shapes.{pointsOf};
 ghost use Rattle.shape.specs.Cores.{coreWith, standing};
@@ -13,7 +12,7 @@ ghost use Rattle.shift.specs.Shifts.{shiftOf, reaches, moveCore, scaled};
 ghost use Rattle.shift.specs.Doubled.{Lent};
 ghost use Rattle.stepping.specs.Zones.{zone, rules};
 ghost use Rattle.stepping.specs.Steps.{shiftZone, scaleZone};
-ghost use Rattle.stepping.specs.Over.{axisReaches, Onward, Elsewhere, zoneIn, standFrom, Stands, Rooms};
+ghost use Rattle.stepping.specs.Over.{Onward, Elsewhere, standFrom, Stands, Rooms};
 
 // The numbers from `at` on go to the front of room.
 fn hold(work: &[f64], at: usize, size: usize, room: &mut [f64])
@@ -47,7 +46,7 @@ fn move_back(
 }
 
 // Core k along its axis; `room` holds it as it was.
-fn shift_zone(
+pub fn shift_zone(
     k: usize,
     s: shape::Shape,
     t: shape::Shape,
@@ -81,33 +80,6 @@ fn shift_zone(
     )
 }
 
-// All shifts from zone z on.
-pub fn shift_from(
-    z: usize,
-    s: shape::Shape,
-    t: shape::Shape,
-    set: super::Settings,
-    xs: [axes::Axis; shape::MOST_AXES],
-    work: &mut [f64],
-    room: &mut [f64],
-    block: &mut [f64],
-) -> answers::Verdict
-    requires { ⌜ (Stands s t (now work)) × (Rooms (now room) (now block)) ⌝ }
-    requires { ⌜ (z ≤ s .d) × ((k : ℕ) → z ≤ k → k < s .d → axisReaches set s xs k ≡ true) ⌝ }
-    ensures { λ r. ⌜ every (shiftZone rules set) z (listed (s .d - z) z (zoneIn s t xs (now (work .entry)))) ≡ answered r (standFrom s t z (now (work .exit))) ⌝ }
-    ensures { λ _. ⌜ Onward s z (now (work .entry)) (now (work .exit)) ⌝ }
-{
-    let mut k = z;
-    while k < s.d {
-        let moved = shift_zone(k, s, t, set, axes::axis_in(xs, k), work, room, block);
-        if let answers::Verdict::Refused(r) = moved {
-            return answers::Verdict::Refused(r);
-        }
-        k += 1;
-    }
-    answers::Verdict::Fits
-}
-
 // The numbers from `at` on, scaled in place.
 fn scale_part(at: usize, size: usize, set: super::Settings, work: &mut [f64]) -> answers::Verdict
     requires { ⌜ at + size ≤ length (now work) ⌝ }
@@ -136,27 +108,4 @@ pub fn scale_from(
     let size = t.core_size(0);
     let at = s.offset(0);
     scale_part(at, size, set, work)
-}
-
-// The shifts from zone z on, then the scaling.
-pub fn move_from(
-    z: usize,
-    s: shape::Shape,
-    t: shape::Shape,
-    set: super::Settings,
-    xs: [axes::Axis; shape::MOST_AXES],
-    work: &mut [f64],
-    room: &mut [f64],
-    block: &mut [f64],
-) -> answers::Verdict
-    requires { ⌜ (Stands s t (now work)) × (Rooms (now room) (now block)) ⌝ }
-    requires { ⌜ (z ≤ s .d) × ((k : ℕ) → z ≤ k → k < s .d → axisReaches set s xs k ≡ true) ⌝ }
-    ensures { λ r. ⌜ bind (every (shiftZone rules set) z (listed (s .d - z) z (zoneIn s t xs (now (work .entry))))) (λ a. every (scaleZone rules set) z a) ≡ answered r (standFrom s t z (now (work .exit))) ⌝ }
-    ensures { λ _. ⌜ Onward s z (now (work .entry)) (now (work .exit)) ⌝ }
-{
-    let moved = shift_from(z, s, t, set, xs, work, room, block);
-    if let answers::Verdict::Refused(r) = moved {
-        return answers::Verdict::Refused(r);
-    }
-    scale_from(z, s, t, set, work)
 }

@@ -48,7 +48,7 @@ pub fn step_from(
     ensures { λ r. ⌜ (stepHeld set s z xs (w .shape) (heldBy w (now (work .entry)) (now (carries .entry))) ≡ answered (r .verdict) (r .shape, heldBy r (now (work .exit)) (now (carries .exit)))) × (z ≡ 0 → r .verdict ≡ Fits → Inside s (r .shape)) ⌝ }
 {
     let t = w.shape;
-    let moved = stepping::moves::move_from(z, s, t, set, xs, work, room, block);
+    let moved = moving::move_from(z, s, t, set, xs, work, room, block);
     if let answers::Verdict::Refused(q) = moved {
         return refused_walk(q, t);
     }

@@ -1,7 +1,7 @@
 -- `stepping::checks::step_ok` meets its contract. Assumes nothing.
 use borrow.Author.Needs.{needs}
 use Rattle.shape.proofs.Shaped.{fits-sizes, fits-points}
-use Rattle.rounding.proofs.Verdicts.{chain-long}
+use Rattle.measuring.proofs.Verdicts.{chain-long}
 use Rattle.stepping.proofs.Verdicts.{guards}
 use Rattle.stepping.specs.Over.{overOk}
 use Rattle.stepping.proofs.checks.step_ok.Statement.{statement}

@@ -1,7 +1,7 @@
 -- `stepping::moves::scale_from` meets its contract. Assumes nothing.
 use borrow.Author.Needs.{needs}
 use Rattle.stepping.proofs.Standings.{stand-end, stand-others, stand-scaled}
-use Rattle.stepping.proofs.Passes.{onward-none, none-scaled, first-scaled}
+use Rattle.stepping.proofs.Scalings.{onward-none, none-scaled, first-scaled}
 use Rattle.stepping.proofs.moves.scale_from.Statement.{statement}
 use Rattle.stepping.proofs.moves.scale_from.Tie as tie
 
