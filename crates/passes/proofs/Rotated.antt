@@ -18,9 +18,11 @@ use Rattle.lists.proofs.Pairs.{along-pairs}
 use Rattle.lists.proofs.Stages.{stored-staged, staged-on, staged-stop, staged-last, turning-start}
 use Rattle.rotation.specs.Rotation.{tangentOf, slopeOf, cosineOf}
 use Rattle.rotation.specs.Rotation.{eye}
-use Rattle.passes.specs.Passes.{Svd, svd, turnStored, turned, dot, skipped, Pass, passed, rotate, pass, Passes, made, passesFrom, mostPasses, orthogonalized}
-use Rattle.passes.specs.Loops.{passRow, squares, Held}
-use Rattle.passes.proofs.TwoColumns.{squares-length, squares-at}
+use Rattle.columns.specs.Columns.{turnStored, dot, skipped}
+use Rattle.passes.specs.Passes.{Svd, svd, turned, Pass, passed, rotate, pass, Passes, made, passesFrom, mostPasses, orthogonalized}
+use Rattle.columns.specs.Loops.{squares}
+use Rattle.passes.specs.Loops.{passRow, Held}
+use Rattle.columns.proofs.TwoColumns.{squares-length, squares-at}
 use Rattle.passes.proofs.Wholes as wholes
 
 -- ---- one rotation

@@ -2,10 +2,9 @@
 ghost use mathlib.Core.Path.{_≡_};
 ghost use Prim.Native.Nat.{_<_};
 ghost use Rattle.answers.specs.Outcome.{staged};
+ghost use Rattle.columns.specs.Loops.{squares};
 ghost use Rattle.passes.specs.Passes.{svd, turned, passed, rotate, pass, made, orthogonalized};
-ghost use Rattle.passes.specs.Loops.{passRow, squares, Held};
-
-pub mod columns;
+ghost use Rattle.passes.specs.Loops.{passRow, Held};
 
 // What a turn came to: whether all numbers stayed finite, and whether no pair has been turned yet.
 struct Turn {

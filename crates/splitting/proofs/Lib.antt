@@ -1,6 +1,6 @@
--- the slab, the split
-pub mod Slabs
+-- the split
 pub mod Splits
--- for the code: stages
+-- for the code: stages, and the pair by them
 pub mod Kept
 pub mod Formed
+pub mod Pairs

@@ -1,4 +1,3 @@
-pub mod Slabs
 pub mod Splits
 pub mod Claims
 pub mod Loops

@@ -2,7 +2,7 @@
 use borrow.Author.Needs.{needs}
 use Prim.Native.Nat.{_-_}
 use native.Mathlib.Omega.{arith}
-use Rattle.passes.proofs.TwoColumns.{squares-length, turned-length, turned-elsewhere, turned-squares}
+use Rattle.columns.proofs.TwoColumns.{squares-length, turned-length, turned-elsewhere, turned-squares}
 use Rattle.passes.proofs.Rotated.{turned-stop, turned-end}
 use Rattle.passes.proofs.apply_jacobi_rotation.Statement.{statement}
 use Rattle.passes.proofs.apply_jacobi_rotation.Tie as tie

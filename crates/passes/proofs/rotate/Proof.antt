@@ -1,8 +1,7 @@
 -- `passes::rotate` meets its contract. Assumes nothing.
 use borrow.Author.Needs.{needs}
 use Prim.Native.Nat.{_-_}
-use Rattle.passes.specs.Passes.{dot, skipped}
-use Rattle.passes.proofs.TwoColumns.{turn-is}
+use Rattle.columns.specs.Columns.{dot, skipped}
 use Rattle.passes.proofs.Rotated.{rotate-skip, rotate-go}
 use Rattle.passes.proofs.rotate.Statement.{statement}
 use Rattle.passes.proofs.rotate.Tie as tie
