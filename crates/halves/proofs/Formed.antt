@@ -1,10 +1,9 @@
 -- Both cores' numbers stage by stage, in the form that proofs of code cite. Assumes nothing.
-use mathlib.Core.Path.{_≡_, refl, sym, ap, _∙_}
+use mathlib.Core.Path.{_≡_, sym, ap, _∙_}
 use Prim.Native.Nat.{ℕ, _-_, _*_}
 use mathlib.Core.List.{List, _++_}
-use lib.ListN.{getD, take}
+use lib.ListN.{take}
 use lib.Ieee.{Float}
-use Rattle.numbers.specs.Arithmetic.{times}
 use Rattle.answers.specs.declared.Part.the-variants.{Factor}
 use Rattle.answers.specs.declared.Refusal.the-variants.{Stored}
 use Rattle.answers.specs.declared.Verdict.the-variants.{Fits, Refused}
@@ -12,22 +11,11 @@ use Rattle.answers.specs.declared.Stage.{Stage}
 use Rattle.answers.specs.declared.Stage.the-variants.{Whole, Spilt}
 use Rattle.answers.specs.Outcome.{Made, done, bind, making, staged, stageOf, answered}
 use Rattle.lists.specs.Lists.{grid}
-use Rattle.lists.specs.Floats.{at, cell, stored}
+use Rattle.lists.specs.Floats.{stored}
 use Rattle.lists.proofs.Parts.{part-again, span-again}
 use Rattle.lists.proofs.Stages.{stored-staged}
 use Rattle.lists.proofs.Tables.{length-grid}
-use Rattle.shape.proofs.Places.{block-rows, block-lines}
-use Rattle.halves.specs.Numbers.{inverse, leftNumbers, rightNumbers}
-use Rattle.halves.specs.Loops.{leftRows, rightRows, Both, formedFrom}
-
--- ---- row by row
-pub left-rows : (rl nj r : ℕ) (ss : List Float) (js : List ℕ) (a : List Float) → leftNumbers rl nj r ss js a ≡ leftRows (rl * nj) r ss js a
-unfolding leftNumbers leftRows
-left-rows rl nj r ss js a = block-rows rl nj r _ (λ (row k : ℕ). times (times (cell (rl * nj) a (getD js k 0) row) (inverse (at ss k))) (at ss k)) (λ il im ir i j k. refl)
-
-pub right-rows : (r nk rr : ℕ) (js : List ℕ) (v : List Float) → rightNumbers r nk rr js v ≡ rightRows (nk * rr) r js v
-unfolding rightNumbers rightRows
-right-rows r nk rr js v = block-lines r nk rr _ (λ (k i : ℕ). cell (nk * rr) v (getD js k 0) i) (λ il im ir i j k. refl)
+use Rattle.splitting.specs.Rows.{leftRows, rightRows, Both, formedFrom}
 
 -- rows at the front of a list that was looked over as far as they go
 pub front-stored : (m w : ℕ) (f : ℕ → ℕ → Float) (u d : List Float) → u ≡ grid m w f ++ d → (s : Stage) → s ≡ stageOf (stored (take (m * w - 0) u)) → stored (grid m w f) ≡ staged s (take (m * w) u)

@@ -7,25 +7,8 @@ ghost use Rattle.answers.specs.Outcome.{staged, answered};
 ghost use Rattle.lists.specs.Floats.{at, cell, stored};
 ghost use Rattle.lists.specs.Strips.{storedFrom};
 ghost use Rattle.factors.specs.Rows.{Columns};
-ghost use Rattle.halves.specs.Numbers.{inverse};
-ghost use Rattle.halves.specs.Loops.{leftRows, rightRows, formedFrom};
-
-// 1/value, or 0 where the value isn't above zero.
-fn inverse(value: f64) -> f64
-    ensures { λ r. ⌜ r ≡ inverse value ⌝ }
-{
-    if 0.0 < value {
-        return 1.0 / value;
-    }
-    0.0
-}
-
-// A number of a column made of length 1, and long again.
-fn rescaled(x: f64, value: f64) -> f64
-    ensures { λ r. ⌜ r ≡ times (times x (inverse value)) value ⌝ }
-{
-    x * inverse(value) * value
-}
+ghost use Rattle.splitting.specs.Numbers.{inverse};
+ghost use Rattle.splitting.specs.Rows.{leftRows, rightRows, formedFrom};
 
 // Row `row` of the r columns that js names, of n columns of m numbers.
 fn left_row(
@@ -43,7 +26,7 @@ fn left_row(
 {
     for k in 0..r {
         let col = js[k];
-        out[row * r + k] = rescaled(a[col * m + row], ss[k]);
+        out[row * r + k] = splitting::rescaled(a[col * m + row], ss[k]);
     }
 }
 

@@ -31,7 +31,7 @@ use Rattle.pair.specs.declared.Sizes as given
 use Rattle.splitting.specs.declared.Paired.{Paired}
 use Rattle.slabs.specs.Slabs.{slab}
 use Rattle.splitting.specs.Splits.{values, Halves, formed, cut, split, pairOf}
-use Rattle.halves.specs.Numbers.{leftNumbers, rightNumbers}
+use Rattle.splitting.specs.Numbers.{leftNumbers, rightNumbers}
 use Rattle.pair.specs.Call.{coreOf, coreNumbers, leftRoom, rightRoom, pairSized, pairLent, pairFinite, pairOk, PairEnded, pairBy, pairCall}
 use Rattle.splitting.specs.Loops.{Lines}
 use Rattle.pair.proofs.Checked.{checked}

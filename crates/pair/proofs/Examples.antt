@@ -25,7 +25,7 @@ use Rattle.slabs.specs.Slabs.{plusProduct, slabEntry, slab}
 use Rattle.columns.specs.Columns.{turnStored, dot, tolerance64, skipped}
 use Rattle.passes.specs.Passes.{turned, rotate, pass, passesFrom, orthogonalized, start}
 use Rattle.splitting.specs.Splits.{values, formed, cut, split, pairOf}
-use Rattle.halves.specs.Numbers.{inverse, leftNumbers, rightNumbers}
+use Rattle.splitting.specs.Numbers.{inverse, leftNumbers, rightNumbers}
 use Rattle.pair.specs.Call.{sizesOk, coreNumbers, leftRoom, rightRoom, pairScratch, pairSized, pairLent, pairFinite, pairOk, PairEnded, pairBy, pairCall}
 
 -- the tolerance is the f64 nearest to 1e-14

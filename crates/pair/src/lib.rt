@@ -42,7 +42,7 @@ fn pair_of(
     if let answers::Stage::Spilt(i) = made {
         return splitting::refused_pair(answers::Refusal::Stored(answers::Part::Entry, 0, i));
     }
-    splitting::split(eps, m, n, a, x, y)
+    parting::split(eps, m, n, a, x, y)
 }
 
 // The first e numbers of x stand at the front of out, +0 behind them.

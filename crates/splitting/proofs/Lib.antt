@@ -1,6 +1,4 @@
 -- the split
 pub mod Splits
--- for the code: stages, and the pair by them
-pub mod Kept
-pub mod Formed
+-- for the code: the pair by its stages
 pub mod Pairs

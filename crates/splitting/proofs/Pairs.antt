@@ -3,28 +3,45 @@ use mathlib.Core.Path.{_≡_, refl, ap, _∙_}
 use Prim.Native.Nat.{ℕ, _*_}
 use mathlib.Core.List.{List}
 use lib.Dec.{leb}
+use lib.ListN.{getD}
 use lib.Ieee.{Float}
+use Rattle.numbers.specs.Arithmetic.{times}
 use Rattle.answers.specs.declared.Part.{Part}
 use Rattle.answers.specs.declared.Part.the-variants.{Entry, Spectrum, Factor}
 use Rattle.answers.specs.declared.Refusal.the-variants.{Stored, PairRank}
 use Rattle.answers.specs.declared.Verdict.{Verdict}
-use Rattle.answers.specs.declared.Verdict.the-variants.{Refused}
+use Rattle.answers.specs.declared.Verdict.the-variants.{Fits, Refused}
 use Rattle.answers.specs.declared.Stage.{Stage}
 use Rattle.answers.specs.declared.Stage.the-variants.{Whole, Spilt}
 use Rattle.answers.specs.Outcome.{Made, Answer, Check, done, refused, bind, making, demand, _then_, staged, answered}
-use Rattle.lists.specs.Floats.{stored}
+use Rattle.lists.specs.Floats.{at, cell, stored}
 use Rattle.shape.specs.Limits.{mostRank}
 use Rattle.shape.specs.Cores.{Core, coreWith}
+use Rattle.shape.proofs.Places.{block-rows, block-lines}
 use Rattle.rotation.specs.Rotation.{eye}
 use Rattle.values.specs.Values.{order, sorted, keptRank}
 use Rattle.passes.specs.Passes.{svd, Passes, orthogonalized, start}
 use Rattle.slabs.specs.Loops.{slabAt, columnsOf, slabColumns}
 use Rattle.slabs.proofs.Slabs.{slab-flat}
-use Rattle.halves.specs.Loops.{leftRows, rightRows, Both, formedFrom}
-use Rattle.halves.proofs.Formed.{left-rows, right-rows}
+use Rattle.splitting.specs.Rows.{leftRows, rightRows, Both, formedFrom}
+use Rattle.splitting.specs.Numbers.{inverse, leftNumbers, rightNumbers}
 use Rattle.splitting.specs.Splits.{values, Halves, formed, cut, split, pairOf}
 use Rattle.splitting.specs.Loops.{Valued, valuedFrom, Parted, parted, cutFrom, splitFrom}
-use Rattle.splitting.proofs.Formed.{answered-on}
+
+-- what is done with an outcome is done with what was answered
+pub answered-on : {A B : Type 0} (v : Verdict) (a : A) (f : A → B) → bind (answered v a) (λ x. done (f x)) ≡ answered v (f a)
+unfolding answered
+answered-on Fits a f = refl
+answered-on (Refused r) a f = refl
+
+-- ---- row by row
+left-rows : (rl nj r : ℕ) (ss : List Float) (js : List ℕ) (a : List Float) → leftNumbers rl nj r ss js a ≡ leftRows (rl * nj) r ss js a
+unfolding leftNumbers leftRows
+left-rows rl nj r ss js a = block-rows rl nj r _ (λ (row k : ℕ). times (times (cell (rl * nj) a (getD js k 0) row) (inverse (at ss k))) (at ss k)) (λ il im ir i j k. refl)
+
+right-rows : (r nk rr : ℕ) (js : List ℕ) (v : List Float) → rightNumbers r nk rr js v ≡ rightRows (nk * rr) r js v
+unfolding rightNumbers rightRows
+right-rows r nk rr js v = block-lines r nk rr _ (λ (k i : ℕ). cell (nk * rr) v (getD js k 0) i) (λ il im ir i j k. refl)
 
 -- two stages that make one part are one stage
 two-stages : {Y Z D R : Type 0} (part : Part) (k : ℕ) (b : Made Y) (f : Y → Made Z) (both : Y → Z → D) (K : D → Answer R) → bind (making part k b) (λ y. bind (making part k (f y)) (λ z. K (both y z))) ≡ bind (making part k (bind b (λ y. bind (f y) (λ z. done (both y z))))) K

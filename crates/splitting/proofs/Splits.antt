@@ -18,7 +18,7 @@ use Rattle.shape.specs.Limits.{mostRank}
 use Rattle.shape.specs.Cores.{Core, coreWith}
 use Rattle.values.specs.Values.{order, sorted, keptRank}
 use Rattle.slabs.specs.Slabs.{slab}
-use Rattle.halves.specs.Numbers.{leftNumbers, rightNumbers}
+use Rattle.splitting.specs.Numbers.{leftNumbers, rightNumbers}
 use Rattle.passes.specs.Passes.{Passes, mostPasses, orthogonalized, start}
 use Rattle.splitting.specs.Splits.{values, Halves, formed, cut, split, pairOf}
 use Rattle.passes.specs.Claims.{Counted}

@@ -12,7 +12,7 @@ use Rattle.rotation.specs.Rotation.{eye}
 use Rattle.values.specs.Values.{order, sorted, keptRank}
 use Rattle.passes.specs.Passes.{svd, Passes, orthogonalized}
 use Rattle.slabs.specs.Slabs.{mostLines}
-use Rattle.halves.specs.Loops.{Both, formedFrom}
+use Rattle.splitting.specs.Rows.{Both, formedFrom}
 use Rattle.splitting.specs.Splits.{values}
 
 -- what the checks say of a slab's rows and columns

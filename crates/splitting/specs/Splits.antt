@@ -13,7 +13,7 @@ use Rattle.shape.specs.Limits.{mostRank}
 use Rattle.shape.specs.Cores.{Core, coreWith}
 use Rattle.values.specs.Values.{order, sorted, keptRank}
 use Rattle.slabs.specs.Slabs.{slab}
-use Rattle.halves.specs.Numbers.{leftNumbers, rightNumbers}
+use Rattle.splitting.specs.Numbers.{leftNumbers, rightNumbers}
 use Rattle.columns.specs.Columns.{dot}
 use Rattle.passes.specs.Passes.{Passes, orthogonalized, start}
 

@@ -9,8 +9,8 @@ use Rattle.lists.specs.Lists.{iter}
 use Rattle.lists.specs.Floats.{at, cell}
 use Rattle.lists.specs.Strips.{storedFrom}
 use Rattle.lists.proofs.Strips.{rows-front}
-use Rattle.halves.specs.Numbers.{inverse}
-use Rattle.halves.specs.Loops.{leftRows}
+use Rattle.splitting.specs.Numbers.{inverse}
+use Rattle.splitting.specs.Rows.{leftRows}
 use Rattle.halves.proofs.Formed.{front-stored}
 use Rattle.halves.proofs.left_core.Statement.{statement}
 use Rattle.halves.proofs.left_core.Tie as tie

@@ -8,7 +8,7 @@ use Rattle.numbers.specs.Arithmetic.{times}
 use Rattle.lists.specs.Floats.{at, cell}
 use Rattle.lists.specs.Strips.{storedFrom}
 use Rattle.lists.proofs.Cells.{exacts, exact-row, exact-lt, exact-fits, exact-scaled}
-use Rattle.halves.specs.Numbers.{inverse}
+use Rattle.splitting.specs.Numbers.{inverse}
 use Rattle.halves.proofs.left_row.Statement.{statement}
 use Rattle.halves.proofs.left_row.Tie as tie
 

@@ -8,7 +8,7 @@ use Rattle.lists.specs.Lists.{iter}
 use Rattle.lists.specs.Floats.{cell}
 use Rattle.lists.specs.Strips.{storedFrom}
 use Rattle.lists.proofs.Strips.{rows-front}
-use Rattle.halves.specs.Loops.{rightRows}
+use Rattle.splitting.specs.Rows.{rightRows}
 use Rattle.halves.proofs.Formed.{front-stored}
 use Rattle.halves.proofs.right_core.Statement.{statement}
 use Rattle.halves.proofs.right_core.Tie as tie

@@ -1,4 +1,4 @@
--- `splitting::roots` meets its contract. Assumes nothing.
+-- `parting::roots` meets its contract. Assumes nothing.
 use Rattle.lists.proofs.Turns.{turns}
 use Prim.Native.Nat.{_-_, _≤_}
 use mathlib.Core.Path.{_≡_}
@@ -8,8 +8,8 @@ use lib.ListN.{length}
 use lib.Ieee.{nan}
 use Rattle.numbers.specs.Root.{rootOf}
 use Rattle.lists.proofs.Over.{over, over-none, maps-more, maps-done}
-use Rattle.splitting.proofs.roots.Statement.{statement}
-use Rattle.splitting.proofs.roots.Tie as tie
+use Rattle.parting.proofs.roots.Statement.{statement}
+use Rattle.parting.proofs.roots.Tie as tie
 
 ruleset ways = (turns, over-none)
 

@@ -1,10 +1,10 @@
--- `splitting::valued` meets its contract. Assumes nothing.
+-- `parting::valued` meets its contract. Assumes nothing.
 use borrow.Author.Needs.{needs}
 use Prim.Native.Nat.{_-_}
 use Rattle.passes.proofs.Rotated.{held-first}
-use Rattle.splitting.proofs.Formed.{roots-are, valued-stop, valued-end}
-use Rattle.splitting.proofs.valued.Statement.{statement}
-use Rattle.splitting.proofs.valued.Tie as tie
+use Rattle.parting.proofs.Formed.{roots-are, valued-stop, valued-end}
+use Rattle.parting.proofs.valued.Statement.{statement}
+use Rattle.parting.proofs.valued.Tie as tie
 
 orthogonalize-requires : tie.Need-orthogonalize-requires
 orthogonalize-requires c κs = held-first _ _ _ _ _ (c .before .before .before .before .before .before .before .before .before .before .before .before .before .before .before .pre .0) (c .before .before .before .before .before .before .before .before .before .before .before .before .before .before .before .pre .1) (c .before .before .before .before .before .before .before .before .before .before .eye .ensures) (c .before .before .before .before .before .square .ensures)

@@ -1,13 +1,13 @@
--- `splitting::cut` meets its contract. Assumes nothing.
+-- `parting::cut` meets its contract. Assumes nothing.
 use borrow.Author.Needs.{needs}
 use Prim.Native.Nat.{_-_}
 use mathlib.Core.Path.{_∙_, sym, ap}
 use native.Mathlib.Nat.{mul-le-mul, le-trans}
 use Rattle.values.specs.Values.{keptRank}
-use Rattle.splitting.proofs.Kept.{rank-within, kept-columns, lent-end, lent-again, lent-some}
-use Rattle.splitting.proofs.Formed.{cut-wide, cut-end}
-use Rattle.splitting.proofs.cut.Statement.{statement}
-use Rattle.splitting.proofs.cut.Tie as tie
+use Rattle.parting.proofs.Kept.{rank-within, kept-columns, lent-end, lent-again, lent-some}
+use Rattle.parting.proofs.Formed.{cut-wide, cut-end}
+use Rattle.parting.proofs.cut.Statement.{statement}
+use Rattle.parting.proofs.cut.Tie as tie
 
 returns : tie.Need-returns
 returns c = rw (c .refused-pair .ensures) (cut-wide _ _ _ _ _ _ _ (c .before .before .before .before .ranked .ensures .0) (c .before .before .before .before .ranked .ensures .1) _ (c .before .before .before .before .ranked .ensures .2) (c .before .if1 .taken) _)

@@ -1,4 +1,4 @@
--- The same numbers row by row. Definitions for loops only.
+-- The numbers of two cores row by row. Definitions for loops only.
 use Prim.Native.Nat.{ℕ}
 use mathlib.Core.List.{List}
 use lib.ListN.{getD}
@@ -8,7 +8,7 @@ use Rattle.answers.specs.declared.Part.the-variants.{Factor}
 use Rattle.answers.specs.Outcome.{Answer, done, bind, making}
 use Rattle.lists.specs.Lists.{grid}
 use Rattle.lists.specs.Floats.{at, cell, stored}
-use Rattle.halves.specs.Numbers.{inverse}
+use Rattle.splitting.specs.Numbers.{inverse}
 
 -- m rows of r, of columns of m numbers
 unfoldable pub leftRows : (m r : ℕ) → List Float → List ℕ → List Float → List Float

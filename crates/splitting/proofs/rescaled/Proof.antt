@@ -1,9 +1,9 @@
--- `halves::rescaled` meets its contract. Assumes nothing.
+-- `splitting::rescaled` meets its contract. Assumes nothing.
 use borrow.Author.Needs.{needs}
 use Prim.Native.Nat.{_-_}
-use Rattle.halves.specs.Numbers.{inverse}
-use Rattle.halves.proofs.rescaled.Statement.{statement}
-use Rattle.halves.proofs.rescaled.Tie as tie
+use Rattle.splitting.specs.Numbers.{inverse}
+use Rattle.splitting.proofs.rescaled.Statement.{statement}
+use Rattle.splitting.proofs.rescaled.Tie as tie
 
 returns : tie.Need-returns
 returns c = rw (c .inverse .ensures)

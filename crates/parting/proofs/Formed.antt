@@ -1,5 +1,5 @@
 -- The split of a slab's columns stage by stage, in the form that proofs of code cite. Assumes nothing.
-use mathlib.Core.Path.{_≡_, refl, sym, ap, _∙_}
+use mathlib.Core.Path.{_≡_, sym, ap, _∙_}
 use Prim.Native.Nat.{ℕ, _-_, _*_, _≤_, _<_}
 use native.Mathlib.Omega.{arith}
 use mathlib.Core.Bool.{true}
@@ -10,7 +10,7 @@ use Rattle.numbers.specs.Root.{rootOf}
 use Rattle.answers.specs.declared.Part.the-variants.{Spectrum}
 use Rattle.answers.specs.declared.Refusal.the-variants.{Stored, PairRank}
 use Rattle.answers.specs.declared.Verdict.{Verdict}
-use Rattle.answers.specs.declared.Verdict.the-variants.{Fits, Refused}
+use Rattle.answers.specs.declared.Verdict.the-variants.{Refused}
 use Rattle.answers.specs.declared.Stage.{Stage}
 use Rattle.answers.specs.declared.Stage.the-variants.{Whole, Spilt}
 use Rattle.answers.specs.Outcome.{Made, Answer, done, bind, making, demand, _then_, staged, stageOf, answered}
@@ -27,15 +27,10 @@ use Rattle.values.specs.Values.{order, sorted, keptRank}
 use Rattle.columns.specs.Columns.{dot}
 use Rattle.columns.specs.Loops.{squares}
 use Rattle.passes.specs.Passes.{svd, Passes, made, orthogonalized}
-use Rattle.halves.specs.Loops.{Both, formedFrom}
+use Rattle.splitting.specs.Rows.{Both, formedFrom}
 use Rattle.splitting.specs.Splits.{values}
+use Rattle.splitting.proofs.Pairs.{answered-on}
 use Rattle.splitting.specs.Loops.{Valued, valuedFrom, Parted, parted, cutFrom, splitFrom}
-
--- what is done with an outcome is done with what was answered
-pub answered-on : {A B : Type 0} (v : Verdict) (a : A) (f : A → B) → bind (answered v a) (λ x. done (f x)) ≡ answered v (f a)
-unfolding answered
-answered-on Fits a f = refl
-answered-on (Refused r) a f = refl
 
 -- ---- values
 pub roots-are : (m n : ℕ) (a ss sv : List Float) → ss ≡ squares m n a → sv ≡ map rootOf ss → sv ≡ values m n a

@@ -1,10 +1,10 @@
--- `halves::inverse` meets its contract. Assumes nothing.
+-- `splitting::inverse` meets its contract. Assumes nothing.
 use borrow.Author.Needs.{needs}
 use Prim.Native.Nat.{_-_}
 use Rattle.lists.specs.Lists.{pick}
-use Rattle.halves.specs.Numbers.{inverse}
-use Rattle.halves.proofs.inverse.Statement.{statement}
-use Rattle.halves.proofs.inverse.Tie as tie
+use Rattle.splitting.specs.Numbers.{inverse}
+use Rattle.splitting.proofs.inverse.Statement.{statement}
+use Rattle.splitting.proofs.inverse.Tie as tie
 
 returns : tie.Need-returns
 unfolding inverse pick

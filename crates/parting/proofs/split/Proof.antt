@@ -1,4 +1,4 @@
--- `splitting::split` meets its contract. Assumes nothing.
+-- `parting::split` meets its contract. Assumes nothing.
 use borrow.Author.Needs.{needs}
 use Prim.Native.Nat.{_-_}
 use mathlib.Core.Path.{_∙_, ap}
@@ -6,10 +6,10 @@ use native.Mathlib.Omega.{arith}
 use native.Mathlib.Nat.{mul-le-mul}
 use Rattle.lists.specs.Floats.{allFinite}
 use Rattle.lists.proofs.Parts.{span-length}
-use Rattle.splitting.proofs.Kept.{lent-end, lent-again}
-use Rattle.splitting.proofs.Formed.{values-finite, split-stop, split-end, cut-same}
-use Rattle.splitting.proofs.split.Statement.{statement}
-use Rattle.splitting.proofs.split.Tie as tie
+use Rattle.parting.proofs.Kept.{lent-end, lent-again}
+use Rattle.parting.proofs.Formed.{values-finite, split-stop, split-end, cut-same}
+use Rattle.parting.proofs.split.Statement.{statement}
+use Rattle.parting.proofs.split.Tie as tie
 
 mul-e : tie.Need-mul-e
 mul-e c = record { fits = omega (arith, mul-le-mul (c .before .before .before .pre .0 .columns) (c .before .before .before .pre .0 .columns)) }
