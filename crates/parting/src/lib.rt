@@ -31,7 +31,7 @@ fn valued(a: &mut [f64], v: &mut [f64], sv: &mut [f64], m: usize, n: usize) -> p
 {
     rotation::eye(v, n);
     columns::square(a, m, n, sv);
-    let w = passes::orthogonalize(a, v, sv, m, n);
+    let w = passing::orthogonalize(a, v, sv, m, n);
     let stage = w.stage;
     if let answers::Stage::Spilt(i) = stage {
         return passes::passes_are(answers::Stage::Spilt(i), 0);

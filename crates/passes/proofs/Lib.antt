@@ -2,5 +2,3 @@ pub mod Laws
 -- the columns and the basis stay whole; the count of passes
 pub mod Wholes
 pub mod Counts
--- for the code: rotations, passes
-pub mod Rotated

@@ -1,7 +1,7 @@
 -- `parting::valued` meets its contract. Assumes nothing.
 use borrow.Author.Needs.{needs}
 use Prim.Native.Nat.{_-_}
-use Rattle.passes.proofs.Rotated.{held-first}
+use Rattle.passing.proofs.Rotated.{held-first}
 use Rattle.parting.proofs.Formed.{roots-are, valued-stop, valued-end}
 use Rattle.parting.proofs.valued.Statement.{statement}
 use Rattle.parting.proofs.valued.Tie as tie

@@ -1,15 +1,15 @@
--- `passes::pass_row` meets its contract. Assumes nothing.
+-- `passing::pass_row` meets its contract. Assumes nothing.
 use Rattle.lists.proofs.Turns.{turns}
 use Prim.Native.Nat.{ℕ, _+_, _-_, _≤_}
 use mathlib.Core.Path.{_≡_, refl}
 use lib.ListN.{length}
 use Rattle.lists.specs.Walks.{turning}
 use Rattle.passes.specs.Passes.{svd, passed, rotate}
 use Rattle.passes.specs.Loops.{passRow, Held}
-use Rattle.passes.proofs.Rotated.{rotate-held}
+use Rattle.passing.proofs.Rotated.{rotate-held}
 use Rattle.lists.proofs.Stages.{stage-more, stage-stop, stage-done}
-use Rattle.passes.proofs.pass_row.Statement.{statement}
-use Rattle.passes.proofs.pass_row.Tie as tie
+use Rattle.passing.proofs.pass_row.Statement.{statement}
+use Rattle.passing.proofs.pass_row.Tie as tie
 
 abbrev Inv-loop : tie.InvT-loop
 Inv-loop a₀ v₀ ss₀ m n p still quiet₀ q₀ a v ss quiet q = (q ≤ n) × (p + 1 ≤ q) × (length a ≡ length a₀) × (length v ≡ length v₀) × (length ss ≡ length ss₀) × Held m n a v ss × (passRow m n p (passed (svd a₀ v₀) still) ≡ turning (n - q) q (λ (j : ℕ). rotate m n p j) (passed (svd a v) quiet))

@@ -1,11 +1,11 @@
--- `passes::apply_jacobi_rotation` meets its contract. Assumes nothing.
+-- `passing::apply_jacobi_rotation` meets its contract. Assumes nothing.
 use borrow.Author.Needs.{needs}
 use Prim.Native.Nat.{_-_}
 use native.Mathlib.Omega.{arith}
 use Rattle.columns.proofs.TwoColumns.{squares-length, turned-length, turned-elsewhere, turned-squares}
-use Rattle.passes.proofs.Rotated.{turned-stop, turned-end}
-use Rattle.passes.proofs.apply_jacobi_rotation.Statement.{statement}
-use Rattle.passes.proofs.apply_jacobi_rotation.Tie as tie
+use Rattle.passing.proofs.Rotated.{turned-stop, turned-end}
+use Rattle.passing.proofs.apply_jacobi_rotation.Statement.{statement}
+use Rattle.passing.proofs.apply_jacobi_rotation.Tie as tie
 
 square-again-requires : tie.Need-square-again-requires
 square-again-requires c κs = (turned-length _ _ _ _ _ _ _ _ (c .before .before .before .before .before .before .before .before .turn .ensures), c .before .before .before .before .before .before .before .before .before .before .before .before .before .pre .0 .count, omega (arith, c .before .before .before .before .before .before .before .before .before .before .before .before .before .pre .1, c .before .before .before .before .before .before .before .before .before .before .before .before .before .pre .2), c .before .before .before .before .before .before .before .before .before .before .before .before .before .pre .2, turned-squares _ _ _ _ _ _ _ _ (c .before .before .before .before .before .before .before .before .turn .ensures) _ (c .before .before .before .before .before .before .before .before .before .before .before .before .before .pre .0 .kept))

@@ -1,15 +1,15 @@
--- `passes::pass` meets its contract. Assumes nothing.
+-- `passing::pass` meets its contract. Assumes nothing.
 use Rattle.lists.proofs.Turns.{turns}
 use Prim.Native.Nat.{_-_, _≤_}
 use mathlib.Core.Path.{_≡_, refl}
 use lib.ListN.{length}
 use Rattle.lists.specs.Walks.{turning}
 use Rattle.passes.specs.Passes.{svd, passed, pass}
 use Rattle.passes.specs.Loops.{passRow, Held}
-use Rattle.passes.proofs.Rotated.{row-held, pass-rows}
+use Rattle.passing.proofs.Rotated.{row-held, pass-rows}
 use Rattle.lists.proofs.Stages.{stage-more, stage-stop, stage-done}
-use Rattle.passes.proofs.pass.Statement.{statement}
-use Rattle.passes.proofs.pass.Tie as tie
+use Rattle.passing.proofs.pass.Statement.{statement}
+use Rattle.passing.proofs.pass.Tie as tie
 
 abbrev Inv-loop : tie.InvT-loop
 Inv-loop a₀ v₀ ss₀ m n quiet₀ p₀ a v ss quiet p = (p ≤ n) × (length a ≡ length a₀) × (length v ≡ length v₀) × (length ss ≡ length ss₀) × Held m n a v ss × (pass m n (svd a₀ v₀) ≡ turning (n - p) p (passRow m n) (passed (svd a v) quiet))

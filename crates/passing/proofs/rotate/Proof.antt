@@ -1,10 +1,10 @@
--- `passes::rotate` meets its contract. Assumes nothing.
+-- `passing::rotate` meets its contract. Assumes nothing.
 use borrow.Author.Needs.{needs}
 use Prim.Native.Nat.{_-_}
 use Rattle.columns.specs.Columns.{dot, skipped}
-use Rattle.passes.proofs.Rotated.{rotate-skip, rotate-go}
-use Rattle.passes.proofs.rotate.Statement.{statement}
-use Rattle.passes.proofs.rotate.Tie as tie
+use Rattle.passing.proofs.Rotated.{rotate-skip, rotate-go}
+use Rattle.passing.proofs.rotate.Statement.{statement}
+use Rattle.passing.proofs.rotate.Tie as tie
 
 returns : tie.Need-returns
 returns c = (rw (c .turn-is .ensures) (rotate-skip _ _ _ _ _ _ _ _ (c .before .before .before .before .before .before .before .before .before .before .pre .0 .kept) (c .before .before .before .before .before .before .before .before .before .before .pre .1) (c .before .before .before .before .before .before .before .before .before .before .pre .2) _ (c .before .before .before .before .before .dot .ensures) _ (c .before .before .skipped .ensures) (c .before .if1 .taken)), c .before .before .before .before .before .before .before .before .before .before .pre .0 .kept)

@@ -1,13 +1,13 @@
--- `passes::orthogonalize` meets its contract. Assumes nothing.
+-- `passing::orthogonalize` meets its contract. Assumes nothing.
 use Rattle.lists.proofs.Turns.{turns}
 use Prim.Native.Nat.{_-_, _≤_}
 use mathlib.Core.Path.{_≡_, refl}
 use lib.ListN.{length}
 use Rattle.passes.specs.Passes.{svd, pass, passesFrom, orthogonalized, mostPasses}
 use Rattle.passes.specs.Loops.{Held}
-use Rattle.passes.proofs.Rotated.{pass-held, passes-start, passes-quiet, passes-stop, passes-more, passes-done}
-use Rattle.passes.proofs.orthogonalize.Statement.{statement}
-use Rattle.passes.proofs.orthogonalize.Tie as tie
+use Rattle.passing.proofs.Rotated.{pass-held, passes-start, passes-quiet, passes-stop, passes-more, passes-done}
+use Rattle.passing.proofs.orthogonalize.Statement.{statement}
+use Rattle.passing.proofs.orthogonalize.Tie as tie
 
 abbrev Inv-loop : tie.InvT-loop
 Inv-loop a₀ v₀ ss₀ m n count₀ quiet₀ a v ss count quiet = (count ≤ mostPasses) × (length a ≡ length a₀) × (length v ≡ length v₀) × (length ss ≡ length ss₀) × Held m n a v ss × (orthogonalized m n (svd a₀ v₀) ≡ passesFrom (mostPasses - count) quiet m n count (svd a v))
