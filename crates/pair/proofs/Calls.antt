@@ -17,7 +17,7 @@ use Rattle.lists.specs.Floats.{zeros}
 use Rattle.lists.proofs.Slots.{fit-length, fit-used}
 use Rattle.shape.specs.Cores.{Core}
 use Rattle.rounding.specs.Call.{scratchAfter}
-use Rattle.splitting.specs.Slabs.{slab}
+use Rattle.slabs.specs.Slabs.{slab}
 use Rattle.passes.specs.Passes.{Passes, mostPasses, start}
 use Rattle.splitting.specs.Splits.{Halves, pairOf}
 use Rattle.passes.specs.Claims.{Counted}

@@ -15,7 +15,7 @@ use Rattle.lists.proofs.Tests.{leb-is, eqb-is, both}
 use Rattle.shape.specs.Limits.{mostPoints, mostRank, within}
 use Rattle.shape.specs.Cores.{Core}
 use Rattle.rounding.specs.Call.{notBelowZero}
-use Rattle.splitting.specs.Splits.{mostLines}
+use Rattle.slabs.specs.Slabs.{mostLines}
 use Rattle.pair.specs.Call.{pairScratch, sizesOk, coreNumbers, leftRoom, rightRoom, pairSized, pairLent, pairFinite, pairOk}
 
 -- x is from 1 to the most

@@ -29,8 +29,9 @@ use Rattle.cutform.specs.Values.{order, sorted, keptRank}
 use Rattle.passes.specs.Passes.{Passes, orthogonalized, start}
 use Rattle.pair.specs.declared.Sizes as given
 use Rattle.splitting.specs.declared.Paired.{Paired}
-use Rattle.splitting.specs.Slabs.{slab}
-use Rattle.splitting.specs.Splits.{values, leftNumbers, rightNumbers, Halves, formed, cut, split, pairOf}
+use Rattle.slabs.specs.Slabs.{slab}
+use Rattle.splitting.specs.Splits.{values, Halves, formed, cut, split, pairOf}
+use Rattle.splitting.specs.Numbers.{leftNumbers, rightNumbers}
 use Rattle.pair.specs.Call.{coreOf, coreNumbers, leftRoom, rightRoom, pairSized, pairLent, pairFinite, pairOk, PairEnded, pairBy, pairCall}
 use Rattle.splitting.specs.Loops.{Lines}
 use Rattle.pair.proofs.Checked.{checked}
@@ -38,7 +39,7 @@ use Rattle.splitting.proofs.Splits.{pair-formed}
 
 -- ---- what the checks say, for the work
 pub record Ready (l r : given.Sizes) (left right : List Float) (lefts rights scratch : ℕ) : Type 0 where
-  pub lines : Lines (l .rl) (l .n) (r .n) (r .rr)
+  pub lines : Lines (l .rl * l .n) (r .n * r .rr)
   pub leftLong : length left ≡ l .rl * l .n * l .rr
   pub rightLong : length right ≡ l .rr * (r .n * r .rr)
   pub room : r .n * r .rr * (l .rl * l .n) ≤ scratch

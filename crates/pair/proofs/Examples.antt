@@ -21,9 +21,11 @@ use Rattle.shape.specs.Cores.{Core, coreWith, place, entry, block}
 use Rattle.rotation.specs.Rotation.{tangentOf, slopeOf, cosineOf, turnedAt, eye}
 use Rattle.cutform.specs.Values.{rankIn, indexAt, order, sorted, thresholdOf, keptRank}
 use Rattle.rounding.specs.Call.{notBelowZero, scratchAfter}
-use Rattle.splitting.specs.Slabs.{plusProduct, slabEntry, slab}
-use Rattle.passes.specs.Passes.{turnStored, turned, dot, tolerance64, skipped, rotate, pass, passesFrom, orthogonalized, start}
-use Rattle.splitting.specs.Splits.{values, inverse, leftNumbers, rightNumbers, formed, cut, split, pairOf}
+use Rattle.slabs.specs.Slabs.{plusProduct, slabEntry, slab}
+use Rattle.columns.specs.Columns.{turnStored, dot, tolerance64, skipped}
+use Rattle.passes.specs.Passes.{turned, rotate, pass, passesFrom, orthogonalized, start}
+use Rattle.splitting.specs.Splits.{values, formed, cut, split, pairOf}
+use Rattle.splitting.specs.Numbers.{inverse, leftNumbers, rightNumbers}
 use Rattle.pair.specs.Call.{sizesOk, coreNumbers, leftRoom, rightRoom, pairScratch, pairSized, pairLent, pairFinite, pairOk, PairEnded, pairBy, pairCall}
 
 -- the tolerance is the f64 nearest to 1e-14

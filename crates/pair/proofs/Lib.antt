@@ -2,6 +2,7 @@
 pub mod Checked
 pub mod Calls
 pub mod Examples
--- for the code: checks, the end
+-- for the code: checks, the outputs, the end
 pub mod Verdicts
+pub mod Fronts
 pub mod Ended

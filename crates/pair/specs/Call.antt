@@ -17,7 +17,8 @@ use Rattle.shape.specs.Cores.{Core, coreWith}
 use Rattle.rounding.specs.Call.{notBelowZero, scratchAfter}
 use Rattle.pair.specs.declared.Sizes.{Sizes}
 use Rattle.splitting.specs.declared.Paired.{Paired}
-use Rattle.splitting.specs.Splits.{mostLines, Halves, pairOf}
+use Rattle.slabs.specs.Slabs.{mostLines}
+use Rattle.splitting.specs.Splits.{Halves, pairOf}
 
 abbrev pub pairScratch : ℕ
 pairScratch = 20480

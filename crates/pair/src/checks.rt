@@ -8,7 +8,7 @@ ghost use Rattle.answers.specs.Outcome.{verdictOf, done};
 ghost use Rattle.numbers.specs.Finite.{finite};
 ghost use Rattle.lists.specs.Floats.{allFinite};
 ghost use Rattle.shape.specs.Limits.{mostPoints};
-ghost use Rattle.splitting.specs.Splits.{mostLines};
+ghost use Rattle.slabs.specs.Slabs.{mostLines};
 ghost use Rattle.pair.specs.Call.{coreOf, sizesOk, pairSized, pairLent, pairFinite, pairOk};
 
 // What scratch has.
@@ -32,7 +32,7 @@ fn lines_ok(sized: bool, i: usize, j: usize) -> bool
     if !sized {
         return false;
     }
-    i * j <= splitting::MOST_LINES
+    i * j <= slabs::MOST_LINES
 }
 
 // Refusals 2 and 3.

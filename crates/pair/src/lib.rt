@@ -8,7 +8,8 @@ ghost use Rattle.answers.specs.Outcome.{done, answered};
 ghost use Rattle.lists.specs.Slots.{fit};
 ghost use Rattle.shape.specs.Limits.{mostRank};
 ghost use Rattle.shape.specs.Cores.{coreWith};
-ghost use Rattle.splitting.specs.Splits.{mostLines, pairOf};
+ghost use Rattle.slabs.specs.Slabs.{mostLines};
+ghost use Rattle.splitting.specs.Splits.{pairOf};
 ghost use Rattle.pair.specs.Call.{coreOf, pairOk, pairBy, pairCall};
 ghost use Rattle.splitting.specs.Loops.{Lines};
 
@@ -32,14 +33,16 @@ fn pair_of(
     x: &mut [f64],
     y: &mut [f64],
 ) -> splitting::Paired
-    requires { ⌜ Lines (l .rl) (l .n) (r .n) (r .rr) × (length (now left) ≡ l .rl * l .n * l .rr) × (length (now right) ≡ l .rr * (r .n * r .rr)) × (length (now a) ≡ r .n * r .rr * (l .rl * l .n)) × (mostLines * mostRank ≤ length (now x)) × (mostRank * mostLines ≤ length (now y)) ⌝ }
+    requires { ⌜ Lines (l .rl * l .n) (r .n * r .rr) × (length (now left) ≡ l .rl * l .n * l .rr) × (length (now right) ≡ l .rr * (r .n * r .rr)) × (length (now a) ≡ r .n * r .rr * (l .rl * l .n)) × (mostLines * mostRank ≤ length (now x)) × (mostRank * mostLines ≤ length (now y)) ⌝ }
     ensures { λ w. ⌜ pairOf eps (coreOf l (now (left .entry))) (coreOf r (now (right .entry))) ≡ answered (w .verdict) (record { left = coreWith (l .rl) (l .n) (w .rank) (take (l .rl * l .n * w .rank) (now (x .exit))); right = coreWith (w .rank) (r .n) (r .rr) (take (w .rank * (r .n * r .rr)) (now (y .exit))); passes = w .passes }) ⌝ }
 {
-    let made = splitting::slab::columns(left, right, l.rl * l.n, l.rr, r.n * r.rr, a);
+    let m = l.rl * l.n;
+    let n = r.n * r.rr;
+    let made = slabs::columns(left, right, m, l.rr, n, a);
     if let answers::Stage::Spilt(i) = made {
         return splitting::refused_pair(answers::Refusal::Stored(answers::Part::Entry, 0, i));
     }
-    splitting::halves::split(eps, l.rl, l.n, r.n, r.rr, a, x, y)
+    parting::split(eps, m, n, a, x, y)
 }
 
 // The first e numbers of x stand at the front of out, +0 behind them.
@@ -65,8 +68,8 @@ fn pair_within(
     requires { ⌜ pairOk (coreOf l (now left)) (coreOf r (now right)) eps (length (now lefts)) (length (now rights)) (length (now scratch)) ≡ done tt ⌝ }
     ensures { λ w. ⌜ (w ≡ pairBy (now (lefts .entry)) (now (rights .entry)) (now (scratch .entry)) (pairOf eps (coreOf l (now (left .entry))) (coreOf r (now (right .entry)))) .result) × (now (lefts .exit) ≡ pairBy (now (lefts .entry)) (now (rights .entry)) (now (scratch .entry)) (pairOf eps (coreOf l (now (left .entry))) (coreOf r (now (right .entry)))) .left) × (now (rights .exit) ≡ pairBy (now (lefts .entry)) (now (rights .entry)) (now (scratch .entry)) (pairOf eps (coreOf l (now (left .entry))) (coreOf r (now (right .entry)))) .right) ⌝ }
 {
-    let mut x = [0.0; splitting::MOST_LINES * shape::MOST_RANK];
-    let mut y = [0.0; shape::MOST_RANK * splitting::MOST_LINES];
+    let mut x = [0.0; slabs::MOST_LINES * shape::MOST_RANK];
+    let mut y = [0.0; shape::MOST_RANK * slabs::MOST_LINES];
     let m = l.rl * l.n;
     let n = r.n * r.rr;
     let e = n * m;

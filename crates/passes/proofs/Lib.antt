@@ -2,6 +2,3 @@ pub mod Laws
 -- the columns and the basis stay whole; the count of passes
 pub mod Wholes
 pub mod Counts
--- for the code: columns, rotations, passes
-pub mod TwoColumns
-pub mod Rotated

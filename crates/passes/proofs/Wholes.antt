@@ -18,9 +18,11 @@ use Rattle.lists.proofs.Floats.{finite-getD, stored-is}
 use Rattle.lists.proofs.Tables.{length-grid}
 use Rattle.rotation.specs.Rotation.{tangentOf, slopeOf, cosineOf}
 use Rattle.rotation.specs.Rotation.{eye}
-use Rattle.passes.specs.Passes.{Svd, svd, turnStored, turned, dot, skipped, Pass, passed, rotate, pass, Passes, passesFrom, mostPasses, orthogonalized, start}
+use Rattle.columns.specs.Columns.{turnStored, dot, skipped}
+use Rattle.passes.specs.Passes.{Svd, svd, turned, Pass, passed, rotate, pass, Passes, passesFrom, mostPasses, orthogonalized, start}
 use Rattle.passes.specs.Loops.{passRow}
-use Rattle.passes.proofs.Laws.{grid-finite, turning-keeps, along-keeps}
+use Rattle.passes.proofs.Laws.{turning-keeps, along-keeps}
+use Rattle.columns.proofs.Finite.{grid-finite}
 
 -- ---- n columns of m numbers, and a basis of n by n
 pub record Whole (m n : ℕ) (e : Svd) : Type 0 where

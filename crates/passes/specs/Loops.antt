@@ -1,28 +1,19 @@
--- How the loops of the passes go: a pass row by row, and the sums of squares that are kept beside the columns. Definitions for loops only.
-use Prim.Native.Nat.{ℕ, _+_, _-_, _*_, _<_}
+-- How the loops of the passes go: a pass row by row, and what is held beside the columns. Definitions for loops only.
+use Prim.Native.Nat.{ℕ, _+_, _-_, _*_}
 use mathlib.Core.Path.{_≡_}
 use mathlib.Core.Bool.{true}
 use mathlib.Core.List.{List}
 use lib.ListN.{length}
 use lib.Ieee.{Float}
-use Rattle.numbers.specs.Finite.{finite}
 use Rattle.answers.specs.Outcome.{Made}
-use Rattle.lists.specs.Lists.{tab}
 use Rattle.lists.specs.Walks.{turning}
-use Rattle.lists.specs.Floats.{cell, allFinite}
-use Rattle.passes.specs.Passes.{dot, Pass, rotate}
+use Rattle.lists.specs.Floats.{allFinite}
+use Rattle.columns.specs.Loops.{squares}
+use Rattle.passes.specs.Passes.{Pass, rotate}
 
 -- the pairs (p, q) of one p
 unfoldable pub passRow : ℕ → ℕ → ℕ → Pass → Made Pass
 passRow m n p x = turning (n - (p + 1)) (p + 1) (λ (q : ℕ). rotate m n p q) x
-
--- the sum of squares of each column
-unfoldable pub squares : ℕ → ℕ → List Float → List Float
-squares m n a = tab n (λ (col : ℕ). dot m a col col)
-
--- n columns of m numbers but p and q are finite
-abbrev pub Elsewhere : ℕ → ℕ → ℕ → ℕ → List Float → Type 0
-Elsewhere m n p q a = (col row : ℕ) → col < n → row < m → ¬ (col ≡ p) → ¬ (col ≡ q) → finite (cell m a col row) ≡ true
 
 -- n columns of m numbers, a basis of n by n, and the sums of squares
 pub record Held (m n : ℕ) (a v ss : List Float) : Type 0 where

@@ -1,16 +1,15 @@
 -- Jacobi passes over stored columns, with their count (004: `jacobi_sweep_all`, `apply_jacobi_rotation`). Definitions only.
 use Prim.Native.Nat.{ℕ, zero, suc}
-use mathlib.Core.Bool.{Bool, true, false, _||_}
+use mathlib.Core.Bool.{Bool, true, false}
 use mathlib.Core.List.{List}
-use lib.Ieee.{Float, binary64, le, ofBits}
-use Rattle.numbers.specs.Arithmetic.{times, over, zero64}
-use Rattle.numbers.specs.Magnitude.{magnitudeOf}
-use Rattle.numbers.specs.Root.{rootOf}
+use lib.Ieee.{Float}
+use Rattle.numbers.specs.Arithmetic.{times}
 use Rattle.answers.specs.Outcome.{Made, done, bind}
 use Rattle.lists.specs.Lists.{pick, grid, pairs}
 use Rattle.lists.specs.Walks.{along}
-use Rattle.lists.specs.Floats.{cell, sumTo, stored}
-use Rattle.rotation.specs.Rotation.{tangentOf, slopeOf, cosineOf, turnedAt, eye}
+use Rattle.lists.specs.Floats.{cell, stored}
+use Rattle.rotation.specs.Rotation.{tangentOf, slopeOf, cosineOf, eye}
+use Rattle.columns.specs.Columns.{turnStored, dot, skipped}
 
 -- the slab's columns and the basis' columns, each column after column
 pub record Svd : Type 0 where
@@ -21,30 +20,12 @@ abbrev pub svd : List Float → List Float → Svd
 svd a v = record { columns = a; basis = v }
 
 -- ---- one rotation
--- columns p and q turned, of n columns of m numbers each
-unfoldable pub turnStored : ℕ → ℕ → ℕ → ℕ → Float → Float → List Float → List Float
-turnStored m n p q c s a = grid n m (λ (col row : ℕ). turnedAt p q c s (λ (k : ℕ). cell m a k row) col)
-
 -- the columns, then the basis; both are stored once all of this is done
 unfoldable pub turned : ℕ → ℕ → ℕ → ℕ → Float → Float → Svd → Made Svd
 turned m n p q c s e =
     bind (stored (turnStored m n p q c s (e .columns))) (λ a.
     bind (stored (turnStored n n p q c s (e .basis))) (λ v.
     done (svd a v)))
-
--- the sum over the rows, ascending, of column p times column q
-unfoldable pub dot : ℕ → List Float → ℕ → ℕ → Float
-dot m a p q = sumTo m (λ (row : ℕ). times (cell m a p row) (cell m a q row))
-
--- 1e-14
-abbrev pub tolerance64 : Float
-tolerance64 = ofBits binary64 0x3d06_849b_86a1_2b9b
-
--- a pair is skipped where sq = sqrt(bp*bq) is at most zero, or alpha/sq at most 1e-14 in size; what isn't a number is neither, so that pair is turned
-unfoldable pub skipped : Float → Float → Float → Bool
-skipped alpha bp bq =
-    let sq = rootOf (times bp bq) in
-    le sq zero64 || le (magnitudeOf (over alpha sq)) tolerance64
 
 -- what a pass leaves, and whether it turned no pair
 pub record Pass : Type 0 where

@@ -1,6 +1,4 @@
--- the slab, the split
-pub mod Slabs
+-- the split
 pub mod Splits
--- for the code: stages
-pub mod Kept
-pub mod Formed
+-- for the code: the pair by its stages
+pub mod Pairs

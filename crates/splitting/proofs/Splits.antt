@@ -16,10 +16,11 @@ use Rattle.lists.proofs.Floats.{stored-is}
 use Rattle.lists.proofs.Tests.{leb-is}
 use Rattle.shape.specs.Limits.{mostRank}
 use Rattle.shape.specs.Cores.{Core, coreWith}
-use Rattle.cutform.specs.Values.{order, sorted, keptRank}
-use Rattle.splitting.specs.Slabs.{slab}
+use Rattle.values.specs.Values.{order, sorted, keptRank}
+use Rattle.slabs.specs.Slabs.{slab}
+use Rattle.splitting.specs.Numbers.{leftNumbers, rightNumbers}
 use Rattle.passes.specs.Passes.{Passes, mostPasses, orthogonalized, start}
-use Rattle.splitting.specs.Splits.{values, leftNumbers, rightNumbers, Halves, formed, cut, split, pairOf}
+use Rattle.splitting.specs.Splits.{values, Halves, formed, cut, split, pairOf}
 use Rattle.passes.specs.Claims.{Counted}
 use Rattle.splitting.specs.Claims.{Formed}
 use Rattle.passes.proofs.Counts.{passes-counted}

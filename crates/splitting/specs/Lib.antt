@@ -1,4 +1,5 @@
-pub mod Slabs
+pub mod Numbers
 pub mod Splits
 pub mod Claims
+pub mod Rows
 pub mod Loops

@@ -1,34 +1,25 @@
--- How the work on a pair goes, stage by stage: the slab by flat indices, its columns, their values, the split. Definitions for loops only.
-use Prim.Native.Nat.{ℕ, _*_, _≤_}
+-- How the split of a slab's columns goes, stage by stage, by its rows and columns alone. Definitions for loops only.
+use Prim.Native.Nat.{ℕ, _≤_}
 use mathlib.Core.List.{List}
+use lib.Dec.{leb}
 use lib.Ieee.{Float}
-use Rattle.numbers.specs.Arithmetic.{zero64}
 use Rattle.answers.specs.declared.Part.the-variants.{Spectrum}
-use Rattle.answers.specs.Outcome.{Made, Answer, done, bind, making}
-use Rattle.lists.specs.Lists.{iter, grid}
-use Rattle.lists.specs.Floats.{cell, stored}
+use Rattle.answers.specs.declared.Refusal.the-variants.{PairRank}
+use Rattle.answers.specs.Outcome.{Made, Answer, done, bind, _then_, demand, making}
+use Rattle.lists.specs.Floats.{stored}
+use Rattle.shape.specs.Limits.{mostRank}
 use Rattle.rotation.specs.Rotation.{eye}
+use Rattle.values.specs.Values.{order, sorted, keptRank}
 use Rattle.passes.specs.Passes.{svd, Passes, orthogonalized}
-use Rattle.splitting.specs.Slabs.{plusProduct}
-use Rattle.splitting.specs.Splits.{mostLines, values, Halves, cut}
+use Rattle.slabs.specs.Slabs.{mostLines}
+use Rattle.splitting.specs.Rows.{Both, formedFrom}
+use Rattle.splitting.specs.Splits.{values}
 
 -- what the checks say of a slab's rows and columns
-pub record Lines (rl nj nk rr : ℕ) : Type 0 where
-  pub rows : rl * nj ≤ mostLines
-  pub columns : nk * rr ≤ mostLines
-  pub some : 1 ≤ nk * rr
-
--- row `row` of rows of k times column `col` of rows of w
-unfoldable pub slabAt : List Float → List Float → ℕ → ℕ → ℕ → ℕ → Float
-slabAt left right k w row col = iter k (λ (im : ℕ) (s : Float). plusProduct s (cell k left row im) (cell w right im col)) zero64
-
--- the columns of m rows of n
-abbrev pub columnsOf : ℕ → ℕ → List Float → List Float
-columnsOf m n s = grid n m (λ (col row : ℕ). cell n s row col)
-
--- the columns of the slab of m rows of k and k rows of w
-unfoldable pub slabColumns : (m k w : ℕ) → List Float → List Float → Made (List Float)
-slabColumns m k w left right = bind (stored (grid m w (slabAt left right k w))) (λ s. done (columnsOf m w s))
+pub record Lines (m n : ℕ) : Type 0 where
+  pub rows : m ≤ mostLines
+  pub columns : n ≤ mostLines
+  pub some : 1 ≤ n
 
 -- columns after their passes, and their values
 pub record Valued : Type 0 where
@@ -41,5 +32,21 @@ valuedFrom m n a =
     bind (stored (values m n (w .svd .columns))) (λ sv.
     done (record { passes = w; values = sv })))
 
-unfoldable pub splitFrom : Float → (rl nj nk rr : ℕ) → List Float → Answer Halves
-splitFrom eps rl nj nk rr a = bind (making Spectrum 0 (valuedFrom (rl * nj) (nk * rr) a)) (λ d. cut eps rl nj nk rr (d .passes) (d .values))
+-- the kept rank, the numbers of the two cores, and the passes made
+pub record Parted : Type 0 where
+  pub rank : ℕ
+  pub left : List Float
+  pub right : List Float
+  pub passes : ℕ
+
+abbrev pub parted : ℕ → ℕ → Both → Parted
+parted r c h = record { rank = r; left = h .left; right = h .right; passes = c }
+
+unfoldable pub cutFrom : Float → (m n : ℕ) → Passes → List Float → Answer Parted
+cutFrom eps m n w sv =
+    let ss = sorted n sv in
+    let r = keptRank eps n ss in
+    demand (leb r mostRank) PairRank then bind (formedFrom m n r ss (order n sv) (w .svd .columns) (w .svd .basis)) (λ h. done (parted r (w .count) h))
+
+unfoldable pub splitFrom : Float → (m n : ℕ) → List Float → Answer Parted
+splitFrom eps m n a = bind (making Spectrum 0 (valuedFrom m n a)) (λ d. cutFrom eps m n (d .passes) (d .values))

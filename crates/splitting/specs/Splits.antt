@@ -1,45 +1,27 @@
--- A slab split into two cores (003: `split_slab_into_cores`, 004: `one_sided_jacobi_svd`, `jacobi_extract_usvt`). Definitions only.
-use Prim.Native.Nat.{ℕ, _+_, _*_}
+-- A slab split into two cores (003: `split_slab_into_cores`, 004: `one_sided_jacobi_svd`). Definitions only.
+use Prim.Native.Nat.{ℕ, _*_}
 use mathlib.Core.List.{List}
 use lib.Dec.{leb}
-use lib.ListN.{getD}
-use lib.Ieee.{Float, lt}
-use Rattle.numbers.specs.Arithmetic.{times, over, zero64, one64}
+use lib.Ieee.{Float}
 use Rattle.numbers.specs.Root.{rootOf}
 use Rattle.answers.specs.declared.Part.the-variants.{Entry, Spectrum, Factor}
 use Rattle.answers.specs.declared.Refusal.the-variants.{PairRank}
 use Rattle.answers.specs.Outcome.{Answer, done, bind, _then_, demand, making}
-use Rattle.lists.specs.Lists.{pick, tab}
-use Rattle.lists.specs.Floats.{at, cell, stored}
+use Rattle.lists.specs.Lists.{tab}
+use Rattle.lists.specs.Floats.{stored}
 use Rattle.shape.specs.Limits.{mostRank}
-use Rattle.shape.specs.Cores.{Core, coreWith, block}
-use Rattle.cutform.specs.Values.{order, sorted, keptRank}
-use Rattle.splitting.specs.Slabs.{slab}
-use Rattle.passes.specs.Passes.{dot, Passes, orthogonalized, start}
-
--- the most rows of a slab, and the most columns
-abbrev pub mostLines : ℕ
-mostLines = 64
+use Rattle.shape.specs.Cores.{Core, coreWith}
+use Rattle.values.specs.Values.{order, sorted, keptRank}
+use Rattle.slabs.specs.Slabs.{slab}
+use Rattle.splitting.specs.Numbers.{leftNumbers, rightNumbers}
+use Rattle.columns.specs.Columns.{dot}
+use Rattle.passes.specs.Passes.{Passes, orthogonalized, start}
 
 -- the root of the sum of squares of each of n columns of m numbers, rows ascending
 unfoldable pub values : ℕ → ℕ → List Float → List Float
 values m n a = tab n (λ (col : ℕ). rootOf (dot m a col col))
 
 -- ---- the two new cores
--- 1/value, or 0 where the value isn't above zero: a column of such a value becomes zeros that keep their signs
-unfoldable pub inverse : Float → Float
-inverse value = pick (lt zero64 value) (over one64 value) zero64
-
--- (column * (1/value)) * value; r columns, column k the stored one at `js` k
-unfoldable pub leftNumbers : (rl nj r : ℕ) → List Float → List ℕ → List Float → List Float
-leftNumbers rl nj r ss js a =
-    block rl nj r (λ (il ij k : ℕ).
-    times (times (cell (rl * nj) a (getD js k 0) (il * nj + ij)) (inverse (at ss k))) (at ss k))
-
--- row k is the basis column at `js` k
-unfoldable pub rightNumbers : (r nk rr : ℕ) → List ℕ → List Float → List Float
-rightNumbers r nk rr js v = block r nk rr (λ (k ik ir : ℕ). cell (nk * rr) v (getD js k 0) (ik * rr + ir))
-
 -- what a pair becomes
 pub record Halves : Type 0 where
   pub left : Core

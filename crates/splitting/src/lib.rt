@@ -1,12 +1,8 @@
-// A slab of two neighbouring cores, and its columns split into two cores again.
+// What the split of a slab answers, and how a number of a column is rescaled for it.
 ghost use mathlib.Core.Path.{_≡_};
+ghost use Rattle.numbers.specs.Arithmetic.{times};
 ghost use Rattle.answers.specs.declared.Verdict.the-variants.{Refused};
-
-pub mod halves;
-pub mod slab;
-
-// The most rows of a slab, and the most columns.
-pub const MOST_LINES: usize = 64;
+ghost use Rattle.splitting.specs.Numbers.{inverse};
 
 // The kept rank and the passes made, the quiet one included; both are 0 after a refusal.
 pub struct Paired {
@@ -33,4 +29,21 @@ pub fn paired_as(verdict: answers::Verdict, rank: usize, passes: usize) -> Paire
         rank,
         passes,
     }
+}
+
+// 1/value, or 0 where the value isn't above zero.
+fn inverse(value: f64) -> f64
+    ensures { λ r. ⌜ r ≡ inverse value ⌝ }
+{
+    if 0.0 < value {
+        return 1.0 / value;
+    }
+    0.0
+}
+
+// A number of a column made of length 1, and long again.
+pub fn rescaled(x: f64, value: f64) -> f64
+    ensures { λ r. ⌜ r ≡ times (times x (inverse value)) value ⌝ }
+{
+    x * inverse(value) * value
 }

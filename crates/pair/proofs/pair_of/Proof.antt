@@ -1,7 +1,9 @@
 -- `pair::pair_of` meets its contract. Assumes nothing.
 use borrow.Author.Needs.{needs}
 use Prim.Native.Nat.{_-_}
-use Rattle.splitting.proofs.Formed.{columns-finite, pair-stop, pair-end}
+use mathlib.Core.Path.{_∙_}
+use Rattle.slabs.proofs.Columned.{columns-finite}
+use Rattle.splitting.proofs.Pairs.{pair-stop, pair-end}
 use Rattle.pair.proofs.pair_of.Statement.{statement}
 use Rattle.pair.proofs.pair_of.Tie as tie
 
@@ -12,10 +14,10 @@ returns : tie.Need-returns
 returns c = rw (c .refused-pair .ensures) (pair-stop _ _ _ _ _ (c .before .before .before .before .before .before .columns .ensures) _ _ (c .before .before .made .given .1))
 
 split-requires : tie.Need-split-requires
-split-requires c κs = (c .before .before .before .before .before .before .before .before .before .before .before .before .before .before .before .before .pre .0, search needs, columns-finite _ _ _ _ _ _ _ (c .before .before .before .before .before .before .before .columns .ensures) (c .before .before .before .enum-told .given .1), c .before .before .before .before .before .before .before .before .before .before .before .before .before .before .before .before .pre .4, c .before .before .before .before .before .before .before .before .before .before .before .before .before .before .before .before .pre .5)
+split-requires c κs = (c .before .before .before .before .before .before .before .before .before .before .before .before .before .before .before .before .pre .0, c .before .before .before .before .before .before .a .given ∙ c .before .before .before .before .before .before .before .before .before .before .before .before .before .before .before .before .pre .3, columns-finite _ _ _ _ _ _ _ (c .before .before .before .before .before .before .before .columns .ensures) (c .before .before .before .enum-told .given .1), c .before .before .before .before .before .before .before .before .before .before .before .before .before .before .before .before .pre .4, c .before .before .before .before .before .before .before .before .before .before .before .before .before .before .before .before .pre .5)
 
 returns-2 : tie.Need-returns-2
-returns-2 c = pair-end _ _ _ _ _ (c .before .before .before .before .before .before .before .before .before .before .before .before .before .before .columns .ensures) (c .before .before .before .before .before .before .before .before .before .before .enum-told .given .1) _ (c .before .before .before .before .before .before .split .ensures)
+returns-2 c = pair-end _ _ _ _ _ (c .before .before .before .before .before .before .before .before .before .before .before .before .before .before .columns .ensures) (c .before .before .before .before .before .before .before .before .before .before .enum-told .given .1) _ _ (c .before .before .before .before .before .before .split .ensures)
 
 pub pair-of-spec : {M : Type 1} → statement M
 pair-of-spec = tie.close (tie.spec

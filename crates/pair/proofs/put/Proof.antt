@@ -1,7 +1,7 @@
 -- `pair::put` meets its contract. Assumes nothing.
 use borrow.Author.Needs.{needs}
 use Prim.Native.Nat.{_-_}
-use Rattle.splitting.proofs.Formed.{put-is}
+use Rattle.pair.proofs.Fronts.{put-is}
 use Rattle.pair.proofs.put.Statement.{statement}
 use Rattle.pair.proofs.put.Tie as tie
 

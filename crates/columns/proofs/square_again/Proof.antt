@@ -1,0 +1,19 @@
+-- `columns::square_again` meets its contract. Assumes nothing.
+use borrow.Author.Needs.{needs}
+use Prim.Native.Nat.{_-_}
+use Rattle.columns.proofs.TwoColumns.{squared-again}
+use Rattle.columns.proofs.square_again.Statement.{statement}
+use Rattle.columns.proofs.square_again.Tie as tie
+
+returns : tie.Need-returns
+returns c = squared-again _ _ (c .before .before .before .args .a .now) (c .before .before .before .args .ss .now) _ _ _ _ (c .before .before .before .pre .1) (c .before .before .before .pre .2) (c .before .before .before .pre .3) (c .before .before .before .pre .4) (c .squares-of .ensures .0) (c .squares-of .ensures .1)
+
+pub square-again-spec : {M : Type 1} → statement M
+square-again-spec = tie.close (tie.spec
+    (λ c κs. search needs)
+    (λ c. search needs)
+    (λ c. search needs)
+    (λ c. search needs)
+    (λ c. search needs)
+    (λ c. search needs)
+    returns)

@@ -1,0 +1,21 @@
+-- `columns::stored_squared` meets its contract. Assumes nothing.
+use borrow.Author.Needs.{needs}
+use Prim.Native.Nat.{_-_}
+use Rattle.columns.proofs.TwoColumns.{two-squared}
+use Rattle.columns.proofs.stored_squared.Statement.{statement}
+use Rattle.columns.proofs.stored_squared.Tie as tie
+
+returns : tie.Need-returns
+returns c = two-squared _ _ _ _ _ (c .before .before .before .before .before .before .before .pre .0) (c .before .before .before .before .before .before .before .pre .1) (c .before .before .before .before .before .before .before .pre .2) (c .before .before .before .before .before .before .before .pre .3) _ (c .before .before .before .before .before .before .before .pre .4) _ _ (c .before .before .before .is-finite .ensures) (c .before .is-finite2 .ensures) (c .if1 .taken)
+
+pub stored-squared-spec : {M : Type 1} → statement M
+stored-squared-spec = tie.close (tie.spec
+    (λ c. search needs)
+    (λ c. search needs)
+    (λ c κs. search needs)
+    (λ c. search needs)
+    (λ c. search needs)
+    (λ c κs. search needs)
+    returns
+    (λ c κs. search needs)
+    (λ c. search needs))

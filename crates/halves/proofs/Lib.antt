@@ -1,0 +1,2 @@
+-- for the code: both cores, stage by stage
+pub mod Formed

@@ -1,0 +1,3 @@
+-- for the code: the kept rank, stages
+pub mod Kept
+pub mod Formed

@@ -1,0 +1,2 @@
+-- for the code: rotations, passes
+pub mod Rotated

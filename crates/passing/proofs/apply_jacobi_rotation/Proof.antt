@@ -1,0 +1,41 @@
+-- `passing::apply_jacobi_rotation` meets its contract. Assumes nothing.
+use borrow.Author.Needs.{needs}
+use Prim.Native.Nat.{_-_}
+use native.Mathlib.Omega.{arith}
+use Rattle.columns.proofs.TwoColumns.{squares-length, turned-length, turned-elsewhere, turned-squares}
+use Rattle.passing.proofs.Rotated.{turned-stop, turned-end}
+use Rattle.passing.proofs.apply_jacobi_rotation.Statement.{statement}
+use Rattle.passing.proofs.apply_jacobi_rotation.Tie as tie
+
+square-again-requires : tie.Need-square-again-requires
+square-again-requires c κs = (turned-length _ _ _ _ _ _ _ _ (c .before .before .before .before .before .before .before .before .turn .ensures), c .before .before .before .before .before .before .before .before .before .before .before .before .before .pre .0 .count, omega (arith, c .before .before .before .before .before .before .before .before .before .before .before .before .before .pre .1, c .before .before .before .before .before .before .before .before .before .before .before .before .before .pre .2), c .before .before .before .before .before .before .before .before .before .before .before .before .before .pre .2, turned-squares _ _ _ _ _ _ _ _ (c .before .before .before .before .before .before .before .before .turn .ensures) _ (c .before .before .before .before .before .before .before .before .before .before .before .before .before .pre .0 .kept))
+
+stored-squared-requires : tie.Need-stored-squared-requires
+stored-squared-requires c κs = (turned-length _ _ _ _ _ _ _ _ (c .before .before .before .before .before .before .before .before .before .before .before .before .before .turn .ensures), omega (arith, c .before .before .before .before .before .before .before .before .before .before .before .before .before .before .before .before .before .before .pre .1, c .before .before .before .before .before .before .before .before .before .before .before .before .before .before .before .before .before .before .pre .2), c .before .before .before .before .before .before .before .before .before .before .before .before .before .before .before .before .before .before .pre .2, turned-elsewhere _ _ _ _ _ _ _ _ (c .before .before .before .before .before .before .before .before .before .before .before .before .before .turn .ensures) (c .before .before .before .before .before .before .before .before .before .before .before .before .before .before .before .before .before .before .pre .0 .long) (c .before .before .before .before .before .before .before .before .before .before .before .before .before .before .before .before .before .before .pre .0 .fine), c .before .before .before .before .square-again .ensures, squares-length _ _ _ _ (c .before .before .before .before .square-again .ensures))
+
+returns : tie.Need-returns
+returns c = (turned-stop _ _ _ _ _ _ _ _ _ _ (c .before .before .before .before .before .before .before .before .before .before .before .before .before .before .before .before .before .turn .ensures) (c .before .before .before .before .before .before .before .before .before .before .before .before .before .turn2 .ensures) _ (c .before .before .before .stored-squared .ensures) _ _ (c .before .made .given .1), c .before .before .before .before .before .before .before .before .square-again .ensures)
+
+stored-but-requires : tie.Need-stored-but-requires
+stored-but-requires c κs = (turned-length _ _ _ _ _ _ _ _ (c .before .before .before .before .before .before .before .before .before .before .before .before .before .turn2 .ensures), omega (arith, c .before .before .before .before .before .before .before .before .before .before .before .before .before .before .before .before .before .before .before .before .before .before .pre .1, c .before .before .before .before .before .before .before .before .before .before .before .before .before .before .before .before .before .before .before .before .before .before .pre .2), c .before .before .before .before .before .before .before .before .before .before .before .before .before .before .before .before .before .before .before .before .before .before .pre .2, turned-elsewhere _ _ _ _ _ _ _ _ (c .before .before .before .before .before .before .before .before .before .before .before .before .before .turn2 .ensures) (c .before .before .before .before .before .before .before .before .before .before .before .before .before .before .before .before .before .before .before .before .before .before .pre .0 .wide) (c .before .before .before .before .before .before .before .before .before .before .before .before .before .before .before .before .before .before .before .before .before .before .pre .0 .basis-fine))
+
+returns-2 : tie.Need-returns-2
+returns-2 c = (turned-end _ _ _ _ _ _ _ _ _ _ (c .before .before .before .before .before .before .before .before .before .before .before .before .before .before .before .before .before .before .turn .ensures) (c .before .before .before .before .before .before .before .before .before .before .before .before .before .before .turn2 .ensures) _ (c .before .before .before .before .stored-squared .ensures) (c .before .before .enum-told .given .1) _ (c .stored-but .ensures), c .before .before .before .before .before .before .before .before .before .square-again .ensures)
+
+pub apply-jacobi-rotation-spec : {M : Type 1} → statement M
+apply-jacobi-rotation-spec = tie.close (tie.spec
+    (λ c κs. search needs)
+    (λ c κs. search needs)
+    square-again-requires
+    stored-squared-requires
+    (λ c. search needs)
+    (λ c. search needs)
+    (λ c. search needs)
+    (λ c. search needs)
+    returns
+    (λ c. search needs)
+    stored-but-requires
+    (λ c. search needs)
+    (λ c. search needs)
+    (λ c. search needs)
+    returns-2)

@@ -1,0 +1,3 @@
+pub mod Slabs
+-- for the code: its columns
+pub mod Columned
