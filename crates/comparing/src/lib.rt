@@ -4,7 +4,7 @@ ghost use mathlib.Core.Bool.{true};
 ghost use Rattle.comparing.specs.Same.{SameRecord};
 
 // Whether two numbers have the same bits.
-fn same_number(x: f64, y: f64) -> bool
+pub fn same_number(x: f64, y: f64) -> bool
     ensures { λ r. ⌜ (r ≡ true → x ≡ y) ⌝ }
 {
     digits::pattern(x) == digits::pattern(y)

@@ -1,9 +1,9 @@
--- `alike::all_are` meets its contract. Assumes nothing.
+-- `days::calls::all_are` meets its contract. Assumes nothing.
 use borrow.Author.Needs.{needs}
 use Prim.Native.Nat.{_-_, _≤_}
 use lib.ListN.{length}
-use Rattle.alike.proofs.all_are.Statement.{statement}
-use Rattle.alike.proofs.all_are.Tie as tie
+use Rattle.days.proofs.calls.all_are.Statement.{statement}
+use Rattle.days.proofs.calls.all_are.Tie as tie
 
 abbrev Inv-loop : tie.InvT-loop
 Inv-loop list x same₀ i₀ same i = i ≤ length list
