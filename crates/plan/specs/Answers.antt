@@ -6,9 +6,9 @@ use lib.Ieee.{Float}
 use Rattle.lists.specs.Floats.{zeros}
 use Rattle.axes.specs.declared.Axis.{Axis}
 use Rattle.kept.specs.Call.{FreshEnd, ReplaceEnd, freshCall, replaceCoreCall, replaceWeightsCall, replaceAxisCall}
-use Rattle.comparing.specs.Same.{SameRecord}
-use Rattle.example.specs.declared.plans.Plan.{Plan}
-use Rattle.example.specs.declared.plans.Answer.{Answer}
+use Rattle.comparing.specs.Same.{SameKept}
+use Rattle.plan.specs.declared.plans.Plan.{Plan}
+use Rattle.plan.specs.declared.plans.Answer.{Answer}
 
 -- the scratch of a call
 abbrev pub scratch : List Float
@@ -34,8 +34,5 @@ abbrev pub axisEnd : Plan → ℕ → Axis → ReplaceEnd
 axisEnd p z x = replaceAxisCall (p .run) z x (p .source) (p .weights) (p .chain) (p .carries) (p .sums) scratch
 
 -- two plans keep the same
-pub record SameKept (p q : Plan) : Type 0 where
-  pub bonds : SameRecord (p .run) (q .run)
-  pub chain : p .chain ≡ q .chain
-  pub carries : p .carries ≡ q .carries
-  pub sums : p .sums ≡ q .sums
+abbrev pub SamePlans : Plan → Plan → Type 0
+SamePlans p q = SameKept (p .run) (q .run) (p .chain) (q .chain) (p .carries) (q .carries) (p .sums) (q .sums)

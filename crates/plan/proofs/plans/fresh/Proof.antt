@@ -1,9 +1,9 @@
--- `example::plans::fresh` meets its contract. Assumes nothing.
+-- `plan::plans::fresh` meets its contract. Assumes nothing.
 use borrow.Author.Needs.{needs}
 use mathlib.Core.Path.{ap}
-use Rattle.example.specs.Answers.{freshAnswer}
-use Rattle.example.proofs.plans.fresh.Statement.{statement}
-use Rattle.example.proofs.plans.fresh.Tie as tie
+use Rattle.plan.specs.Answers.{freshAnswer}
+use Rattle.plan.proofs.plans.fresh.Statement.{statement}
+use Rattle.plan.proofs.plans.fresh.Tie as tie
 
 returns : tie.Need-returns
 unfolding freshAnswer

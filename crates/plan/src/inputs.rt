@@ -20,16 +20,6 @@ pub const MILL: usize = 2;
 
 pub const STATION: usize = 3;
 
-// Two kinds of weather between neighbours, mild and cold, and between Old Town and Mill also severe.
-fn shape() -> shape::Shape {
-    shape::Shape {
-        d: ZONES,
-        left: [1, 2, 3, 2, 2, 0, 0, 0, 0, 0, 0, 0, 0, 0, 0, 0],
-        n: [4, 5, 3, 6, 3, 0, 0, 0, 0, 0, 0, 0, 0, 0, 0, 0],
-        right: [2, 3, 2, 2, 1, 0, 0, 0, 0, 0, 0, 0, 0, 0, 0, 0],
-    }
-}
-
 // Harbour has 8 numbers, Old Town 30, Mill 18, Station 24, Hospital 6.
 fn cores() -> [f64; ENTRIES] {
     [
@@ -150,7 +140,7 @@ fn weights() -> [f64; POINTS] {
 }
 
 // Loads from 0 to 6 megawatts; a says how far they spread.
-fn axis(a: f64) -> axes::Axis {
+pub fn axis(a: f64) -> axes::Axis {
     axes::Axis {
         a,
         b: 0.1,
@@ -159,46 +149,36 @@ fn axis(a: f64) -> axes::Axis {
     }
 }
 
-// A step of a quarter of an hour, nothing added; what is below a millionth of the largest is rounded off.
-fn settings() -> stepping::Settings {
-    stepping::Settings {
-        tau: 0.25,
-        c: 0.0,
-        eps: 0.000001,
-    }
-}
-
-// A run that keeps nothing yet.
-fn record() -> kept::Run {
-    kept::Run {
-        shape: shape(),
+// Two kinds of weather between neighbours, mild and cold, and between Old Town and Mill also severe. A step of a quarter of an hour,
+// nothing added; what is below a millionth of the largest is rounded off. The run keeps nothing yet.
+pub fn plan() -> super::plans::Plan {
+    let shape = shape::Shape {
+        d: ZONES,
+        left: [1, 2, 3, 2, 2, 0, 0, 0, 0, 0, 0, 0, 0, 0, 0, 0],
+        n: [4, 5, 3, 6, 3, 0, 0, 0, 0, 0, 0, 0, 0, 0, 0, 0],
+        right: [2, 3, 2, 2, 1, 0, 0, 0, 0, 0, 0, 0, 0, 0, 0, 0],
+    };
+    let run = kept::Run {
+        shape,
         axes: [axis(0.04); shape::MOST_AXES],
-        set: settings(),
+        set: stepping::Settings {
+            tau: 0.25,
+            c: 0.0,
+            eps: 0.000001,
+        },
         ranks: [0; shape::MOST_AXES],
         sweeps: [0; shape::MOST_AXES],
         settled: [false; shape::MOST_AXES],
         figure: 0.0,
-    }
-}
-
-pub fn plan() -> super::plans::Plan {
-    let source = cores();
-    let weights = weights();
+    };
     super::plans::Plan {
-        run: record(),
-        source,
-        weights,
+        run,
+        source: cores(),
+        weights: weights(),
         chain: [0.0; ENTRIES],
         carries: [0.0; CARRIES],
         sums: [0.0; SUMS],
     }
-}
-
-// ---- what the day brings
-
-// A wider pipe at Station: its fifth load is within the limit.
-pub fn wider_pipe() -> [f64; 6] {
-    [1.0, 1.0, 1.0, 1.0, 1.0, 0.5]
 }
 
 // A new forecast for Old Town, in which severe weather always has a quarter of the chance of cold weather.
@@ -235,13 +215,4 @@ pub fn new_forecast() -> [f64; 30] {
         0.064,
         0.016,
     ]
-}
-
-// Mill's loads spread less, first with a slip of the pen, then as it was meant.
-pub fn slip() -> axes::Axis {
-    axis(-0.01)
-}
-
-pub fn insulated() -> axes::Axis {
-    axis(0.01)
 }

@@ -1,9 +1,9 @@
--- `example::plans::new_core` meets its contract. Assumes nothing.
+-- `plan::plans::new_core` meets its contract. Assumes nothing.
 use borrow.Author.Needs.{needs}
 use mathlib.Core.Path.{ap}
-use Rattle.example.specs.Answers.{replaceAnswer}
-use Rattle.example.proofs.plans.new_core.Statement.{statement}
-use Rattle.example.proofs.plans.new_core.Tie as tie
+use Rattle.plan.specs.Answers.{replaceAnswer}
+use Rattle.plan.proofs.plans.new_core.Statement.{statement}
+use Rattle.plan.proofs.plans.new_core.Tie as tie
 
 returns : tie.Need-returns
 unfolding replaceAnswer

@@ -1,8 +1,8 @@
--- `printing::blanks` meets its contract. Assumes nothing.
+-- `plan::print::blanks` meets its contract. Assumes nothing.
 use borrow.Author.Needs.{needs}
 use Prim.Native.Nat.{_-_}
-use Rattle.printing.proofs.blanks.Statement.{statement}
-use Rattle.printing.proofs.blanks.Tie as tie
+use Rattle.plan.proofs.print.blanks.Statement.{statement}
+use Rattle.plan.proofs.print.blanks.Tie as tie
 
 abbrev Inv-loop : tie.InvT-loop
 Inv-loop width length at₀ t4 at = Unit {0}

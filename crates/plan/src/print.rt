@@ -1,5 +1,4 @@
 // Pieces of text on standard output: words, numbers, a figure, a refusal.
-mod reasons;
 
 pub fn say(words: &[u8]) {
     io::write_all(libc::STDOUT_FILENO, words);
@@ -50,5 +49,5 @@ pub fn refusal(q: answers::Refusal) {
     say(b" at ");
     number(answers::place(q));
     say(b": ");
-    reasons::reason(n);
+    super::reasons::reason(n);
 }

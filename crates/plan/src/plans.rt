@@ -1,7 +1,9 @@
 // The plan with its run, by value: a record and five arrays; a fresh run of it, and the replacement of one zone's core, weights
-// or axis record.
+// or axis record; and whether it keeps the bits of a fresh run.
 ghost use mathlib.Core.Path.{_≡_};
-ghost use Rattle.example.specs.Answers.{freshEnd, freshAnswer, coreEnd, weightsEnd, axisEnd, replaceAnswer};
+ghost use mathlib.Core.Bool.{true};
+ghost use Rattle.comparing.specs.Same.{SameKept};
+ghost use Rattle.plan.specs.Answers.{freshEnd, freshAnswer, coreEnd, weightsEnd, axisEnd, replaceAnswer, SamePlans};
 
 pub struct Plan {
     pub run: kept::Run,
@@ -155,4 +157,37 @@ pub fn new_axis(p: Plan, z: usize, x: axes::Axis) -> Answer
         sums,
     };
     Answer { verdict, plan }
+}
+
+// Whether two runs of the plan's sizes keep the same.
+fn same_kept(
+    chain: [f64; super::inputs::ENTRIES],
+    chain2: [f64; super::inputs::ENTRIES],
+    carries: [f64; super::inputs::CARRIES],
+    carries2: [f64; super::inputs::CARRIES],
+    sums: [f64; super::inputs::SUMS],
+    sums2: [f64; super::inputs::SUMS],
+    a: kept::Run,
+    b: kept::Run,
+) -> bool
+    ensures { λ r. ⌜ (r ≡ true → SameKept a b chain chain2 carries carries2 sums sums2) ⌝ }
+{
+    comparing::same_kept(a, b, &chain, &chain2, &carries, &carries2, &sums, &sums2)
+}
+
+// A fresh run is made, and every number that is kept is compared.
+pub fn as_fresh(p: Plan) -> bool
+    ensures { λ r. ⌜ (r ≡ true → SamePlans p (freshAnswer p (freshEnd p) .plan)) ⌝ }
+{
+    let a = fresh(p);
+    let q = a.plan;
+    let chain = p.chain;
+    let chain2 = q.chain;
+    let carries = p.carries;
+    let carries2 = q.carries;
+    let sums = p.sums;
+    let sums2 = q.sums;
+    let run = p.run;
+    let run2 = q.run;
+    same_kept(chain, chain2, carries, carries2, sums, sums2, run, run2)
 }
