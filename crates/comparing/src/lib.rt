@@ -1,10 +1,10 @@
 // Two kept runs beside each other, number by number and bit by bit.
 ghost use mathlib.Core.Path.{_≡_};
 ghost use mathlib.Core.Bool.{true};
-ghost use Rattle.comparing.specs.Same.{SameRecord};
+ghost use Rattle.comparing.specs.Same.{SameRecord, SameKept};
 
 // Whether two numbers have the same bits.
-fn same_number(x: f64, y: f64) -> bool
+pub fn same_number(x: f64, y: f64) -> bool
     ensures { λ r. ⌜ (r ≡ true → x ≡ y) ⌝ }
 {
     digits::pattern(x) == digits::pattern(y)
@@ -73,4 +73,24 @@ pub fn same_record(a: kept::Run, b: kept::Run) -> bool
         return false;
     }
     same_number(a.figure, b.figure)
+}
+
+// Whether two runs keep the same: their records, chains, carries and sums.
+pub fn same_kept(
+    a: kept::Run,
+    b: kept::Run,
+    chain: &[f64],
+    chain2: &[f64],
+    carries: &[f64],
+    carries2: &[f64],
+    sums: &[f64],
+    sums2: &[f64],
+) -> bool
+    ensures { λ r. ⌜ (r ≡ true → SameKept a b (now (chain .entry)) (now (chain2 .entry)) (now (carries .entry)) (now (carries2 .entry)) (now (sums .entry)) (now (sums2 .entry))) ⌝ }
+{
+    let record = same_record(a, b);
+    let cores = same_numbers(chain, chain2);
+    let carried = same_numbers(carries, carries2);
+    let summed = same_numbers(sums, sums2);
+    record & cores & carried & summed
 }

@@ -1,272 +1,255 @@
-// One turn of a day: a replacement, and a fresh run beside it, compared. What a run holds stands in one list: source, weights, chain,
-// carries, sums.
-// What is to be told of a flaw that no fresh run has.
-fn flaw_told(q: drawing::asks::Ask) -> turning::Told {
-    if q.flaw <= drawing::asks::RANK_ABOVE {
-        return turning::Told {
-            number: 3,
-            place: q.spot,
-        };
-    }
-    if q.flaw == drawing::asks::ZONE {
-        return turning::Told {
-            number: 4,
-            place: 0,
-        };
-    }
-    if q.flaw == drawing::asks::LENGTH {
-        return turning::Told {
-            number: 5,
-            place: 5,
-        };
-    }
-    if q.flaw == drawing::asks::SCRATCH {
-        return turning::Told {
-            number: 5,
-            place: scratch_place(q.kind),
-        };
-    }
-    if q.flaw == drawing::asks::FIGURE {
-        return turning::Told {
-            number: 6,
-            place: 0,
-        };
-    }
-    turning::Told {
-        number: 6,
-        place: q.spot,
-    }
+// One turn of a day: a replacement, and a fresh run beside it, compared.
+use super::calls;
+use drawing::asks;
+use drawing::parts;
+
+// Whether a fresh run with the new part in is to answer the same.
+fn as_fresh(q: asks::Ask) -> bool {
+    asks::NOT_FINITE <= q.flaw
 }
 
-fn scratch_place(kind: usize) -> usize {
-    if kind == drawing::asks::AXIS {
-        return 5;
+// What is to be told: as a fresh run, where there can be one, and else by the flaw.
+fn expected(q: asks::Ask, fresh: calls::Told) -> calls::Told {
+    let flaw = q.flaw;
+    if asks::NOT_FINITE <= flaw {
+        return fresh;
     }
-    6
-}
-
-// What is to be told at all: as a fresh run with the new part in, where there can be one.
-fn expected(q: drawing::asks::Ask, v: answers::Verdict) -> turning::Told {
-    if drawing::asks::as_fresh(q) {
-        return turning::reading(v);
+    let mut lent = q.lent;
+    if (lent == asks::SCRATCH) & (q.kind != asks::AXIS) {
+        lent = 6;
     }
-    flaw_told(q)
-}
-
-fn alike(a: turning::Told, b: turning::Told) -> bool {
-    (a.number == b.number) & (a.place == b.place)
+    let numbers = [3, 3, 4, 5, 5, 6, 6];
+    let places = [q.spot, q.spot, 0, 5, lent, q.spot, 0];
+    calls::Told {
+        number: numbers[flaw],
+        place: places[flaw],
+    }
 }
 
 // ---- the fresh run
-// A new part that is in order goes into source or weights.
-fn put_part(q: drawing::asks::Ask, s: shape::Shape, part: &[f64], held: &mut [f64]) {
-    let z = q.zone;
-    if !drawing::asks::as_fresh(q) {
-        return;
-    }
-    if q.kind == drawing::asks::CORE {
-        drawing::counts::paste(drawing::plans::core_at(s, z), part, held);
-        return;
-    }
-    if q.kind == drawing::asks::WEIGHTS {
-        let p = drawing::plans::standing(s);
-        let at = drawing::counts::plus(p.weights, drawing::plans::weights_at(s, z));
-        drawing::counts::paste(at, part, held);
-    }
-}
-
-// Or a new record among the records.
-fn put_axis(
-    q: drawing::asks::Ask,
-    xs: [axes::Axis; shape::MOST_AXES],
-) -> [axes::Axis; shape::MOST_AXES] {
-    let mut list = xs;
+// The run with a new record that is in order, or its lists with a new part.
+fn renewed(q: asks::Ask, r: kept::Run, part: &[f64], held: &mut [f64; calls::HELD]) -> kept::Run {
+    let mut run = r;
+    let mut xs = r.axes;
+    let s = r.shape;
     let z = q.zone;
     let a = q.axis;
-    if drawing::asks::as_fresh(q) & (q.kind == drawing::asks::AXIS) {
-        if z < shape::MOST_AXES {
-            list[z] = a;
+    if as_fresh(q) {
+        let at = drawing::plans::starts(s, z);
+        if q.kind == asks::CORE {
+            parts::paste(at.core, part, held);
+        }
+        if q.kind == asks::WEIGHTS {
+            parts::paste(
+                std::num::wrapping_add_usize(calls::WEIGHTS, at.weights),
+                part,
+                held,
+            );
+        }
+        if q.kind == asks::AXIS {
+            if z < shape::MOST_AXES {
+                xs[z] = a;
+            }
         }
     }
-    list
+    run.axes = xs;
+    run
 }
 
 // ---- what others wrote
 // The record as others wrote to it.
-fn spoilt(q: drawing::asks::Ask, r: kept::Run) -> kept::Run {
+fn spoilt(q: asks::Ask, r: kept::Run) -> kept::Run {
     let mut t = r;
     let s = r.shape;
     let k = q.spot;
     if k < shape::MOST_AXES {
-        if q.flaw == drawing::asks::RANK_ZERO {
+        if q.flaw == asks::RANK_ZERO {
             t.ranks[k] = 0;
         }
-        if q.flaw == drawing::asks::RANK_ABOVE {
-            t.ranks[k] = drawing::counts::plus(s.right[k], 1);
+        if q.flaw == asks::RANK_ABOVE {
+            t.ranks[k] = std::num::wrapping_add_usize(s.right[k], 1);
         }
     }
-    if q.flaw == drawing::asks::FIGURE {
-        t.figure = drawing::asks::nan();
+    if q.flaw == asks::FIGURE {
+        t.figure = q.wrong;
     }
     t
 }
 
-// Where they wrote to a list, or its end.
-fn spoilt_place(q: drawing::asks::Ask, s: shape::Shape) -> usize {
-    let p = drawing::plans::standing(s);
-    let k = q.spot;
-    if q.flaw == drawing::asks::CHAIN {
-        return drawing::counts::plus(p.chain, drawing::plans::core_at(s, k));
+// Where they wrote to a list, or behind all.
+fn spoilt_place(q: asks::Ask, s: shape::Shape) -> usize {
+    let list = q.spoilt;
+    if 4 < list {
+        return calls::HELD;
     }
-    if q.flaw == drawing::asks::CARRIES {
-        return drawing::counts::plus(p.carries, drawing::plans::carry_at(s, k));
+    let at = drawing::plans::starts(s, q.spot);
+    let lists = [0, calls::WEIGHTS, calls::CHAIN, calls::CARRIES, calls::SUMS];
+    let zones = [at.core, at.weights, at.core, at.carry, at.sums];
+    std::num::wrapping_add_usize(lists[list], zones[list])
+}
+
+fn replace(
+    q: asks::Ask,
+    r: kept::Run,
+    part: &[f64],
+    held: &mut [f64; calls::HELD],
+) -> calls::Ended {
+    let s = r.shape;
+    let n = calls::lengths_of(s, q.lent);
+    if q.kind == asks::CORE {
+        return calls::core(q, r, n, part, held);
     }
-    if q.flaw == drawing::asks::SUMS {
-        return drawing::counts::plus(p.sums, drawing::plans::sums_at(s, k));
+    if q.kind == asks::WEIGHTS {
+        return calls::weights(q, r, n, part, held);
     }
-    p.end
+    calls::axis(q, r, n, held)
 }
 
 // The replacement on the run as others wrote to it, where that is the flaw; what they wrote must stand after it, and is put right.
 fn replace_spoilt(
-    q: drawing::asks::Ask,
+    q: asks::Ask,
     r: kept::Run,
-    held: &mut [f64],
     part: &[f64],
-) -> turning::Ended {
+    held: &mut [f64; calls::HELD],
+) -> calls::Ended {
     let s = r.shape;
     let at = spoilt_place(q, s);
-    let nan = drawing::asks::nan();
+    let was = parts::exchanged(held, at, q.wrong);
     let t = spoilt(q, r);
-    let was = drawing::counts::exchanged(held, at, nan);
-    let end = turning::replace(q, t, held, part);
-    let found = drawing::counts::exchanged(held, at, was);
+    let end = replace(q, t, part, held);
+    let found = parts::exchanged(held, at, was);
     let ran = end.ran;
-    let stands = alike::same_number(found, nan);
-    turning::Ended {
+    let stands = comparing::same_number(found, q.wrong);
+    calls::Ended {
         ran,
         clean: end.clean & stands,
     }
 }
 
 // ---- the comparison
-// Whether what is kept of the zones before z is as it was.
-fn untouched(z: usize, s: shape::Shape, held: &[f64], before: &[f64]) -> bool {
-    let p = drawing::plans::standing(s);
-    let n = drawing::plans::core_at(s, z);
-    let m = drawing::plans::carry_at(s, z);
-    let l = drawing::plans::sums_at(s, z);
-    let cores = alike::same_list(
-        drawing::counts::window(held, p.chain, n),
-        drawing::counts::window(before, p.chain, n),
-    );
-    let carried = alike::same_list(
-        drawing::counts::window(held, p.carries, m),
-        drawing::counts::window(before, p.carries, m),
-    );
-    let summed = alike::same_list(
-        drawing::counts::window(held, p.sums, l),
-        drawing::counts::window(before, p.sums, l),
-    );
-    cores & carried & summed
+fn same_axis(a: axes::Axis, b: axes::Axis) -> bool {
+    let shift = comparing::same_number(a.a, b.a) & comparing::same_number(a.b, b.b);
+    let ends = comparing::same_number(a.xmin, b.xmin) & comparing::same_number(a.xmax, b.xmax);
+    shift & ends
 }
 
-// What was found of the lists: as the fresh run's, as they were, as they were before the zone.
+// Whether two runs are made from shapes and records that are the same.
+fn same_zones(a: kept::Run, b: kept::Run) -> bool {
+    let s = a.shape;
+    let t = b.shape;
+    let x = a.axes;
+    let y = b.axes;
+    let mut same = s.d == t.d;
+    let mut k = 0;
+    while k < shape::MOST_AXES {
+        let ranks = (s.left[k] == t.left[k]) & (s.right[k] == t.right[k]);
+        let axis = same_axis(x[k], y[k]);
+        same = same & ranks & (s.n[k] == t.n[k]) & axis;
+        k += 1;
+    }
+    same
+}
+
+// Two records, in every field.
+fn same_run(a: kept::Run, b: kept::Run) -> bool {
+    let s = a.set;
+    let t = b.set;
+    let times = comparing::same_number(s.tau, t.tau) & comparing::same_number(s.c, t.c);
+    let settings = times & comparing::same_number(s.eps, t.eps);
+    settings & same_zones(a, b) & comparing::same_record(a, b)
+}
+
+// What was found of the lists: as the fresh run's, as they were, and what is kept of the zones before z as it was.
 struct Found {
     fresh: bool,
     still: bool,
     apart: bool,
 }
 
-fn look(z: usize, s: shape::Shape, held: &[f64], before: &[f64], fresh: &[f64]) -> Found {
+fn look(
+    n: drawing::plans::Places,
+    held: &[f64; calls::HELD],
+    before: &[f64; calls::HELD],
+    fresh: &[f64; calls::HELD],
+) -> Found {
+    let cores = comparing::same_numbers(
+        parts::window(held, calls::CHAIN, n.core),
+        parts::window(before, calls::CHAIN, n.core),
+    );
+    let carried = comparing::same_numbers(
+        parts::window(held, calls::CARRIES, n.carry),
+        parts::window(before, calls::CARRIES, n.carry),
+    );
+    let summed = comparing::same_numbers(
+        parts::window(held, calls::SUMS, n.sums),
+        parts::window(before, calls::SUMS, n.sums),
+    );
     Found {
-        fresh: alike::same_list(held, fresh),
-        still: alike::same_list(held, before),
-        apart: untouched(z, s, held, before),
+        fresh: comparing::same_numbers(held, fresh),
+        still: comparing::same_numbers(held, before),
+        apart: cores & carried & summed,
     }
 }
 
-// Whether a replacement that was not refused is right.
-fn accepted(got: kept::Ran, want: kept::Ran, f: Found) -> bool {
+// Whether an answer is right: one that is no refusal has the fresh run's bits and no zone before the named one written; a refused
+// one left the run alone, and the run, where the flaw is none of its inputs', is still the fresh one.
+fn right(q: asks::Ask, r: kept::Run, got: kept::Ran, want: kept::Ran, f: Found) -> bool {
+    let v = got.verdict;
+    let w = want.verdict;
     let a = got.run;
     let b = want.run;
-    let same = alike::same_run(a, b);
-    same & f.fresh & f.apart
-}
-
-// Whether a refused one left the run alone, and the run, where the flaw is none of its inputs', is still the fresh one.
-fn refused(q: drawing::asks::Ask, r: kept::Run, got: kept::Ran, want: kept::Ran, f: Found) -> bool {
-    let a = got.run;
-    let b = want.run;
+    let told = calls::reading(v);
+    let due = expected(q, calls::reading(w));
+    let agrees = (told.number == due.number) & (told.place == due.place);
+    if told.number == 0 {
+        return agrees & same_run(a, b) & f.fresh & f.apart;
+    }
     let t = spoilt(q, r);
-    let back = alike::same_run(a, t) & f.still;
-    if drawing::asks::as_fresh(q) {
-        return back;
-    }
-    let same = alike::same_run(r, b);
-    back & same & f.fresh
+    let left = agrees & same_run(a, t) & f.still;
+    left & (as_fresh(q) | (same_run(r, b) & f.fresh))
 }
 
-// The run after a turn, the number of its refusal, 0 for none, and whether all was as it must be.
+// The run after a turn and its lists, the number of its refusal, 0 for none, and whether all was as it must be.
 pub struct Turned {
     pub run: kept::Run,
+    pub held: [f64; calls::HELD],
     pub number: usize,
     pub agrees: bool,
 }
 
-fn judged(
-    q: drawing::asks::Ask,
-    r: kept::Run,
-    got: turning::Ended,
-    want: turning::Ended,
-    f: Found,
-) -> Turned {
-    let a = got.ran;
-    let b = want.ran;
-    let v = a.verdict;
-    let w = b.verdict;
-    let t = turning::reading(v);
-    let clean = got.clean & want.clean & alike(t, expected(q, w));
-    if t.number == 0 {
-        let run = a.run;
-        return Turned {
-            run,
-            number: 0,
-            agrees: clean & accepted(a, b, f),
-        };
+// Whether a fresh run that is refused left alone what it was to write.
+fn unwritten(v: answers::Verdict, held: &[f64; calls::HELD]) -> bool {
+    if calls::reading(v).number == 0 {
+        return true;
     }
-    Turned {
-        run: r,
-        number: t.number,
-        agrees: clean & refused(q, r, a, b, f),
-    }
-}
-
-fn turn_on(
-    q: drawing::asks::Ask,
-    r: kept::Run,
-    held: &mut [f64],
-    part: &[f64],
-    before: &mut [f64],
-    fresh: &mut [f64],
-) -> Turned {
-    let s = r.shape;
-    let set = r.set;
-    let old = r.axes;
-    let xs = put_axis(q, old);
-    drawing::counts::paste(0, held, before);
-    drawing::counts::paste(0, held, fresh);
-    put_part(q, s, part, fresh);
-    let got = replace_spoilt(q, r, held, part);
-    let want = turning::make(xs, s, set, fresh);
-    let f = look(q.zone, s, held, before, fresh);
-    judged(q, r, got, want, f)
+    calls::all_are(parts::window(held, calls::CHAIN, calls::KEPT), calls::MARK)
 }
 
 // One turn: what is asked is done on the run that is held, and a fresh run is made beside it.
-pub fn turn(q: drawing::asks::Ask, r: kept::Run, held: &mut [f64], part: &[f64]) -> Turned {
-    let mut before = [0.0; turning::HELD];
-    let mut fresh = [0.0; turning::HELD];
-    let n = drawing::counts::at_most(turning::HELD, held.len());
-    turn_on(q, r, held, part, &mut before[0..n], &mut fresh[0..n])
+pub fn turn(q: asks::Ask, r: kept::Run, held: [f64; calls::HELD], part: &[f64]) -> Turned {
+    let s = r.shape;
+    let mut now = held;
+    let mut fresh = held;
+    lists::fill(&mut fresh[calls::CHAIN..], calls::MARK);
+    let end = replace_spoilt(q, r, part, &mut now);
+    let with = renewed(q, r, part, &mut fresh);
+    let beside = calls::fresh(with, calls::lengths_of(s, asks::NO_LIST), &mut fresh);
+    let got = end.ran;
+    let want = beside.ran;
+    let w = want.verdict;
+    let alone = unwritten(w, &fresh);
+    let f = look(drawing::plans::starts(s, q.zone), &now, &held, &fresh);
+    let agrees = right(q, r, got, want, f) & end.clean & beside.clean & alone;
+    let v = got.verdict;
+    let number = calls::reading(v).number;
+    let mut run = r;
+    if number == 0 {
+        run = got.run;
+    }
+    Turned {
+        run,
+        held: now,
+        number,
+        agrees,
+    }
 }

@@ -1,13 +1,20 @@
 // What a turn asks for: a replacement, drawn, in order or with one flaw.
-ghost use Prim.Native.Nat.{_≤_};
-ghost use lib.ListN.{length};
+use super::chance;
+use super::plans;
 
-// The three replacements.
+// The three replacements; the new part of the first two goes into list 0 or 1.
 pub const CORE: usize = 0;
 
 pub const WEIGHTS: usize = 1;
 
 pub const AXIS: usize = 2;
+
+// ---- the lists of a call in their order: source, weights, chain, carries, sums, scratch
+const CARRIES: usize = 3;
+
+pub const SCRATCH: usize = 5;
+
+pub const NO_LIST: usize = 6;
 
 // ---- the flaws, each by the refusal that it is to bring. Those before NOT_FINITE are about the call or about a run that others
 // wrote to, and no fresh run can have them.
@@ -17,38 +24,38 @@ pub const RANK_ZERO: usize = 0;
 pub const RANK_ABOVE: usize = 1;
 
 // 4
-pub const ZONE: usize = 2;
+const ZONE: usize = 2;
 
-// 5: the part, or scratch
-pub const LENGTH: usize = 3;
+// 5: the part, or one of the lists
+const PART: usize = 3;
 
-pub const SCRATCH: usize = 4;
+const LENT: usize = 4;
 
-// 6: a NaN that others wrote into what is kept
-pub const CHAIN: usize = 5;
+// 6: a NaN or an infinity that others wrote into a list of the run, or into its figure
+const HELD: usize = 5;
 
-pub const CARRIES: usize = 6;
-
-pub const SUMS: usize = 7;
-
-pub const FIGURE: usize = 8;
+pub const FIGURE: usize = 6;
 
 // 6: in the new part
-pub const NOT_FINITE: usize = 9;
+pub const NOT_FINITE: usize = 7;
 
 // 7
-pub const BELOW_ZERO: usize = 10;
+const BELOW_ZERO: usize = 8;
 
 // 8, where anything is shifted
-pub const TOO_FAR: usize = 11;
+const TOO_FAR: usize = 9;
 
 // 9, nearly always
-pub const OVERFLOW: usize = 12;
+const OVERFLOW: usize = 10;
 
-pub const NONE: usize = 13;
+const NONE: usize = 11;
 
-// Of so many draws those from NONE on are in order.
-const DRAWS: usize = 30;
+// Of so many draws those from NONE on are in order, but the last few, which are LENT and then HELD: those have several lists.
+const DRAWS: usize = 36;
+
+const MORE_LENT: usize = 30;
+
+const MORE_HELD: usize = 32;
 
 pub struct Ask {
     pub kind: usize,
@@ -56,134 +63,92 @@ pub struct Ask {
     // the zone that is named, and the one that others wrote to
     pub zone: usize,
     pub spot: usize,
+    // the list that others wrote to, and the one whose length is wrong
+    pub spoilt: usize,
+    pub lent: usize,
     // how many numbers the part has
     pub length: usize,
+    // a NaN or an infinity
+    pub wrong: f64,
     pub axis: axes::Axis,
-}
-
-pub fn nan() -> f64 {
-    0.0 / 0.0
-}
-
-// Whether a fresh run with the new part in is to answer the same.
-pub fn as_fresh(q: Ask) -> bool {
-    NOT_FINITE <= q.flaw
+    // from which the next is drawn
+    pub seed: usize,
 }
 
 // A flaw that a chain of d cores can have: one core has no bond.
-fn flaw(seed: &mut usize, d: usize) -> usize {
-    let drawn = super::chance::below(seed, DRAWS);
-    if d < 2 {
-        if (drawn <= RANK_ABOVE) | (drawn == CARRIES) {
-            return NONE;
-        }
+fn flaw(x: usize, d: usize) -> usize {
+    let drawn = chance::below(x, DRAWS);
+    if MORE_HELD <= drawn {
+        return HELD;
+    }
+    if MORE_LENT <= drawn {
+        return LENT;
+    }
+    if (d < 2) & (drawn <= RANK_ABOVE) {
+        return NONE;
     }
     drawn
 }
 
 // The replacement that can have the flaw.
-fn kind(seed: &mut usize, flaw: usize) -> usize {
-    let drawn = super::chance::below(seed, 3);
+fn kind(x: usize, flaw: usize) -> usize {
     if (flaw == BELOW_ZERO) | (flaw == TOO_FAR) {
         return AXIS;
     }
-    if (flaw == LENGTH) | (flaw == OVERFLOW) {
-        return drawn % 2;
+    if (flaw == PART) | (flaw == OVERFLOW) {
+        return chance::below(x, 2);
+    }
+    chance::below(x, 3)
+}
+
+// One of the first n lists, where one is wanted; without a bond there are no carries.
+fn list(wanted: bool, x: usize, n: usize, d: usize) -> usize {
+    if !wanted {
+        return NO_LIST;
+    }
+    let drawn = chance::below(x, n);
+    if (d < 2) & (drawn == CARRIES) {
+        return 0;
     }
     drawn
 }
 
 // The zone that others wrote to: one with a bond on its right where the flaw is in a bond.
-fn spot(seed: &mut usize, flaw: usize, d: usize) -> usize {
-    let k = super::chance::below(seed, d);
-    if k < 1 {
-        return 0;
-    }
-    if (flaw <= RANK_ABOVE) | (flaw == CARRIES) {
-        return k - 1;
+fn spot(x: usize, d: usize, bond: bool) -> usize {
+    let k = chance::below(x, d);
+    if bond {
+        if 1 <= k {
+            return k - 1;
+        }
     }
     k
 }
 
-// How many numbers stand from one place to the next.
-fn between(from: usize, to: usize) -> usize {
-    if to < from {
-        return 0;
-    }
-    to - from
-}
-
-// How many numbers a core or the weights of a zone are.
-fn size(s: shape::Shape, kind: usize, z: usize) -> usize {
-    let next = super::counts::plus(z, 1);
+// How many numbers the part has; one more or one less where the flaw is that.
+fn length(s: shape::Shape, z: usize, kind: usize, flaw: usize) -> usize {
+    let from = plans::starts(s, z);
+    let to = plans::starts(s, std::num::wrapping_add_usize(z, 1));
+    let mut n = std::num::wrapping_sub_usize(to.weights, from.weights);
     if kind == CORE {
-        return between(super::plans::core_at(s, z), super::plans::core_at(s, next));
+        n = std::num::wrapping_sub_usize(to.core, from.core);
     }
-    between(
-        super::plans::weights_at(s, z),
-        super::plans::weights_at(s, next),
-    )
+    if flaw == PART {
+        n = n ^ 1;
+    }
+    n
 }
 
-// One number too many or too few where the flaw is that.
-fn flawed_length(seed: &mut usize, flaw: usize, n: usize) -> usize {
-    let more = super::chance::below(seed, 2);
-    if flaw != LENGTH {
-        return n;
-    }
-    if n < 1 {
-        return 1;
-    }
-    if more == 0 {
-        return n - 1;
-    }
-    super::counts::plus(n, 1)
-}
-
-// The numbers of the part.
-fn scale(seed: &mut usize, flaw: usize, kind: usize) -> f64 {
-    let drawn = super::chance::scale(seed);
-    let half = super::chance::below(seed, 2);
-    if flaw != OVERFLOW {
-        return drawn;
-    }
-    if kind == WEIGHTS {
-        return 8e307;
-    }
-    if half == 0 {
-        return 1e150;
-    }
-    1e200
-}
-
-// A NaN or an infinity.
-fn not_finite(seed: &mut usize) -> f64 {
-    let kind = super::chance::below(seed, 3);
-    if kind == 0 {
-        return 1.0 / 0.0;
-    }
-    if kind == 1 {
-        return -1.0 / 0.0;
-    }
-    nan()
-}
-
-fn write_part(seed: &mut usize, flaw: usize, kind: usize, part: &mut [f64]) {
-    let by = scale(seed, flaw, kind);
-    super::chance::fill(seed, by, part);
-    let at = super::chance::below(seed, part.len());
-    let x = not_finite(seed);
-    if flaw == NOT_FINITE {
-        super::counts::put(part, at, x);
-    }
+fn not_finite(x: usize) -> f64 {
+    let wrong = [1.0 / 0.0, -1.0 / 0.0, 0.0 / 0.0];
+    let k = chance::below(x, 3);
+    wrong[k]
 }
 
 // An axis record with the flaw.
-fn axis(seed: &mut usize, flaw: usize) -> axes::Axis {
-    let mut a = super::plans::axis(seed);
-    let x = not_finite(seed);
+fn axis(x: usize, flaw: usize, wrong: f64) -> axes::Axis {
+    let mut a = plans::axis(x);
     if flaw == NOT_FINITE {
-        a.b = x;
+        a.b = wrong;
     }
     if flaw == BELOW_ZERO {
         a.a = -0.25;
@@ -195,28 +160,61 @@ fn axis(seed: &mut usize, flaw: usize) -> axes::Axis {
     a
 }
 
-// What the next turn asks; the numbers of its part stand at the front of `part`.
-pub fn drawn(seed: &mut usize, s: shape::Shape, part: &mut [f64]) -> Ask {
+// What the next turn asks.
+pub fn drawn(seed: usize, s: shape::Shape) -> Ask {
     let d = s.d;
-    let flaw = flaw(seed, d);
-    let kind = kind(seed, flaw);
-    let spot = spot(seed, flaw, d);
-    let mut zone = super::chance::below(seed, d);
-    let whole = size(s, kind, zone);
-    let flawed = flawed_length(seed, flaw, whole);
-    let length = super::counts::at_most(part.len(), flawed);
-    write_part(seed, flaw, kind, &mut part[0..length]);
-    let axis = axis(seed, flaw);
-    let past = super::chance::below(seed, 3);
+    let x = chance::next(seed);
+    let y = chance::next(x);
+    let next = chance::next(y);
+    let flaw = flaw(x, d);
+    let kind = kind(x / 64, flaw);
+    let spoilt = list(flaw == HELD, x / 256, 5, d);
+    let bond = (flaw <= RANK_ABOVE) | (spoilt == CARRIES);
+    let mut zone = chance::below(y, d);
+    let length = length(s, zone, kind, flaw);
+    let wrong = not_finite(y / 16);
     if flaw == ZONE {
-        zone = super::counts::plus(d, past);
+        zone = std::num::wrapping_add_usize(d, y % 3);
     }
     Ask {
         kind,
         flaw,
         zone,
-        spot,
+        spot: spot(y / 64, d, bond),
+        spoilt,
+        lent: list(flaw == LENT, x / 256, 6, d),
         length,
-        axis,
+        wrong,
+        axis: axis(next, flaw, wrong),
+        seed: next,
+    }
+}
+
+// What the numbers of a part are scaled by: mostly 1, else so little that squares vanish, much, or 0; too much where that is the
+// flaw.
+fn scale(x: usize, flaw: usize, kind: usize) -> f64 {
+    if flaw == OVERFLOW {
+        if kind == WEIGHTS {
+            return 8e307;
+        }
+        let much = [1e150, 1e200];
+        let k = chance::below(x, 2);
+        return much[k];
+    }
+    let k = chance::below(x, 20);
+    if k < 3 {
+        let rare = [1e-170, 1e40, 0.0];
+        return rare[k];
+    }
+    1.0
+}
+
+// The numbers of the part that is asked for, at the front of a list.
+pub fn write_part(q: Ask, part: &mut [f64]) {
+    let x = q.seed ^ 0x5851_f42d_4c95_7f2d;
+    let by = scale(x, q.flaw, q.kind);
+    chance::fill(x, by, part);
+    if q.flaw == NOT_FINITE {
+        super::parts::exchanged(part, chance::below(x, q.length), q.wrong);
     }
 }

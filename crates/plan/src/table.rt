@@ -1,8 +1,9 @@
 // The table of zones: what their inputs have, and what the run keeps of the bond behind each.
 ghost use Prim.Native.Nat.{_<_};
 ghost use Rattle.shape.specs.Limits.{mostAxes};
-use example::inputs;
-use printing::say;
+use super::inputs;
+use super::print;
+use super::print::say;
 
 fn name(z: usize) {
     match z {
@@ -14,21 +15,13 @@ fn name(z: usize) {
     }
 }
 
-fn sizes(s: shape::Shape, z: usize)
-    requires { ⌜ z < mostAxes ⌝ }
-{
-    printing::column(s.left[z], 12);
-    printing::column(s.n[z], 8);
-    printing::column(s.right[z], 12);
-}
-
 fn bond(r: kept::Run, z: usize)
     requires { ⌜ z < mostAxes ⌝ }
 {
-    printing::column(r.ranks[z], 11);
-    printing::column(r.sweeps[z], 8);
+    print::column(r.ranks[z], 11);
+    print::column(r.sweeps[z], 8);
     say(b"  ");
-    printing::yes(r.settled[z]);
+    print::yes(r.settled[z]);
 }
 
 fn row(r: kept::Run, z: usize)
@@ -36,7 +29,9 @@ fn row(r: kept::Run, z: usize)
 {
     name(z);
     let s = r.shape;
-    sizes(s, z);
+    print::column(s.left[z], 12);
+    print::column(s.n[z], 8);
+    print::column(s.right[z], 12);
     if z + 1 < inputs::ZONES {
         bond(r, z);
     }

@@ -1,22 +1,23 @@
 -- `drawing::chance::fill` meets its contract. Assumes nothing.
-use borrow.Author.Needs.{needs}
 use Prim.Native.Nat.{_-_}
 use mathlib.Core.Path.{_≡_}
 use lib.ListN.{length}
+use borrow.Author.Needs.{needs}
 use Rattle.drawing.proofs.chance.fill.Statement.{statement}
 use Rattle.drawing.proofs.chance.fill.Tie as tie
 
 abbrev Inv-loop : tie.InvT-loop
-Inv-loop seed₀ scale out₀ i₀ seed out i = length out ≡ length out₀
+Inv-loop seed scale out₀ x₀ i₀ out x i = length out ≡ length out₀
 
 abbrev μ-loop : tie.MeasureT-loop
-μ-loop seed₀ scale out₀ i₀ seed out i = length out₀ - i
+μ-loop seed scale out₀ x₀ i₀ out x i = length out₀ - i
 
 pub fill-spec : {M : Type 1} → statement M
 fill-spec = tie.close (tie.spec
     Inv-loop
     μ-loop
     (λ c. search needs)
+    (λ c κs. search needs)
     (λ c κs. search needs)
     (λ c. search needs)
     (λ c. search needs)

@@ -12,4 +12,7 @@ unfolding inFloat
 int-to-float-result c = le→leb (c .before .below .result) (2 ^ 53) (omega arith)
 
 pub whole-spec : {M : Type 1} → statement M
-whole-spec = tie.close (tie.spec (λ c κs. search needs) int-to-float-result (λ c. search needs))
+whole-spec = tie.close (tie.spec
+    (λ c κs. search needs)
+    int-to-float-result
+    (λ c. search needs))

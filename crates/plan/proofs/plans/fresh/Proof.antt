@@ -1,0 +1,21 @@
+-- `plan::plans::fresh` meets its contract. Assumes nothing.
+use borrow.Author.Needs.{needs}
+use mathlib.Core.Path.{ap}
+use Rattle.plan.specs.Answers.{freshAnswer}
+use Rattle.plan.proofs.plans.fresh.Statement.{statement}
+use Rattle.plan.proofs.plans.fresh.Tie as tie
+
+returns : tie.Need-returns
+unfolding freshAnswer
+returns c = ap (freshAnswer (c .before .before .before .before .before .before .before .before .before .before .before .before .before .before .before .before .before .before .before .before .before .args .p)) (c .before .before .before .before .before .fresh-run .ensures)
+
+pub fresh-spec : {M : Type 1} → statement M
+fresh-spec = tie.close (tie.spec
+    (λ c. search needs)
+    (λ c. search needs)
+    (λ c. search needs)
+    (λ c. search needs)
+    (λ c. search needs)
+    (λ c. search needs)
+    (λ c κs. search needs)
+    returns)

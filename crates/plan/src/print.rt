@@ -1,0 +1,53 @@
+// Pieces of text on standard output: words, numbers, a figure, a refusal.
+
+pub fn say(words: &[u8]) {
+    io::write_all(libc::STDOUT_FILENO, words);
+}
+
+pub fn number(n: usize) {
+    io::print_decimal(libc::STDOUT_FILENO, n as u64);
+}
+
+// As many blanks as a column of this width has in front of a text of that length.
+fn blanks(width: usize, length: usize) {
+    let mut at = length;
+    while at < width {
+        say(b" ");
+        at += 1;
+    }
+}
+
+// A number at the right end of a column.
+pub fn column(n: usize, width: usize) {
+    let mut digits = [0u8; 20];
+    let k = io::decimal(n as u64, &mut digits);
+    blanks(width, k);
+    say(&digits[..k]);
+}
+
+pub fn yes(b: bool) {
+    if b {
+        say(b"yes");
+    } else {
+        say(b"NO");
+    }
+}
+
+// The figure, once as a planner reads it and once to the last bit.
+pub fn figure(x: f64) {
+    say(b"chance ");
+    say(&digits::chance(x));
+    say(b"   bits ");
+    say(&digits::bits(x));
+    say(b"\n");
+}
+
+// A refusal by its number, its place and the words of the table.
+pub fn refusal(q: answers::Refusal) {
+    let n = answers::number(q);
+    number(n as usize);
+    say(b" at ");
+    number(answers::place(q));
+    say(b": ");
+    super::reasons::reason(n);
+}
