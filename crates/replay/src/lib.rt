@@ -1,35 +1,22 @@
-// A list of cases as programs read it from standard input: words of eight bytes, the lowest first.
+// A list of cases as a program reads it from standard input: words of eight bytes, the lowest first.
 ghost use mathlib.Core.Path.{_≡_};
 ghost use Prim.Native.Nat.{_≤_};
 ghost use lib.ListN.{length};
 
-// The bytes of `high`, and after them b as the lowest.
-fn joined(high: u64, b: u8) -> u64 {
-    high << 8 | b as u64
-}
+// What stands in an output or in scratch before a call, and its bits.
+pub const MARK: f64 = 7.5;
+
+const ROOM: usize = 32768;
+
+pub const MARK_BITS: u64 = 0x401e_0000_0000_0000;
 
 // One word; bytes past the end of the input count as 0.
 pub fn word() -> u64 {
     let mut b = [0u8; 8];
     io::read_full(libc::STDIN_FILENO, &mut b);
-    let high = joined(joined(joined(joined(0, b[7]), b[6]), b[5]), b[4]);
-    joined(joined(joined(joined(high, b[3]), b[2]), b[1]), b[0])
-}
-
-fn at_most(most: usize, n: usize) -> usize
-    ensures { λ r. ⌜ r ≤ most ⌝ }
-{
-    if n <= most {
-        return n;
-    }
-    most
-}
-
-// A word that says how many follow, at most `most`.
-pub fn count(most: usize) -> usize
-    ensures { λ r. ⌜ r ≤ most ⌝ }
-{
-    at_most(most, word() as usize)
+    let low = words::u32_at(&b, 0);
+    let high = words::u32_at(&b, 4);
+    (low + 4294967296 * high) as u64
 }
 
 // The number of a word's bits; one NaN stands for all.
@@ -40,43 +27,61 @@ pub fn number(bits: u64) -> f64 {
     f64::from_bits(bits)
 }
 
-// As many numbers as fit, each by its bits.
-fn numbers(out: &mut [f64])
-    ensures { λ _. ⌜ length (now (out .exit)) ≡ length (now (out .entry)) ⌝ }
+// Room for more numbers than a list has.
+pub fn room() -> [f64; ROOM]
+    ensures { λ r. ⌜ 32768 ≡ length r ⌝ }
 {
+    [MARK; ROOM]
+}
+
+// The first n numbers of a room, of which it has at least one; all where n is more.
+pub fn lent(room: &mut [f64], n: usize) -> &mut [f64] {
+    if room.len() < n {
+        return room;
+    }
+    &mut room[0..n]
+}
+
+// How many numbers follow, then each: the front of a room that holds them.
+pub fn list(room: &mut [f64]) -> &mut [f64] {
+    let list = lent(room, word() as usize);
     let mut i = 0;
-    while i < out.len() {
-        out[i] = number(word());
+    while i < list.len() {
+        list[i] = number(word());
         i += 1;
     }
+    list
 }
 
-// How many numbers follow, then each, to the front of `out`.
-pub fn list(out: &mut [f64]) -> usize
-    ensures { λ r. ⌜ r ≤ length (now (out .exit)) ⌝ }
-{
-    let n = count(out.len());
-    numbers(&mut out[0..n]);
-    n
+// The word that follows while i is below n, then `rest`.
+fn wanted(i: usize, n: usize, rest: u64) -> u64 {
+    if i < n {
+        return word();
+    }
+    rest
 }
 
-// d, then the three sizes of each core; of more cores than a shape can have, those that it can.
-pub fn shape() -> shape::Shape {
-    let mut left = [0; shape::MOST_AXES];
-    let mut n = [0; shape::MOST_AXES];
-    let mut right = [0; shape::MOST_AXES];
-    let d = word() as usize;
-    let cores = at_most(shape::MOST_AXES, d);
+// The n sizes that follow, and 0 behind them; of more than an array has, those that it has.
+fn sizes(n: usize) -> [usize; shape::MOST_AXES] {
+    let mut list = [0; shape::MOST_AXES];
     let mut k = 0;
-    while k < cores {
-        left[k] = word() as usize;
-        n[k] = word() as usize;
-        right[k] = word() as usize;
+    while k < shape::MOST_AXES {
+        list[k] = wanted(k, n, 0) as usize;
         k += 1;
     }
+    list
+}
+
+// d, then the left ranks of the cores, their sizes, their right ranks.
+pub fn shape() -> shape::Shape {
+    let d = word() as usize;
+    let left = sizes(d);
+    let n = sizes(d);
+    let right = sizes(d);
     shape::Shape { d, left, n, right }
 }
 
+// ---- what a call answered and left
 // Whether a call answered what a case says: 0 and 0 where it is accepted, else the number and the place.
 pub fn verdict(v: answers::Verdict) -> bool {
     let number = word();
@@ -88,85 +93,59 @@ pub fn verdict(v: answers::Verdict) -> bool {
     }
 }
 
-// ---- what a call left
-// Whether every number is x, a zero of either sign being zero.
-pub fn all_are(list: &[f64], x: f64) -> bool {
-    let mut all = true;
+// Whether the n numbers that follow, by their bits, are at the front of a list, and `rest` behind them.
+pub fn holds(list: &[f64], n: usize, rest: u64) -> bool {
+    let mut all = n <= list.len();
     let mut i = 0;
     while i < list.len() {
-        all = all & (list[i] == x);
+        all = all & (digits::pattern(list[i]) == wanted(i, n, rest));
         i += 1;
     }
     all
 }
 
-// Whether two numbers are the same, or both none.
-fn same(x: f64, y: f64) -> bool {
-    (x == y) | ((x != x) & (y != y))
+// Whether scratch is unwritten after a call that a check refused, and +0 after any other.
+pub fn scratch_left(v: answers::Verdict, scratch: &[f64]) -> bool {
+    if let answers::Verdict::Refused(r) = v {
+        if answers::number(r) <= 8 {
+            return holds(scratch, 0, MARK_BITS);
+        }
+    }
+    holds(scratch, 0, 0)
 }
 
-// Whether two lists hold the same numbers.
-pub fn same_numbers(a: &[f64], b: &[f64]) -> bool {
-    if a.len() != b.len() {
-        return false;
-    }
+// Whether the n counts that follow are the first of an array, and 0 behind them.
+pub fn counts(list: [usize; shape::MOST_AXES], n: usize) -> bool {
     let mut all = true;
-    let mut i = 0;
-    while i < a.len() {
-        all = all & same(a[i], b[i]);
-        i += 1;
+    let mut k = 0;
+    while k < shape::MOST_AXES {
+        all = all & (list[k] == wanted(k, n, 0) as usize);
+        k += 1;
     }
     all
 }
 
-// Whether the counts that follow are the first of an array.
-pub fn counts(list: [usize; shape::MOST_AXES]) -> bool {
-    let n = count(shape::MOST_AXES);
+// The same of flags, 1 and 0.
+pub fn flags(list: [bool; shape::MOST_AXES], n: usize) -> bool {
     let mut all = true;
-    let mut i = 0;
-    while i < n {
-        all = all & (list[i] == word() as usize);
-        i += 1;
+    let mut k = 0;
+    while k < shape::MOST_AXES {
+        all = all & (list[k] == (wanted(k, n, 0) == 1));
+        k += 1;
     }
     all
 }
 
-fn flag(b: bool) -> u64 {
-    if b {
-        return 1;
-    }
-    0
-}
-
-// Whether the flags that follow, 1 and 0, are the first of an array.
-pub fn flags(list: [bool; shape::MOST_AXES]) -> bool {
-    let n = count(shape::MOST_AXES);
-    let mut all = true;
-    let mut i = 0;
-    while i < n {
-        all = all & (flag(list[i]) == word());
-        i += 1;
-    }
-    all
-}
-
-// Whether the numbers that follow are those of a list.
-fn numbers_are(list: &[f64]) -> bool {
-    let mut all = true;
-    let mut i = 0;
-    while i < list.len() {
-        all = all & (list[i] == number(word()));
-        i += 1;
-    }
-    all
-}
-
-// Whether the numbers that follow are at the front of a list, and the rest is +0.
-pub fn packed(list: &[f64]) -> bool {
-    let n = count(list.len());
-    let front = numbers_are(&list[0..n]);
-    let rest = all_are(&list[n..], 0.0);
-    front & rest
+// Whether a shape is the one that follows, and 0 in the places behind.
+pub fn shape_is(s: shape::Shape) -> bool {
+    let d = word() as usize;
+    let left = s.left;
+    let n = s.n;
+    let right = s.right;
+    let lefts = counts(left, d);
+    let points = counts(n, d);
+    let rights = counts(right, d);
+    (s.d == d) & lefts & points & rights
 }
 
 // A number as a line of standard output.
