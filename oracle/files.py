@@ -2,7 +2,7 @@
 """Chain files and what the scope says of them, as the last list that `replays` reads: oracle/files.py > file.list
 
 Everything here is written from the scope's section on the chain file, and shares nothing with the code that it tests. A case
-starts with its kind: 0 reading (bytes, room; number and place, or 0 and 0; shape; what the room holds at the end), 1 writing
+starts with its kind: 0 reading (bytes, room; number and place, or 0 and 0; shape; room, and what it holds at the end), 1 writing
 (shape, chain, the output's length; number and place; what the output holds at the end), 2 the listing (bytes; text). A word has
 eight bytes, the lowest first; bytes stand behind a word that says how many.
 """
@@ -137,9 +137,9 @@ def reading(data, room):
     case = words(0) + counted(data) + words(room)
     try:
         cores, bits = read(data, room)
-        case += words(0, 0) + shaped(len(cores), cores) + words(*(bits + [0] * (room - len(bits))))
+        case += words(0, 0) + shaped(len(cores), cores) + words(room, *bits, *[0] * (room - len(bits)))
     except Refused as r:
-        case += words(*r.args, 0) + words(*([BEFORE] * room))
+        case += words(*r.args, 0, room, *[BEFORE] * room)
     cases.append(case)
 
 

@@ -1,26 +1,26 @@
 // A list of cases as a program reads it from standard input: words of eight bytes, the lowest first.
 ghost use mathlib.Core.Path.{_≡_};
-ghost use Prim.Native.Nat.{_≤_};
 ghost use lib.ListN.{length};
 
 // What stands in an output or in scratch before a call, and its bits.
-pub const MARK: f64 = 7.5;
+const MARK: f64 = 7.5;
+
+pub const MARK_BITS: usize = 0x401e_0000_0000_0000;
 
 const ROOM: usize = 32768;
 
-pub const MARK_BITS: u64 = 0x401e_0000_0000_0000;
-
 // One word; bytes past the end of the input count as 0.
-pub fn word() -> u64 {
+pub fn word() -> usize {
     let mut b = [0u8; 8];
     io::read_full(libc::STDIN_FILENO, &mut b);
     let low = words::u32_at(&b, 0);
     let high = words::u32_at(&b, 4);
-    (low + 4294967296 * high) as u64
+    low + 4294967296 * high
 }
 
-// The number of a word's bits; one NaN stands for all.
-pub fn number(bits: u64) -> f64 {
+// A number by its bits; one NaN stands for all.
+pub fn number() -> f64 {
+    let bits = word() as u64;
     if bits % 0x8000_0000_0000_0000 > 0x7ff0_0000_0000_0000 {
         return 0.0 / 0.0;
     }
@@ -34,8 +34,9 @@ pub fn room() -> [f64; ROOM]
     [MARK; ROOM]
 }
 
-// The first n numbers of a room, of which it has at least one; all where n is more.
-pub fn lent(room: &mut [f64], n: usize) -> &mut [f64] {
+// As many numbers of a room as the word that follows says, or all.
+pub fn lent(room: &mut [f64]) -> &mut [f64] {
+    let n = word();
     if room.len() < n {
         return room;
     }
@@ -44,17 +45,17 @@ pub fn lent(room: &mut [f64], n: usize) -> &mut [f64] {
 
 // How many numbers follow, then each: the front of a room that holds them.
 pub fn list(room: &mut [f64]) -> &mut [f64] {
-    let list = lent(room, word() as usize);
+    let list = lent(room);
     let mut i = 0;
     while i < list.len() {
-        list[i] = number(word());
+        list[i] = number();
         i += 1;
     }
     list
 }
 
 // The word that follows while i is below n, then `rest`.
-fn wanted(i: usize, n: usize, rest: u64) -> u64 {
+fn wanted(i: usize, n: usize, rest: usize) -> usize {
     if i < n {
         return word();
     }
@@ -66,7 +67,7 @@ fn sizes(n: usize) -> [usize; shape::MOST_AXES] {
     let mut list = [0; shape::MOST_AXES];
     let mut k = 0;
     while k < shape::MOST_AXES {
-        list[k] = wanted(k, n, 0) as usize;
+        list[k] = wanted(k, n, 0);
         k += 1;
     }
     list
@@ -74,7 +75,7 @@ fn sizes(n: usize) -> [usize; shape::MOST_AXES] {
 
 // d, then the left ranks of the cores, their sizes, their right ranks.
 pub fn shape() -> shape::Shape {
-    let d = word() as usize;
+    let d = word();
     let left = sizes(d);
     let n = sizes(d);
     let right = sizes(d);
@@ -87,18 +88,18 @@ pub fn verdict(v: answers::Verdict) -> bool {
     let number = word();
     let place = word();
     match v {
-        answers::Verdict::Fits => number == 0,
-        answers::Verdict::Refused(r) => (number == answers::number(r) as u64)
-            & (place == answers::place(r) as u64),
+        answers::Verdict::Fits => (number == 0) & (place == 0),
+        answers::Verdict::Refused(r) => (number == answers::number(r) as usize)
+            & (place == answers::place(r)),
     }
 }
 
 // Whether the n numbers that follow, by their bits, are at the front of a list, and `rest` behind them.
-pub fn holds(list: &[f64], n: usize, rest: u64) -> bool {
+pub fn holds(list: &[f64], n: usize, rest: usize) -> bool {
     let mut all = n <= list.len();
     let mut i = 0;
     while i < list.len() {
-        all = all & (digits::pattern(list[i]) == wanted(i, n, rest));
+        all = all & (digits::pattern(list[i]) == wanted(i, n, rest) as u64);
         i += 1;
     }
     all
@@ -119,7 +120,7 @@ pub fn counts(list: [usize; shape::MOST_AXES], n: usize) -> bool {
     let mut all = true;
     let mut k = 0;
     while k < shape::MOST_AXES {
-        all = all & (list[k] == wanted(k, n, 0) as usize);
+        all = all & (list[k] == wanted(k, n, 0));
         k += 1;
     }
     all
@@ -138,7 +139,7 @@ pub fn flags(list: [bool; shape::MOST_AXES], n: usize) -> bool {
 
 // Whether a shape is the one that follows, and 0 in the places behind.
 pub fn shape_is(s: shape::Shape) -> bool {
-    let d = word() as usize;
+    let d = word();
     let left = s.left;
     let n = s.n;
     let right = s.right;
@@ -149,7 +150,7 @@ pub fn shape_is(s: shape::Shape) -> bool {
 }
 
 // A number as a line of standard output.
-pub fn print(n: u64) {
-    io::print_decimal(libc::STDOUT_FILENO, n);
+pub fn print(n: usize) {
+    io::print_decimal(libc::STDOUT_FILENO, n as u64);
     io::write_all(libc::STDOUT_FILENO, &[b'\n']);
 }

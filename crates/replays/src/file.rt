@@ -9,8 +9,9 @@ fn room() -> [u8; 9000]
     [0xaa; 9000]
 }
 
-// The first n bytes of a room, or all where n is more.
-fn lent(room: &mut [u8], n: usize) -> &mut [u8] {
+// As many bytes of a room as the word that follows says, or all.
+fn lent(room: &mut [u8]) -> &mut [u8] {
+    let n = replay::word();
     if room.len() < n {
         return room;
     }
@@ -19,25 +20,26 @@ fn lent(room: &mut [u8], n: usize) -> &mut [u8] {
 
 // How many bytes follow, then each: the front of a room that holds them.
 fn bytes(room: &mut [u8]) -> &mut [u8] {
-    let list = lent(room, replay::word() as usize);
+    let list = lent(room);
     io::read_full(libc::STDIN_FILENO, list);
     list
 }
 
+fn byte() -> u8 {
+    let mut b = [0u8; 1];
+    io::read_full(libc::STDIN_FILENO, &mut b);
+    b[0]
+}
+
 // Whether the bytes that follow are these.
 fn same_bytes(got: &[u8]) -> bool {
-    let mut a = room();
-    let want = bytes(&mut a);
-    if want.len() != got.len() {
-        return false;
-    }
-    let mut same = true;
+    let mut all = replay::word() == got.len();
     let mut i = 0;
     while i < got.len() {
-        same = same & (got[i] == want[i]);
+        all = all & (got[i] == byte());
         i += 1;
     }
-    same
+    all
 }
 
 // Reading: bytes, the length of the output, then the verdict, the shape, and what the output holds at the end.
@@ -45,14 +47,13 @@ fn reads() -> bool {
     let mut a = room();
     let mut b = replay::room();
     let file = bytes(&mut a);
-    let n = replay::word() as usize;
-    let out = replay::lent(&mut b, n);
+    let out = replay::lent(&mut b);
     let r = chainfile::read_chain(file, out);
     let verdict = r.verdict;
     let shape = r.shape;
     let told = replay::verdict(verdict);
     let shaped = replay::shape_is(shape);
-    told & shaped & replay::holds(out, n, 0)
+    told & shaped & replay::holds(out, replay::word(), 0)
 }
 
 // Writing: shape, chain, the length of the output, then the verdict, and what the output holds at the end.
@@ -61,7 +62,7 @@ fn writes() -> bool {
     let mut b = room();
     let s = replay::shape();
     let chain = replay::list(&mut a);
-    let out = lent(&mut b, replay::word() as usize);
+    let out = lent(&mut b);
     let told = replay::verdict(chainfile::write_chain(s, chain, out));
     told & same_bytes(out)
 }

@@ -1,7 +1,5 @@
 // The lists of cases one behind the other: inner products, roundings, steps and evolves, pairs, chain files. Of each prints how
 // many cases it has, and how many agree.
-ghost use Prim.Native.Nat.{_≤_};
-
 mod file;
 mod inner;
 mod pairs;
@@ -9,9 +7,9 @@ mod round;
 mod step;
 
 // Above the cases of any list: a count that is out of step is cut down, so that the program ends.
-const MOST_CASES: u64 = 4096;
+const MOST_CASES: usize = 4096;
 
-fn agrees(list: u64) -> bool {
+fn agrees(list: usize) -> bool {
     match list {
         0 => inner::agrees(),
         1 => round::agrees(),
@@ -21,7 +19,7 @@ fn agrees(list: u64) -> bool {
     }
 }
 
-fn agreed(list: u64, cases: u64) -> u64 {
+fn agreed(list: usize, cases: usize) -> usize {
     let mut good = 0;
     let mut i = 0;
     while i < cases {
@@ -33,7 +31,7 @@ fn agreed(list: u64, cases: u64) -> u64 {
     good
 }
 
-fn replayed(list: u64) {
+fn replayed(list: usize) {
     let cases = replay::word();
     replay::print(cases);
     replay::print(agreed(list, cases % MOST_CASES));

@@ -1,14 +1,14 @@
 // Pairs.
 
 fn sizes() -> pair::Sizes {
-    let rl = replay::word() as usize;
-    let n = replay::word() as usize;
-    let rr = replay::word() as usize;
+    let rl = replay::word();
+    let n = replay::word();
+    let rr = replay::word();
     pair::Sizes { rl, n, rr }
 }
 
 // What stands in an output behind the numbers that a case says: +0, and what was there before where the call was refused.
-fn behind(v: answers::Verdict) -> u64 {
+fn behind(v: answers::Verdict) -> usize {
     match v {
         answers::Verdict::Fits => 0,
         answers::Verdict::Refused(_) => replay::MARK_BITS,
@@ -19,11 +19,11 @@ fn behind(v: answers::Verdict) -> u64 {
 fn ended(w: splitting::Paired, lefts: &[f64], rights: &[f64], scratch: &[f64]) -> bool {
     let verdict = w.verdict;
     let told = replay::verdict(verdict);
-    let rank = w.rank == replay::word() as usize;
-    let passes = w.passes == replay::word() as usize;
+    let rank = w.rank == replay::word();
+    let passes = w.passes == replay::word();
     let rest = behind(verdict);
-    let left = replay::holds(lefts, replay::word() as usize, rest);
-    let right = replay::holds(rights, replay::word() as usize, rest);
+    let left = replay::holds(lefts, replay::word(), rest);
+    let right = replay::holds(rights, replay::word(), rest);
     let clear = replay::scratch_left(verdict, scratch);
     told & rank & passes & left & right & clear
 }
@@ -37,12 +37,12 @@ pub fn agrees() -> bool {
     let mut z = replay::room();
     let l = sizes();
     let r = sizes();
-    let eps = replay::number(replay::word());
+    let eps = replay::number();
     let left = replay::list(&mut a);
     let right = replay::list(&mut b);
-    let lefts = replay::lent(&mut x, replay::word() as usize);
-    let rights = replay::lent(&mut y, replay::word() as usize);
-    let scratch = replay::lent(&mut z, replay::word() as usize);
+    let lefts = replay::lent(&mut x);
+    let rights = replay::lent(&mut y);
+    let scratch = replay::lent(&mut z);
     let w = pair::contract_and_split(l, r, eps, left, right, lefts, rights, scratch);
     ended(w, lefts, rights, scratch)
 }

@@ -8,9 +8,9 @@ pub fn ended(r: rounding::Rounded, chain: &[f64], scratch: &[f64]) -> bool {
     let settled = r.settled;
     let told = replay::verdict(verdict);
     let shaped = replay::shape_is(shape);
-    let made = replay::counts(sweeps, replay::word() as usize);
-    let small = replay::flags(settled, replay::word() as usize);
-    let entries = replay::holds(chain, replay::word() as usize, 0);
+    let made = replay::counts(sweeps, replay::word());
+    let small = replay::flags(settled, replay::word());
+    let entries = replay::holds(chain, replay::word(), 0);
     let left = replay::scratch_left(verdict, scratch);
     told & shaped & made & small & entries & left
 }
@@ -20,9 +20,9 @@ pub fn agrees() -> bool {
     let mut a = replay::room();
     let mut b = replay::room();
     let s = replay::shape();
-    let eps = replay::number(replay::word());
+    let eps = replay::number();
     let chain = replay::list(&mut a);
-    let scratch = replay::lent(&mut b, replay::word() as usize);
+    let scratch = replay::lent(&mut b);
     let r = rounding::tt_round(s, eps, chain, scratch);
     ended(r, chain, scratch)
 }

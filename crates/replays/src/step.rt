@@ -11,10 +11,10 @@ const BLANK: axes::Axis = axes::Axis {
 };
 
 fn record() -> axes::Axis {
-    let a = replay::number(replay::word());
-    let b = replay::number(replay::word());
-    let xmin = replay::number(replay::word());
-    let xmax = replay::number(replay::word());
+    let a = replay::number();
+    let b = replay::number();
+    let xmin = replay::number();
+    let xmax = replay::number();
     axes::Axis { a, b, xmin, xmax }
 }
 
@@ -31,7 +31,7 @@ fn records(count: usize) -> [axes::Axis; shape::MOST_AXES] {
 
 // The call of a case: kind 0 is a step, any other an evolve.
 fn call(
-    kind: u64,
+    kind: usize,
     s: shape::Shape,
     p: evolving::Course,
     xs: [axes::Axis; shape::MOST_AXES],
@@ -56,20 +56,20 @@ pub fn agrees() -> bool {
     let mut b = replay::room();
     let kind = replay::word();
     let s = replay::shape();
-    let count = replay::word() as usize / 4 % MOST_RECORDS;
+    let count = replay::word() / 4 % MOST_RECORDS;
     let xs = records(count);
-    let c = replay::number(replay::word());
-    let eps = replay::number(replay::word());
+    let c = replay::number();
+    let eps = replay::number();
     let chain = replay::list(&mut a);
-    let t_final = replay::number(replay::word());
-    let steps = replay::word() as usize;
+    let t_final = replay::number();
+    let steps = replay::word();
     let p = evolving::Course {
         t_final,
         steps,
         c,
         eps,
     };
-    let scratch = replay::lent(&mut b, replay::word() as usize);
+    let scratch = replay::lent(&mut b);
     let r = call(kind, s, p, xs, count, chain, scratch);
     crate::round::ended(r, chain, scratch)
 }

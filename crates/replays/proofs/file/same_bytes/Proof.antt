@@ -6,10 +6,10 @@ use Rattle.replays.proofs.file.same_bytes.Statement.{statement}
 use Rattle.replays.proofs.file.same_bytes.Tie as tie
 
 abbrev Inv-loop : tie.InvT-loop
-Inv-loop got want same₀ i₀ same i = i ≤ length got
+Inv-loop got all₀ i₀ all i = i ≤ length got
 
 abbrev μ-loop : tie.MeasureT-loop
-μ-loop got want same₀ i₀ same i = length got - i
+μ-loop got all₀ i₀ all i = length got - i
 
 pub same-bytes-spec : {M : Type 1} → statement M
 same-bytes-spec = tie.close (tie.spec
@@ -17,11 +17,8 @@ same-bytes-spec = tie.close (tie.spec
     μ-loop
     (λ c κs. search needs)
     (λ c. search needs)
+    (λ c. search needs)
     (λ c κs. search needs)
-    (λ c. search needs)
-    (λ c. search needs)
-    (λ c. search needs)
-    (λ c. search needs)
     (λ c. search needs)
     (λ c. search needs)
     (λ c. search needs)
