@@ -1,8 +1,8 @@
 #!/usr/bin/env python3
-"""Chain files and what the scope says of them, as the list that `replay_file` reads: oracle/files.py > crates/replay_file/stdin
+"""Chain files and what the scope says of them, as the last list that `replays` reads: oracle/files.py > file.list
 
 Everything here is written from the scope's section on the chain file, and shares nothing with the code that it tests. A case
-starts with its kind: 0 reading (bytes, room; number and place, or 0 and 0; shape; what the room holds at the end), 1 writing
+starts with its kind: 0 reading (bytes, room; number and place, or 0 and 0; shape; room, and what it holds at the end), 1 writing
 (shape, chain, the output's length; number and place; what the output holds at the end), 2 the listing (bytes; text). A word has
 eight bytes, the lowest first; bytes stand behind a word that says how many.
 """
@@ -128,20 +128,23 @@ def counted(data):
     return words(len(data)) + data
 
 
+def shaped(d, cores):
+    """how many cores, then the left ranks of all, their sizes, their right ranks"""
+    return words(d, *(core[i] for i in range(3) for core in cores))
+
+
 def reading(data, room):
     case = words(0) + counted(data) + words(room)
     try:
         cores, bits = read(data, room)
-        sizes = [x for core in cores for x in core]
-        case += words(0, 0, len(cores), *sizes) + words(*(bits + [0] * (room - len(bits))))
+        case += words(0, 0) + shaped(len(cores), cores) + words(room, *bits, *[0] * (room - len(bits)))
     except Refused as r:
-        case += words(*r.args, 0) + words(*([BEFORE] * room))
+        case += words(*r.args, 0, room, *[BEFORE] * room)
     cases.append(case)
 
 
 def writing(d, cores, bits, room):
-    stand = [x for core in cores[:16] for x in core] if d >= len(cores) else [x for core in cores[:d] for x in core]
-    case = words(1, d, *stand) + words(len(bits), *bits) + words(room)
+    case = words(1) + shaped(d, cores[:min(d, 16)]) + words(len(bits), *bits) + words(room)
     try:
         case += words(0, 0) + counted(write(d, cores, bits, room))
     except Refused as r:

@@ -1,176 +1,156 @@
-// A list of cases as programs read it from standard input: words of eight bytes, the lowest first.
+// A list of cases as a program reads it from standard input: words of eight bytes, the lowest first.
 ghost use mathlib.Core.Path.{_≡_};
-ghost use Prim.Native.Nat.{_≤_};
 ghost use lib.ListN.{length};
 
-// The bytes of `high`, and after them b as the lowest.
-fn joined(high: u64, b: u8) -> u64 {
-    high << 8 | b as u64
-}
+// What stands in an output or in scratch before a call, and its bits.
+const MARK: f64 = 7.5;
+
+pub const MARK_BITS: usize = 0x401e_0000_0000_0000;
+
+const ROOM: usize = 32768;
 
 // One word; bytes past the end of the input count as 0.
-pub fn word() -> u64 {
+pub fn word() -> usize {
     let mut b = [0u8; 8];
     io::read_full(libc::STDIN_FILENO, &mut b);
-    let high = joined(joined(joined(joined(0, b[7]), b[6]), b[5]), b[4]);
-    joined(joined(joined(joined(high, b[3]), b[2]), b[1]), b[0])
+    let low = words::u32_at(&b, 0);
+    let high = words::u32_at(&b, 4);
+    low + 4294967296 * high
 }
 
-fn at_most(most: usize, n: usize) -> usize
-    ensures { λ r. ⌜ r ≤ most ⌝ }
-{
-    if n <= most {
-        return n;
-    }
-    most
-}
-
-// A word that says how many follow, at most `most`.
-pub fn count(most: usize) -> usize
-    ensures { λ r. ⌜ r ≤ most ⌝ }
-{
-    at_most(most, word() as usize)
-}
-
-// The number of a word's bits; one NaN stands for all.
-pub fn number(bits: u64) -> f64 {
+// A number by its bits; one NaN stands for all.
+pub fn number() -> f64 {
+    let bits = word() as u64;
     if bits % 0x8000_0000_0000_0000 > 0x7ff0_0000_0000_0000 {
         return 0.0 / 0.0;
     }
     f64::from_bits(bits)
 }
 
-// As many numbers as fit, each by its bits.
-fn numbers(out: &mut [f64])
-    ensures { λ _. ⌜ length (now (out .exit)) ≡ length (now (out .entry)) ⌝ }
+// Room for more numbers than a list has.
+pub fn room() -> [f64; ROOM]
+    ensures { λ r. ⌜ 32768 ≡ length r ⌝ }
 {
+    [MARK; ROOM]
+}
+
+// As many numbers of a room as the word that follows says, or all.
+pub fn lent(room: &mut [f64]) -> &mut [f64] {
+    let n = word();
+    if room.len() < n {
+        return room;
+    }
+    &mut room[0..n]
+}
+
+// How many numbers follow, then each: the front of a room that holds them.
+pub fn list(room: &mut [f64]) -> &mut [f64] {
+    let list = lent(room);
     let mut i = 0;
-    while i < out.len() {
-        out[i] = number(word());
+    while i < list.len() {
+        list[i] = number();
         i += 1;
     }
+    list
 }
 
-// How many numbers follow, then each, to the front of `out`.
-pub fn list(out: &mut [f64]) -> usize
-    ensures { λ r. ⌜ r ≤ length (now (out .exit)) ⌝ }
-{
-    let n = count(out.len());
-    numbers(&mut out[0..n]);
-    n
+// The word that follows while i is below n, then `rest`.
+fn wanted(i: usize, n: usize, rest: usize) -> usize {
+    if i < n {
+        return word();
+    }
+    rest
 }
 
-// d, then the three sizes of each core; of more cores than a shape can have, those that it can.
-pub fn shape() -> shape::Shape {
-    let mut left = [0; shape::MOST_AXES];
-    let mut n = [0; shape::MOST_AXES];
-    let mut right = [0; shape::MOST_AXES];
-    let d = word() as usize;
-    let cores = at_most(shape::MOST_AXES, d);
+// The n sizes that follow, and 0 behind them; of more than an array has, those that it has.
+fn sizes(n: usize) -> [usize; shape::MOST_AXES] {
+    let mut list = [0; shape::MOST_AXES];
     let mut k = 0;
-    while k < cores {
-        left[k] = word() as usize;
-        n[k] = word() as usize;
-        right[k] = word() as usize;
+    while k < shape::MOST_AXES {
+        list[k] = wanted(k, n, 0);
         k += 1;
     }
+    list
+}
+
+// d, then the left ranks of the cores, their sizes, their right ranks.
+pub fn shape() -> shape::Shape {
+    let d = word();
+    let left = sizes(d);
+    let n = sizes(d);
+    let right = sizes(d);
     shape::Shape { d, left, n, right }
 }
 
+// ---- what a call answered and left
 // Whether a call answered what a case says: 0 and 0 where it is accepted, else the number and the place.
 pub fn verdict(v: answers::Verdict) -> bool {
     let number = word();
     let place = word();
     match v {
-        answers::Verdict::Fits => number == 0,
-        answers::Verdict::Refused(r) => (number == answers::number(r) as u64)
-            & (place == answers::place(r) as u64),
+        answers::Verdict::Fits => (number == 0) & (place == 0),
+        answers::Verdict::Refused(r) => (number == answers::number(r) as usize)
+            & (place == answers::place(r)),
     }
 }
 
-// ---- what a call left
-// Whether every number is x, a zero of either sign being zero.
-pub fn all_are(list: &[f64], x: f64) -> bool {
-    let mut all = true;
+// Whether the n numbers that follow, by their bits, are at the front of a list, and `rest` behind them.
+pub fn holds(list: &[f64], n: usize, rest: usize) -> bool {
+    let mut all = n <= list.len();
     let mut i = 0;
     while i < list.len() {
-        all = all & (list[i] == x);
+        all = all & (digits::pattern(list[i]) == wanted(i, n, rest) as u64);
         i += 1;
     }
     all
 }
 
-// Whether two numbers are the same, or both none.
-fn same(x: f64, y: f64) -> bool {
-    (x == y) | ((x != x) & (y != y))
+// Whether scratch is unwritten after a call that a check refused, and +0 after any other.
+pub fn scratch_left(v: answers::Verdict, scratch: &[f64]) -> bool {
+    if let answers::Verdict::Refused(r) = v {
+        if answers::number(r) <= 8 {
+            return holds(scratch, 0, MARK_BITS);
+        }
+    }
+    holds(scratch, 0, 0)
 }
 
-// Whether two lists hold the same numbers.
-pub fn same_numbers(a: &[f64], b: &[f64]) -> bool {
-    if a.len() != b.len() {
-        return false;
-    }
+// Whether the n counts that follow are the first of an array, and 0 behind them.
+pub fn counts(list: [usize; shape::MOST_AXES], n: usize) -> bool {
     let mut all = true;
-    let mut i = 0;
-    while i < a.len() {
-        all = all & same(a[i], b[i]);
-        i += 1;
+    let mut k = 0;
+    while k < shape::MOST_AXES {
+        all = all & (list[k] == wanted(k, n, 0));
+        k += 1;
     }
     all
 }
 
-// Whether the counts that follow are the first of an array.
-pub fn counts(list: [usize; shape::MOST_AXES]) -> bool {
-    let n = count(shape::MOST_AXES);
+// The same of flags, 1 and 0.
+pub fn flags(list: [bool; shape::MOST_AXES], n: usize) -> bool {
     let mut all = true;
-    let mut i = 0;
-    while i < n {
-        all = all & (list[i] == word() as usize);
-        i += 1;
+    let mut k = 0;
+    while k < shape::MOST_AXES {
+        all = all & (list[k] == (wanted(k, n, 0) == 1));
+        k += 1;
     }
     all
 }
 
-fn flag(b: bool) -> u64 {
-    if b {
-        return 1;
-    }
-    0
-}
-
-// Whether the flags that follow, 1 and 0, are the first of an array.
-pub fn flags(list: [bool; shape::MOST_AXES]) -> bool {
-    let n = count(shape::MOST_AXES);
-    let mut all = true;
-    let mut i = 0;
-    while i < n {
-        all = all & (flag(list[i]) == word());
-        i += 1;
-    }
-    all
-}
-
-// Whether the numbers that follow are those of a list.
-fn numbers_are(list: &[f64]) -> bool {
-    let mut all = true;
-    let mut i = 0;
-    while i < list.len() {
-        all = all & (list[i] == number(word()));
-        i += 1;
-    }
-    all
-}
-
-// Whether the numbers that follow are at the front of a list, and the rest is +0.
-pub fn packed(list: &[f64]) -> bool {
-    let n = count(list.len());
-    let front = numbers_are(&list[0..n]);
-    let rest = all_are(&list[n..], 0.0);
-    front & rest
+// Whether a shape is the one that follows, and 0 in the places behind.
+pub fn shape_is(s: shape::Shape) -> bool {
+    let d = word();
+    let left = s.left;
+    let n = s.n;
+    let right = s.right;
+    let lefts = counts(left, d);
+    let points = counts(n, d);
+    let rights = counts(right, d);
+    (s.d == d) & lefts & points & rights
 }
 
 // A number as a line of standard output.
-pub fn print(n: u64) {
-    io::print_decimal(libc::STDOUT_FILENO, n);
+pub fn print(n: usize) {
+    io::print_decimal(libc::STDOUT_FILENO, n as u64);
     io::write_all(libc::STDOUT_FILENO, &[b'\n']);
 }

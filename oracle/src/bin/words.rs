@@ -1,6 +1,7 @@
-//! Turns lines of cases into the words that the replaying programs read: how many cases, then of each all its numbers in
+//! Turns lines of cases into the words that the program `replays` reads: how many cases, then of each all its numbers in
 //! order, a float by its bits, and before what is answered the number and the place of its refusal, 0 and 0 where there is
-//! none. A word is eight bytes, the lowest first.
+//! none. A shape is how many cores it has, then the left ranks of all, their sizes, their right ranks. A word is eight bytes,
+//! the lowest first.
 use std::io::{BufWriter, Read, Write};
 
 fn word(out: &mut Vec<u8>, w: u64) {
@@ -18,6 +19,27 @@ fn number(text: &str) -> Option<u64> {
 
 fn numbers(out: &mut Vec<u8>, words: &[&str]) {
     words.iter().filter_map(|w| number(w)).for_each(|w| word(out, w));
+}
+
+/// How many cores a shape has, the three sizes of each, and the words behind it.
+fn sized<'a>(words: &'a [&'a str]) -> (u64, Vec<[u64; 3]>, &'a [&'a str]) {
+    let cores = number(words[1]).expect("a number of cores");
+    let sizes: Vec<u64> = words[2..].iter().map_while(|w| number(w)).collect();
+    let each = sizes.chunks(3).map(|c| [c[0], c[1], c[2]]).collect();
+    (cores, each, &words[2 + sizes.len()..])
+}
+
+fn shape(out: &mut Vec<u8>, cores: u64, sizes: &[[u64; 3]]) {
+    word(out, cores);
+    for i in 0..3 {
+        sizes.iter().for_each(|s| word(out, s[i]));
+    }
+}
+
+/// The chain of a line: how many numbers, and each.
+fn chain<'a>(words: &'a [&'a str]) -> &'a [&'a str] {
+    let at = words.iter().position(|w| *w == "chain").expect("a chain") + 1;
+    &words[at..=at + number(words[at]).expect("a length") as usize]
 }
 
 /// A pair as it is lent: the sizes of both cores, eps, each core's numbers, and the lengths of both outputs and scratch. A line
@@ -39,29 +61,50 @@ fn pair(out: &mut Vec<u8>, words: &[&str]) {
     [rows * 8, 8 * columns, 20480].iter().for_each(|w| word(out, *w));
 }
 
-/// A chain as it is lent, and the length of scratch: a line of the oracle doesn't say it, and then it is what the call asks for.
-fn rounded(out: &mut Vec<u8>, words: &[&str]) {
-    numbers(out, words);
-    if !words.contains(&"scratch") {
-        let chain = words.iter().position(|w| *w == "chain").expect("a chain");
-        word(out, 4 * number(words[chain + 1]).expect("a length") + 2048);
+/// A rounding, a step or an evolve: of the last two which it is, 0 or 1, then what is given, 0 steps for a step, and the length
+/// of scratch. It is what the call asks for, unless the line says it or how many numbers are too few.
+fn chained(out: &mut Vec<u8>, kind: &str, words: &[&str]) {
+    if kind != "round" {
+        word(out, (kind == "evolve") as u64);
     }
-}
-
-/// A step or an evolve: which of the two, what is given, the steps (0 for a step), and how many numbers scratch has too few.
-fn stepped(out: &mut Vec<u8>, kind: &str, words: &[&str]) {
-    let step = kind != "evolve";
-    word(out, !step as u64);
-    let short = words.iter().position(|w| *w == "short");
-    numbers(out, &words[..short.unwrap_or(words.len())]);
-    if step {
+    let (cores, sizes, rest) = sized(words);
+    shape(out, cores, &sizes);
+    let told = |w: &&str| matches!(*w, "scratch" | "short");
+    let end = rest.iter().position(told).unwrap_or(rest.len());
+    numbers(out, &rest[..end]);
+    if matches!(kind, "step" | "edge") {
         word(out, 0);
     }
-    word(out, short.map_or(0, |at| number(words[at + 1]).expect("a number")));
+    let asked = 4 * (chain(rest).len() as u64 - 1) + 2048;
+    let said = || number(rest[end + 1]).expect("a length");
+    let length = match rest.get(end) {
+        None => asked,
+        Some(&"scratch") => said(),
+        Some(_) => asked - said(),
+    };
+    word(out, length);
 }
 
-/// What is answered: values after 0 and 0, or a refusal; a refused inner product, step or evolve has a word of 0 behind it.
-fn answer(out: &mut Vec<u8>, kind: &str, words: &[&str]) {
+/// What one of the three answers: shape, counts, flags and chain. A refused one has no counts, and leaves the others as given.
+fn rounded(out: &mut Vec<u8>, given: &[&str], answered: Option<&[&str]>) {
+    let (cores, mut sizes, rest) = sized(given);
+    let Some(words) = answered else {
+        shape(out, cores, &sizes);
+        [0, 0].iter().for_each(|w| word(out, *w));
+        return numbers(out, chain(rest));
+    };
+    let ranks: Vec<u64> = words[2..].iter().map_while(|w| number(w)).collect();
+    for (k, right) in ranks.iter().enumerate() {
+        sizes[k][0] = if k == 0 { 1 } else { ranks[k - 1] };
+        sizes[k][2] = *right;
+    }
+    shape(out, ranks.len() as u64, &sizes);
+    numbers(out, &words[2 + ranks.len()..]);
+}
+
+/// What is answered: a refusal's number and place, or 0 and 0, then the values. Refused, the figure of an inner product is 0, and
+/// so are the rank, the passes and the lengths of a pair, whose outputs are unwritten.
+fn answer(out: &mut Vec<u8>, kind: &str, given: &[&str], words: &[&str]) {
     let place = || number(words[1]).expect("a place");
     let (number, place) = match words[0] {
         "nonfinite" => (9, place()),
@@ -72,10 +115,12 @@ fn answer(out: &mut Vec<u8>, kind: &str, words: &[&str]) {
     };
     word(out, number);
     word(out, place);
-    if number == 0 {
-        numbers(out, words);
-    } else if !matches!(kind, "pair" | "round") {
-        word(out, 0);
+    let accepted = number == 0;
+    match kind {
+        "inner" if !accepted => word(out, 0),
+        "pair" if !accepted => [0; 4].iter().for_each(|w| word(out, *w)),
+        "inner" | "pair" => numbers(out, words),
+        _ => rounded(out, given, accepted.then_some(words)),
     }
 }
 
@@ -86,14 +131,18 @@ fn main() {
     word(&mut out, text.lines().count() as u64);
     for line in text.lines() {
         let words: Vec<&str> = line.split_whitespace().collect();
-        let given = words.iter().position(|w| *w == "=").expect("an answer");
+        let end = words.iter().position(|w| *w == "=").expect("an answer");
+        let given = &words[2..end];
         match words[0] {
-            "pair" => pair(&mut out, &words[2..given]),
-            "round" => rounded(&mut out, &words[2..given]),
-            "step" | "edge" | "evolve" => stepped(&mut out, words[0], &words[2..given]),
-            _ => numbers(&mut out, &words[2..given]),
+            "pair" => pair(&mut out, given),
+            "inner" => {
+                let (cores, sizes, rest) = sized(given);
+                shape(&mut out, cores, &sizes);
+                numbers(&mut out, rest);
+            }
+            kind => chained(&mut out, kind, given),
         }
-        answer(&mut out, words[0], &words[given + 1..]);
+        answer(&mut out, words[0], given, &words[end + 1..]);
     }
     BufWriter::new(std::io::stdout().lock())
         .write_all(&out)

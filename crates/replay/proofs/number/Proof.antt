@@ -5,4 +5,8 @@ use Rattle.replay.proofs.number.Statement.{statement}
 use Rattle.replay.proofs.number.Tie as tie
 
 pub number-spec : {M : Type 1} → statement M
-number-spec = tie.close (tie.spec (λ c. search (needs, no-nan-word)) (λ c. search (needs, no-nan-word)) (λ c. search (needs, no-nan-word)))
+number-spec = tie.close (tie.spec
+    (λ c κs. search (needs, no-nan-word))
+    (λ c. search (needs, no-nan-word))
+    (λ c. search (needs, no-nan-word))
+    (λ c. search (needs, no-nan-word)))

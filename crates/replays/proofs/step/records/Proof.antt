@@ -1,0 +1,27 @@
+-- `replays::step::records` meets its contract. Assumes nothing.
+use Prim.Native.Nat.{_-_}
+use mathlib.Core.Path.{_≡_}
+use lib.ListN.{length}
+use Rattle.shape.specs.Limits.{mostAxes}
+use borrow.Author.Needs.{needs}
+use Rattle.replays.proofs.step.records.Statement.{statement}
+use Rattle.replays.proofs.step.records.Tie as tie
+
+abbrev Inv-loop : tie.InvT-loop
+Inv-loop count list₀ k₀ list k = length list ≡ mostAxes
+
+abbrev μ-loop : tie.MeasureT-loop
+μ-loop count list₀ k₀ list k = count - k
+
+pub records-spec : {M : Type 1} → statement M
+records-spec = tie.close (tie.spec
+    Inv-loop
+    μ-loop
+    (λ c. search needs)
+    (λ c κs. search needs)
+    (λ c. search needs)
+    (λ c. search needs)
+    (λ c. search needs)
+    (λ c. search needs)
+    (λ c. search needs)
+    (λ c. search needs))
