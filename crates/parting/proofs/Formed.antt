@@ -23,7 +23,7 @@ use Rattle.lists.proofs.Tables.{tab-map}
 use Rattle.lists.proofs.Tests.{leb-yes, fails, leb-is}
 use Rattle.shape.specs.Limits.{mostRank}
 use Rattle.rotation.specs.Rotation.{eye}
-use Rattle.values.specs.Values.{order, sorted, keptRank}
+use Rattle.cutform.specs.Values.{order, sorted, keptRank}
 use Rattle.columns.specs.Columns.{dot}
 use Rattle.columns.specs.Loops.{squares}
 use Rattle.passes.specs.Passes.{svd, Passes, made, orthogonalized}

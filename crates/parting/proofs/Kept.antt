@@ -8,7 +8,7 @@ use lib.ListN.{length, take, length-append}
 use lib.Ieee.{Float}
 use Rattle.lists.proofs.Parts.{span-again, span-length}
 use Rattle.lists.specs.Floats.{allFinite}
-use Rattle.values.specs.Values.{order, keptRank}
+use Rattle.cutform.specs.Values.{order, keptRank}
 use Rattle.values.proofs.Ranked.{order-lt, rank-most}
 use Rattle.factors.specs.Rows.{Columns}
 

@@ -8,7 +8,7 @@ ghost use Rattle.numbers.specs.Root.{rootOf};
 ghost use Rattle.answers.specs.Outcome.{staged, answered};
 ghost use Rattle.lists.specs.Floats.{allFinite};
 ghost use Rattle.shape.specs.Limits.{mostRank};
-ghost use Rattle.values.specs.Values.{order, sorted, keptRank};
+ghost use Rattle.cutform.specs.Values.{order, sorted, keptRank};
 ghost use Rattle.passes.specs.Passes.{svd, made};
 ghost use Rattle.slabs.specs.Slabs.{mostLines};
 ghost use Rattle.splitting.specs.Loops.{Lines, valuedFrom, cutFrom, splitFrom};

@@ -13,7 +13,7 @@ use Rattle.shape.specs.declared.Shape.{Shape}
 use Rattle.shape.specs.Limits.{mostAxes}
 use Rattle.shape.specs.Cores.{coresOf, chainAfter, reshaped}
 use Rattle.rounding.specs.declared.Rounded.{Rounded}
-use Rattle.cutting.specs.Rounding.{Carry, Cut, rounding, coresIn, countsIn, flagsIn}
+use Rattle.cutform.specs.Rounding.{Carry, Cut, rounding, coresIn, countsIn, flagsIn}
 unfoldable pub use Rattle.measuring.specs.Asked.{lengthsOk, coreFinite, notBelowZero, roundFinite, roundOk}
 
 -- ---- what a call that rounds a chain answers and leaves, by its outcome

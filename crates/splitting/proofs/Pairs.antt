@@ -19,7 +19,7 @@ use Rattle.shape.specs.Limits.{mostRank}
 use Rattle.shape.specs.Cores.{Core, coreWith}
 use Rattle.shape.proofs.Places.{block-rows, block-lines}
 use Rattle.rotation.specs.Rotation.{eye}
-use Rattle.values.specs.Values.{order, sorted, keptRank}
+use Rattle.cutform.specs.Values.{order, sorted, keptRank}
 use Rattle.passes.specs.Passes.{svd, Passes, orthogonalized, start}
 use Rattle.slabs.specs.Loops.{slabAt, columnsOf, slabColumns}
 use Rattle.slabs.proofs.Slabs.{slab-flat}

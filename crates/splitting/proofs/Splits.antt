@@ -16,7 +16,7 @@ use Rattle.lists.proofs.Floats.{stored-is}
 use Rattle.lists.proofs.Tests.{leb-is}
 use Rattle.shape.specs.Limits.{mostRank}
 use Rattle.shape.specs.Cores.{Core, coreWith}
-use Rattle.values.specs.Values.{order, sorted, keptRank}
+use Rattle.cutform.specs.Values.{order, sorted, keptRank}
 use Rattle.slabs.specs.Slabs.{slab}
 use Rattle.splitting.specs.Numbers.{leftNumbers, rightNumbers}
 use Rattle.passes.specs.Passes.{Passes, mostPasses, orthogonalized, start}

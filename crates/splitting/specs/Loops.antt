@@ -9,7 +9,7 @@ use Rattle.answers.specs.Outcome.{Made, Answer, done, bind, _then_, demand, mak
 use Rattle.lists.specs.Floats.{stored}
 use Rattle.shape.specs.Limits.{mostRank}
 use Rattle.rotation.specs.Rotation.{eye}
-use Rattle.values.specs.Values.{order, sorted, keptRank}
+use Rattle.cutform.specs.Values.{order, sorted, keptRank}
 use Rattle.passes.specs.Passes.{svd, Passes, orthogonalized}
 use Rattle.slabs.specs.Slabs.{mostLines}
 use Rattle.splitting.specs.Rows.{Both, formedFrom}

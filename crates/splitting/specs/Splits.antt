@@ -11,7 +11,7 @@ use Rattle.lists.specs.Lists.{tab}
 use Rattle.lists.specs.Floats.{stored}
 use Rattle.shape.specs.Limits.{mostRank}
 use Rattle.shape.specs.Cores.{Core, coreWith}
-use Rattle.values.specs.Values.{order, sorted, keptRank}
+use Rattle.cutform.specs.Values.{order, sorted, keptRank}
 use Rattle.slabs.specs.Slabs.{slab}
 use Rattle.splitting.specs.Numbers.{leftNumbers, rightNumbers}
 use Rattle.columns.specs.Columns.{dot}

@@ -3,7 +3,7 @@ use borrow.Author.Needs.{needs}
 use Prim.Native.Nat.{_-_}
 use mathlib.Core.Path.{_∙_, sym, ap}
 use native.Mathlib.Nat.{mul-le-mul, le-trans}
-use Rattle.values.specs.Values.{keptRank}
+use Rattle.cutform.specs.Values.{keptRank}
 use Rattle.parting.proofs.Kept.{rank-within, kept-columns, lent-end, lent-again, lent-some}
 use Rattle.parting.proofs.Formed.{cut-wide, cut-end}
 use Rattle.parting.proofs.cut.Statement.{statement}
