@@ -1,5 +1,5 @@
 -- What the two new cores may ask of the kept rank and the order. Assumes nothing.
-use mathlib.Core.Path.{_≡_, sym, ap, _∙_}
+use mathlib.Core.Path.{_≡_, ap, _∙_}
 use Prim.Native.Nat.{ℕ, _-_, _≤_}
 use native.Mathlib.Omega.{arith}
 use mathlib.Core.Bool.{true}
@@ -20,7 +20,7 @@ kept-columns n sv long fine js e r h j l = order-lt n sv long fine js e j (omega
 
 -- a part that was lent from the front of l, and is read again there
 module _ {A : Type 0} (n : ℕ) (x r l : List A) (e : length x ≡ length (take (n - 0) l)) (h : n ≤ length l) where
-  pub lent-long : length x ≡ n
+  lent-long : length x ≡ n
   lent-long = e ∙ span-length n l h
 
   pub lent-end : n ≤ length (x ++ r)
