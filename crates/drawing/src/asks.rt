@@ -92,13 +92,14 @@ fn flaw(x: usize, d: usize) -> usize {
 
 // The replacement that can have the flaw.
 fn kind(x: usize, flaw: usize) -> usize {
+    let drawn = chance::below(x, 3);
     if (flaw == BELOW_ZERO) | (flaw == TOO_FAR) {
         return AXIS;
     }
     if (flaw == PART) | (flaw == OVERFLOW) {
-        return chance::below(x, 2);
+        return drawn % 2;
     }
-    chance::below(x, 3)
+    drawn
 }
 
 // One of the first n lists, where one is wanted; without a bond there are no carries.
