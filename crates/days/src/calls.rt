@@ -6,7 +6,7 @@ use drawing::parts;
 pub const MARK: f64 = 7.5;
 
 // The most that the source and the chain have, and the most that the others have.
-const ROOM: usize = 16384;
+const ROOM: usize = 4096;
 
 const LITTLE: usize = 1024;
 

@@ -198,7 +198,7 @@ fn scale(x: usize, flaw: usize, kind: usize) -> f64 {
         if kind == WEIGHTS {
             return 8e307;
         }
-        let much = [1e150, 1e200];
+        let much = [1e155, 1e200];
         let k = chance::below(x, 2);
         return much[k];
     }
