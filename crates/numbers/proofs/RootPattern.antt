@@ -9,7 +9,7 @@ use lib.Bits.{bitAnd, bitOr, and-mask}
 use lib.Ieee.{binary64, size, odd, ofBits}
 use lib.Ieee.Digits.{size-lt, size-le}
 use Rattle.numbers.specs.Root.{wholeRoot, rootOfUnits}
-use Rattle.numbers.specs.Steps.{unitsOf, Parted}
+use Rattle.numbers.specs.Steps.{unitsOf, Parted, Halved}
 use Rattle.numbers.proofs.Shifts.{rebuild}
 use Rattle.numbers.proofs.WholeRoot.{IsRoot, whole-root-ok, unique, at-least, less-than}
 use Rattle.numbers.proofs.Patterns.{written}
@@ -88,3 +88,8 @@ module _ (b m e : ℕ) (p : Parted b m e) where
       let l = bounds M q (k .0) (k .1) r in
       let is : bitOr ((h + 486) * 2 ^ 52 % 2 ^ 64) (bitAnd ((q + 1) / 2) (2 ^ 52 - 1)) ≡ (h + 485) * 2 ^ 52 + (q + 1) / 2 = rebuild 64 (h + 486) 52 ((q + 1) / 2) (omega arith) (omega arith) (omega arith) ∙ omega arith in
       rw is (in-range (unitsOf b) M h q v (k .0) (k .1) (omega arith) r, right (unitsOf b) M h q v (k .0) (k .1) (omega arith) r)
+
+  pub found-half : (r : ℕ) → Halved (m * 2 ^ bitAnd e 1 % 2 ^ 64) r
+      → (bitOr ((e / 2 + 486) * 2 ^ 52 % 2 ^ 64) (bitAnd r (2 ^ 52 - 1)) < 0x7ff0_0000_0000_0000)
+      × (ofBits binary64 (bitOr ((e / 2 + 486) * 2 ^ 52 % 2 ^ 64) (bitAnd r (2 ^ 52 - 1))) ≡ rootOfUnits (unitsOf b))
+  found-half r g = rw (g .half) (found (g .q) (g .under, g .over, g .small))

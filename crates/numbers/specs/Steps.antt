@@ -33,6 +33,14 @@ pub record Refinable (q rem high low k : ℕ) : Type 0 where
   pub root : q < 2 ^ 27
   pub base : k ≤ 27
 
+-- r is half of the whole root q of m * 2 ^ 54, rounded
+pub record Halved (m r : ℕ) : Type 0 where
+  pub q : ℕ
+  pub under : q * q ≤ m * 2 ^ 54
+  pub over : m * 2 ^ 54 < (q + 1) * (q + 1)
+  pub small : q < 2 ^ 54
+  pub half : r ≡ (q + 1) / 2
+
 -- the pattern r stands for a whole number c, which is what the pattern b stands for, cut toward zero, or away from it where s is true
 pub record CutTo (s : Bool) (b r : ℕ) : Type 0 where
   pub small : r < 0x7ff0_0000_0000_0000

@@ -1,12 +1,13 @@
 // What the work needs of single numbers: whether an f64 is finite, its square root, magnitude and floor by the
 // digits of its bit pattern, the floor as an integer with what is left above it, and integers modulo n.
 ghost use mathlib.Core.Path.{_≡_};
+ghost use mathlib.Core.Bool.{true};
 ghost use Prim.Native.Nat.{_+_, _*_, _^_, _≤_, _<_};
 ghost use lib.IntN.{pos, _+ℤ_, _-ℤ_};
 ghost use lib.Ieee.{binary64, ofBits};
 ghost use Rattle.numbers.specs.Finite.{finite};
 ghost use Rattle.numbers.specs.Root.{rootOf, rootOfUnits};
-ghost use Rattle.numbers.specs.Steps.{unitsOf, Parted, Leaves, Refinable, CutTo};
+ghost use Rattle.numbers.specs.Steps.{unitsOf, Parted, Leaves, Refinable, Halved, CutTo};
 ghost use Rattle.numbers.specs.Floor.{floorOf};
 ghost use Rattle.numbers.specs.Magnitude.{magnitudeOf};
 ghost use Rattle.numbers.specs.Whole.{signed, inReach, wholeParts, fractionOf};
@@ -84,47 +85,69 @@ fn slow_root(m: u64) -> Rooted
     refine(b, m >> 13 & 0x1fff, m & 0x1fff, 13)
 }
 
-// The 27 leading digits of what a pattern stands for.
-fn leading(bits: u64) -> u64
-    ensures { λ a. ⌜ a < 2 ^ 27 ⌝ }
+// A guess at the 53 digits of the root of what a pattern stands for. The inverse of the root is had from
+// the pattern, mended by three steps of Newton's method. Of the root that it gives 26 digits are kept,
+// whose square is exact, and what they leave gives the others, with a second step for what the first
+// leaves. What the guess is worth its square tells.
+fn guess(bits: u64) -> u64
+    requires { ⌜ bits < 0x7ff0_0000_0000_0000 ⌝ }
+    ensures { λ g. ⌜ (2 ^ 52 ≤ g) × (g < 2 ^ 53) ⌝ }
 {
-    (bits & 0xf_ffff_ffff_ffff | 0x10_0000_0000_0000) >> 26
-}
-
-// A guess at the same root: for x = m / 2 it is x times the roots of 1 / x and of 2. The first is had from
-// the bits of x, mended by three steps of Newton's method, which come from below; the second is put a
-// little too high, so that a square's root is met. What the guess is worth its square tells.
-fn guess(m: u64) -> u64
-    requires { ⌜ m < 2 ^ 54 ⌝ }
-    ensures { λ a. ⌜ a < 2 ^ 27 ⌝ }
-{
-    let x = (m >> 1) as f64;
+    let x = f64::from_bits(bits);
     let h = x * 0.5;
-    let a = f64::from_bits(0x5fe6_eb50_c7b5_37a9 - (f64::to_bits(x) >> 1 & 0x3fff_ffff_ffff_ffff));
-    let b = a * (1.5 - h * a * a);
-    let c = b * (1.5 - h * b * b);
-    let d = c * (1.5 - h * c * c);
-    let g = x * d * 1.41421356243;
-    if g != g {
-        return 0;
+    let a = f64::from_bits(0x5fe6_eb50_c7b5_37a9 - bits / 2);
+    let b = a * 1.5 - h * a * (a * a);
+    let c = b * 1.5 - h * b * (b * b);
+    let d = c * 1.5 - h * c * (c * c);
+    let w = x * d;
+    if w != w {
+        return 0x10_0000_0000_0000;
     }
-    leading(f64::to_bits(g))
+    let whole = f64::to_bits(w);
+    if whole >= 0x7ff0_0000_0000_0000 {
+        return 0x10_0000_0000_0000;
+    }
+    let s = f64::from_bits(whole / 0x800_0000 * 0x800_0000);
+    let e = d * 0.5;
+    let k = (x - s * s) * e;
+    let g = s + (k + k * (k * e));
+    if g != g {
+        return 0x10_0000_0000_0000;
+    }
+    f64::to_bits(g) % 0x10_0000_0000_0000 + 0x10_0000_0000_0000
 }
 
-// The same root, by the guess where its square is right.
-fn whole_root(m: u64) -> Rooted
-    requires { ⌜ (2 ^ 52 ≤ m) × (m < 2 ^ 54) ⌝ }
-    ensures { λ r. ⌜ Leaves m (r .q) (r .rem) ⌝ }
+// Whether g * g is so near m * 2^52 that g is the root of that, rounded. Of g, which has two digits of 26
+// bits, the square is made digit by digit.
+fn near(m: u64, g: u64) -> bool
+    requires { ⌜ (m < 2 ^ 54) × (2 ^ 52 ≤ g) × (g < 2 ^ 53) ⌝ }
+    ensures { λ r. ⌜ (r ≡ true → (g * g < m * 2 ^ 52 + g) × (m * 2 ^ 52 ≤ g * g + g)) ⌝ }
 {
-    let q = guess(m);
-    let square = q * q;
-    if square <= m {
-        let rem = m - square;
-        if rem <= q * 2 {
-            return Rooted { q, rem };
-        }
+    let high = g / 0x400_0000;
+    let low = g % 0x400_0000;
+    let square = high * high;
+    if m < square {
+        return false;
     }
-    slow_root(m)
+    let left = m - square;
+    if left >= 0x10_0000_0000 {
+        return false;
+    }
+    let room = left * 0x400_0000 + 0x800_0000;
+    let cross = high * low * 2;
+    if room < cross {
+        return false;
+    }
+    let rest = room - cross;
+    if rest >= 0x4000_0000 {
+        return false;
+    }
+    let have = rest * 0x400_0000 + g;
+    let want = low * low + 0x20_0000_0000_0000;
+    if have <= want {
+        return false;
+    }
+    have <= want + g * 2
 }
 
 // The largest q with q * q <= m * 2^54, for an m of 53 or 54 digits.
@@ -132,8 +155,19 @@ fn wide_root(m: u64) -> u64
     requires { ⌜ (2 ^ 52 ≤ m) × (m < 2 ^ 54) ⌝ }
     ensures { λ q. ⌜ (q * q ≤ m * 2 ^ 54) × (m * 2 ^ 54 < (q + 1) * (q + 1)) × (q < 2 ^ 54) ⌝ }
 {
-    let r = refine(whole_root(m), 0, 0, 27);
+    let r = refine(slow_root(m), 0, 0, 27);
     r.q
+}
+
+// Half of that, rounded: the guess where it is right.
+fn half_root(m: u64, g: u64) -> u64
+    requires { ⌜ (2 ^ 52 ≤ m) × (m < 2 ^ 54) × (2 ^ 52 ≤ g) × (g < 2 ^ 53) ⌝ }
+    ensures { λ r. ⌜ Halved m r ⌝ }
+{
+    if near(m, g) {
+        return g;
+    }
+    (wide_root(m) + 1) >> 1
 }
 
 // A number m * 2^(e - 1126) with an m of 53 digits.
@@ -169,8 +203,8 @@ fn root_bits(bits: u64) -> u64
     ensures { λ r. ⌜ (r < 0x7ff0_0000_0000_0000) × (ofBits binary64 r ≡ rootOfUnits (unitsOf bits)) ⌝ }
 {
     let p = parts(bits);
-    let q = wide_root(p.m << (p.e & 1));
-    ((p.e >> 1) + 486) << 52 | (q + 1) >> 1 & 0xf_ffff_ffff_ffff
+    let r = half_root(p.m << (p.e & 1), guess(bits));
+    ((p.e >> 1) + 486) << 52 | r & 0xf_ffff_ffff_ffff
 }
 
 // The square root of x, rounded to the nearest f64.

@@ -24,14 +24,21 @@ fn roots(s: &mut [f64])
     }
 }
 
-// The columns after their passes, their basis, and their values.
-fn valued(a: &mut [f64], v: &mut [f64], sv: &mut [f64], m: usize, n: usize) -> passes::Passes
-    requires { ⌜ (length (now a) ≡ n * m) × (allFinite (now a) ≡ true) × (length (now v) ≡ n * n) × (length (now sv) ≡ n) ⌝ }
+// The columns after their passes, their basis, and their values; b is room for the columns.
+fn valued(
+    a: &mut [f64],
+    v: &mut [f64],
+    sv: &mut [f64],
+    b: &mut [f64],
+    m: usize,
+    n: usize,
+) -> passes::Passes
+    requires { ⌜ (length (now a) ≡ n * m) × (allFinite (now a) ≡ true) × (length (now v) ≡ n * n) × (length (now sv) ≡ n) × (length (now b) ≡ n * m) ⌝ }
     ensures { λ r. ⌜ valuedFrom m n (now (a .entry)) ≡ staged (r .stage) (record { passes = made (r .count) (svd (now (a .exit)) (now (v .exit))); values = now (sv .exit) }) ⌝ }
 {
     rotation::eye(v, n);
     columns::square(a, m, n, sv);
-    let w = passing::orthogonalize(a, v, sv, m, n);
+    let w = spinning::orthogonalize(a, v, sv, b, m, n);
     let stage = w.stage;
     if let answers::Stage::Spilt(i) = stage {
         return passes::passes_are(answers::Stage::Spilt(i), 0);
@@ -90,8 +97,10 @@ pub fn split(
 {
     let mut v = [0.0; slabs::MOST_LINES * slabs::MOST_LINES];
     let mut sv = [0.0; slabs::MOST_LINES];
+    let mut b = [0.0; slabs::MOST_LINES * slabs::MOST_LINES];
     let e = n * n;
-    let d = valued(a, &mut v[0..e], &mut sv[0..n], m, n);
+    let o = n * m;
+    let d = valued(a, &mut v[0..e], &mut sv[0..n], &mut b[0..o], m, n);
     let stage = d.stage;
     if let answers::Stage::Spilt(i) = stage {
         return splitting::refused_pair(answers::Refusal::Stored(answers::Part::Spectrum, 0, i));

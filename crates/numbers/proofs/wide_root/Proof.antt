@@ -7,14 +7,14 @@ use borrow.Author.Needs.{needs}
 use Rattle.numbers.proofs.wide_root.Statement.{statement}
 use Rattle.numbers.proofs.wide_root.Tie as tie
 
-whole-root-requires : tie.Need-whole-root-requires
-whole-root-requires c κs = search needs
+slow-root-requires : tie.Need-slow-root-requires
+slow-root-requires c κs = search needs
 
 refine-requires : tie.Need-refine-requires
-refine-requires c κs = ask (2 ^ 26) (2 ^ 27) (c .before .args .m) _ _ (c .whole-root .ensures) (omega arith) (omega arith) 27 0 0 (lit≤ tt) (lit≤ tt) (lit≤ tt) (lit≤ tt) (lit≤ tt)
+refine-requires c κs = ask (2 ^ 26) (2 ^ 27) (c .before .args .m) _ _ (c .slow-root .ensures) (omega arith) (omega arith) 27 0 0 (lit≤ tt) (lit≤ tt) (lit≤ tt) (lit≤ tt) (lit≤ tt)
 
 returns : tie.Need-returns
-returns c = last (c .before .before .args .m) _ _ _ _ (omega arith) (c .before .whole-root .ensures) (c .refine .ensures)
+returns c = last (c .before .before .args .m) _ _ _ _ (omega arith) (c .before .slow-root .ensures) (c .refine .ensures)
 
 pub wide-root-spec : {M : Type 1} → statement M
-wide-root-spec = tie.close (tie.spec whole-root-requires refine-requires returns)
+wide-root-spec = tie.close (tie.spec slow-root-requires refine-requires returns)

@@ -1,0 +1,3 @@
+pub mod Backward
+-- for the code: plans, and rotations by them
+pub mod Spun
