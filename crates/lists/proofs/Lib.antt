@@ -17,6 +17,7 @@ pub mod Ranks
 pub mod Over
 pub mod Parts
 pub mod Seen
+pub mod Eighths
 -- tests, and lists of f64
 pub mod Tests
 pub mod Floats
