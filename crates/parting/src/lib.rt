@@ -38,7 +38,7 @@ fn valued(
 {
     rotation::eye(v, n);
     columns::square(a, m, n, sv);
-    let w = spinning::orthogonalize(a, v, sv, b, m, n);
+    let w = quick_passes::orthogonalize(a, v, sv, b, m, n);
     let stage = w.stage;
     if let answers::Stage::Spilt(i) = stage {
         return passes::passes_are(answers::Stage::Spilt(i), 0);

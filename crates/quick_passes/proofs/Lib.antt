@@ -1,0 +1,4 @@
+pub mod Backward
+-- for the code: plans, and rotations by them
+pub mod Spun
+pub mod InStep

@@ -1,0 +1,71 @@
+-- `quick_passes::quick_passes` meets its contract. Assumes nothing.
+use Rattle.lists.proofs.Turns.{turns}
+use Prim.Native.Nat.{_-_, _≤_}
+use mathlib.Core.Path.{_≡_, refl, sym}
+use mathlib.Core.Bool.{true, false, true≢false}
+use lib.ListN.{length}
+use Rattle.answers.specs.declared.Stage.the-variants.{Whole}
+use Rattle.lists.proofs.Tests.{not-no}
+use Rattle.passes.specs.Passes.{svd, passesFrom, orthogonalized, mostPasses}
+use Rattle.passes.specs.Loops.{Held}
+use Rattle.passing.proofs.Rotated.{passes-start, passes-quiet, passes-more, passes-done}
+use Rattle.quick_passes.proofs.Spun.{now-held, pass-staged, held-beside}
+use Rattle.quick_passes.proofs.quick_passes.Statement.{statement}
+use Rattle.quick_passes.proofs.quick_passes.Tie as tie
+use Rattle.quick_passes.proofs.quick_passes.Reads as reads
+use Rattle.quick_passes.proofs.quick_passes.Lts as lts
+
+abbrev Inv-loop : tie.InvT-loop
+Inv-loop a₀ v₀ ss₀ m n count₀ quiet₀ a v ss count quiet = (count ≤ mostPasses) × (length a ≡ length a₀) × (length v ≡ length v₀) × (length ss ≡ length ss₀) × Held m n a v ss × (orthogonalized m n (svd a₀ v₀) ≡ passesFrom (mostPasses - count) quiet m n count (svd a v))
+
+abbrev μ-loop : tie.MeasureT-loop
+μ-loop a₀ v₀ ss₀ m n count₀ quiet₀ a v ss count quiet = mostPasses - count
+
+loop-holds : tie.Need-loop-holds Inv-loop μ-loop
+loop-holds c = (search turns, refl, refl, refl, c .before .before .before .pre, passes-start _ _ _)
+
+returns : tie.Need-returns Inv-loop μ-loop
+returns c e = (passes-quiet _ _ _ _ _ _ _ (c .before .before .loop .inv .5) (c .before .loop-test .taken) (c .if1 .taken), c .before .before .loop .inv .4 .kept)
+
+pass-requires : tie.Need-pass-requires Inv-loop μ-loop
+pass-requires c κs = held-beside _ _ _ _ _ (c .before .before .before .before .before .loop .inv .4)
+
+returns-2 : tie.Need-returns-2 Inv-loop μ-loop
+returns-2 c e = absurd (true≢false (sym e))
+
+loop-again : tie.Need-loop-again Inv-loop μ-loop
+loop-again c =
+    let f = c .before .both-finite .ensures (not-no _ (c .if2 .left)) in (
+      search turns,
+      search turns,
+      search turns,
+      search turns,
+      now-held _ _ (c .before .before .before .before .before .before .before .before .before .before .before .before .before .before .before .before .loop .a) (c .before .before .before .before .before .before .before .before .before .before .before .before .before .before .before .before .loop .v) (c .before .before .before .before .before .before .before .before .before .before .before .before .before .before .before .before .loop .ss) _ _ _ (c .before .before .before .before .before .before .before .before .before .before .pass .ensures .1) (f .0) (f .1),
+      passes-more _ _ _ _ _ _ _ (c .before .before .before .before .before .before .before .before .before .before .before .before .before .before .before .before .loop .inv .5) (c .before .before .before .before .before .before .before .before .before .before .before .before .before .before .before .loop-test .taken) (c .before .before .before .before .before .before .before .before .before .before .before .before .before .before .if1 .left) Whole _ (pass-staged _ _ _ _ _ _ _ _ (c .before .before .before .before .before .before .before .before .before .before .pass .ensures .1) (f .0) (f .1) (c .before .before .before .before .before .before .before .before .before .before .before .before .before .before .before .before .loop .inv .4) _ (c .before .before .before .before .before .before .before .before .before .before .pass .ensures .0)) refl,
+    )
+
+returns-3 : tie.Need-returns-3 Inv-loop μ-loop
+returns-3 c e = (passes-done _ _ _ _ _ _ _ (c .before .loop .inv .5) (c .loop-test .left), c .before .loop .inv .4 .kept)
+
+pub quick-passes-spec : {M : Type 1} → statement M
+quick-passes-spec = tie.close (tie.spec
+    Inv-loop
+    μ-loop
+    loop-holds
+    (λ c. search turns)
+    (λ c. search turns)
+    (λ c. search turns)
+    returns
+    pass-requires
+    (λ c κs. search turns)
+    (λ c. search turns)
+    (λ c. search turns)
+    (λ c. search turns)
+    returns-2
+    (λ c. search turns)
+    (λ c. search turns)
+    loop-again
+    (λ c. search turns)
+    (λ c. search turns)
+    (λ c. search turns)
+    returns-3)
