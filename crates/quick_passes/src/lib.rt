@@ -215,7 +215,8 @@ fn step(
     k: Plan,
 ) -> Plan
     requires { ⌜ Beside m n (now a) (now v) (now ss) × (p < q) × (q < n) × PlannedAt m (now a) p q k ⌝ }
-    ensures { λ r. ⌜ ((b : Bool) → passed (svd (now (a .exit)) (now (v .exit))) (k .skip && b) ≡ rotateFree m n p q (passed (svd (now (a .entry)) (now (v .entry))) b)) ⌝ }
+    ensures { λ r. ⌜ ((b : Bool) →
+        passed (svd (now (a .exit)) (now (v .exit))) (k .skip && b) ≡ rotateFree m n p q (passed (svd (now (a .entry)) (now (v .entry))) b)) ⌝ }
     ensures { λ r. ⌜ Beside m n (now (a .exit)) (now (v .exit)) (now (ss .exit)) × (q + 1 < n → PlannedAt m (now (a .exit)) p (q + 1) r) ⌝ }
 {
     let w = following(q, n);
@@ -278,7 +279,8 @@ fn both(
     k: Pace,
 ) -> Pace
     requires { ⌜ Paced m n p q (now a) (now ss) k × (length (now v) ≡ n * n) × (p + 3 ≤ q) × (q < n) ⌝ }
-    ensures { λ r. ⌜ passed (svd (now (a .exit)) (now (v .exit))) (r .quiet) ≡ rotateFree m n (p + 1) (q - 1) (rotateFree m n p q (passed (svd (now (a .entry)) (now (v .entry))) (k .quiet))) ⌝ }
+    ensures { λ r. ⌜ passed (svd (now (a .exit)) (now (v .exit))) (r .quiet)
+        ≡ rotateFree m n (p + 1) (q - 1) (rotateFree m n p q (passed (svd (now (a .entry)) (now (v .entry))) (k .quiet))) ⌝ }
     ensures { λ r. ⌜ Paced m n p (q + 1) (now (a .exit)) (now (ss .exit)) r × (length (now (v .exit)) ≡ n * n) ⌝ }
 {
     let next = spin_two(a, ss, m, n, p, q, k);
@@ -322,7 +324,8 @@ fn abreast(
     begun: Pace,
 ) -> Pace
     requires { ⌜ Paced m n p (p + 3) (now a) (now ss) begun × (length (now v) ≡ n * n) × (p + 2 < n) ⌝ }
-    ensures { λ r. ⌜ ((x : Pass) → passed (svd (now (a .entry)) (now (v .entry))) (begun .quiet) ≡ inStep m n p (p + 3) x → passed (svd (now (a .exit)) (now (v .exit))) (r .quiet) ≡ inStep m n p n x) ⌝ }
+    ensures { λ r. ⌜ ((x : Pass) → passed (svd (now (a .entry)) (now (v .entry))) (begun .quiet) ≡ inStep m n p (p + 3) x →
+        passed (svd (now (a .exit)) (now (v .exit))) (r .quiet) ≡ inStep m n p n x) ⌝ }
     ensures { λ r. ⌜ Paced m n p n (now (a .exit)) (now (ss .exit)) r × (length (now (v .exit)) ≡ n * n) ⌝ }
 {
     let mut k = begun;
@@ -343,7 +346,8 @@ fn two_rows(
     still: bool,
 ) -> bool
     requires { ⌜ Beside m n (now a) (now v) (now ss) × (p + 2 < n) ⌝ }
-    ensures { λ r. ⌜ passed (svd (now (a .exit)) (now (v .exit))) r ≡ rowFree m n (p + 1) (rowFree m n p (passed (svd (now (a .entry)) (now (v .entry))) still)) ⌝ }
+    ensures { λ r. ⌜ passed (svd (now (a .exit)) (now (v .exit))) r
+        ≡ rowFree m n (p + 1) (rowFree m n p (passed (svd (now (a .entry)) (now (v .entry))) still)) ⌝ }
     ensures { λ r. ⌜ Beside m n (now (a .exit)) (now (v .exit)) (now (ss .exit)) ⌝ }
 {
     let begun = lead(a, v, ss, m, n, p, still);
@@ -362,7 +366,8 @@ struct Rows {
 // The rows two by two, as long as there are three columns more.
 fn rows_in_step(a: &mut [f64], v: &mut [f64], ss: &mut [f64], m: usize, n: usize) -> Rows
     requires { ⌜ Beside m n (now a) (now v) (now ss) ⌝ }
-    ensures { λ r. ⌜ passed (svd (now (a .exit)) (now (v .exit))) (r .quiet) ≡ iter (r .p) (rowFree m n) (passed (svd (now (a .entry)) (now (v .entry))) true) ⌝ }
+    ensures { λ r. ⌜ passed (svd (now (a .exit)) (now (v .exit))) (r .quiet)
+        ≡ iter (r .p) (rowFree m n) (passed (svd (now (a .entry)) (now (v .entry))) true) ⌝ }
     ensures { λ r. ⌜ Beside m n (now (a .exit)) (now (v .exit)) (now (ss .exit)) × (r .p ≤ n) ⌝ }
 {
     let mut p = 0;
@@ -385,7 +390,8 @@ fn row(
     still: bool,
 ) -> bool
     requires { ⌜ Beside m n (now a) (now v) (now ss) × (p < n) ⌝ }
-    ensures { λ r. ⌜ (passed (svd (now (a .exit)) (now (v .exit))) r ≡ rowFree m n p (passed (svd (now (a .entry)) (now (v .entry))) still)) × Beside m n (now (a .exit)) (now (v .exit)) (now (ss .exit)) ⌝ }
+    ensures { λ r. ⌜ (passed (svd (now (a .exit)) (now (v .exit))) r ≡ rowFree m n p (passed (svd (now (a .entry)) (now (v .entry))) still))
+        × Beside m n (now (a .exit)) (now (v .exit)) (now (ss .exit)) ⌝ }
 {
     let w = following(p, n);
     let mut k = plan_at(a, ss, m, n, p, w);
@@ -400,7 +406,8 @@ fn row(
 // The rows from `begun` on, one by one.
 fn last_rows(a: &mut [f64], v: &mut [f64], ss: &mut [f64], m: usize, n: usize, begun: Rows) -> bool
     requires { ⌜ Beside m n (now a) (now v) (now ss) × (begun .p ≤ n) ⌝ }
-    ensures { λ r. ⌜ ((x : Pass) → passed (svd (now (a .entry)) (now (v .entry))) (begun .quiet) ≡ iter (begun .p) (rowFree m n) x → passed (svd (now (a .exit)) (now (v .exit))) r ≡ iter n (rowFree m n) x) ⌝ }
+    ensures { λ r. ⌜ ((x : Pass) → passed (svd (now (a .entry)) (now (v .entry))) (begun .quiet) ≡ iter (begun .p) (rowFree m n) x →
+        passed (svd (now (a .exit)) (now (v .exit))) r ≡ iter n (rowFree m n) x) ⌝ }
     ensures { λ r. ⌜ Beside m n (now (a .exit)) (now (v .exit)) (now (ss .exit)) ⌝ }
 {
     let mut quiet = begun.quiet;
@@ -415,7 +422,8 @@ fn last_rows(a: &mut [f64], v: &mut [f64], ss: &mut [f64], m: usize, n: usize, b
 // One pass: whether it turned no pair.
 fn pass(a: &mut [f64], v: &mut [f64], ss: &mut [f64], m: usize, n: usize) -> bool
     requires { ⌜ Beside m n (now a) (now v) (now ss) ⌝ }
-    ensures { λ r. ⌜ (passed (svd (now (a .exit)) (now (v .exit))) r ≡ passFree m n (passed (svd (now (a .entry)) (now (v .entry))) true)) × Beside m n (now (a .exit)) (now (v .exit)) (now (ss .exit)) ⌝ }
+    ensures { λ r. ⌜ (passed (svd (now (a .exit)) (now (v .exit))) r ≡ passFree m n (passed (svd (now (a .entry)) (now (v .entry))) true))
+        × Beside m n (now (a .exit)) (now (v .exit)) (now (ss .exit)) ⌝ }
 {
     let begun = rows_in_step(a, v, ss, m, n);
     last_rows(a, v, ss, m, n, begun)
@@ -441,7 +449,8 @@ fn both_finite(v: &[f64], ss: &[f64]) -> bool
 // At most 100 passes, a quiet one being the last, as long as all numbers are finite after each.
 fn quick_passes(a: &mut [f64], v: &mut [f64], ss: &mut [f64], m: usize, n: usize) -> Quick
     requires { ⌜ Held m n (now a) (now v) (now ss) ⌝ }
-    ensures { λ r. ⌜ (r .fine ≡ true → (orthogonalized m n (svd (now (a .entry)) (now (v .entry))) ≡ staged Whole (made (r .count) (svd (now (a .exit)) (now (v .exit))))) × (now (ss .exit) ≡ squares m n (now (a .exit)))) ⌝ }
+    ensures { λ r. ⌜ (r .fine ≡ true → (orthogonalized m n (svd (now (a .entry)) (now (v .entry)))
+        ≡ staged Whole (made (r .count) (svd (now (a .exit)) (now (v .exit))))) × (now (ss .exit) ≡ squares m n (now (a .exit)))) ⌝ }
 {
     let mut count: usize = 0;
     let mut quiet = false;
@@ -471,7 +480,8 @@ pub fn orthogonalize(
     n: usize,
 ) -> passes::Passes
     requires { ⌜ Held m n (now a) (now v) (now ss) × (now v ≡ eye n) × (length (now b) ≡ n * m) ⌝ }
-    ensures { λ r. ⌜ (orthogonalized m n (svd (now (a .entry)) (now (v .entry))) ≡ staged (r .stage) (made (r .count) (svd (now (a .exit)) (now (v .exit))))) × (now (ss .exit) ≡ squares m n (now (a .exit))) ⌝ }
+    ensures { λ r. ⌜ (orthogonalized m n (svd (now (a .entry)) (now (v .entry)))
+        ≡ staged (r .stage) (made (r .count) (svd (now (a .exit)) (now (v .exit))))) × (now (ss .exit) ≡ squares m n (now (a .exit))) ⌝ }
 {
     lists::copy(a, b);
     let w = quick_passes(a, v, ss, m, n);

@@ -26,7 +26,10 @@ both-requires : tie.Need-both-requires Inv-loop μ-loop
 both-requires c κs = let held = c .before .before .before .before .loop .inv in (held .5, held .6, held .1, c .before .before .before .loop-test .taken)
 
 add-q-2 : tie.Need-add-q-2 Inv-loop μ-loop
-add-q-2 c = record { fits = omega (arith, c .before .before .before .before .before .before .before .before .before .before .loop-test .taken, c .before .before .before .before .before .before .before .before .before .before .before .before .before .before .before .fits) }
+add-q-2 c =
+    let turn = c .before .before .before .before .before .before .before .before .before .before in
+    let start = turn .before .before .before .before .before in
+    record { fits = omega (arith, turn .loop-test .taken, start .fits) }
 
 loop-again : tie.Need-loop-again Inv-loop μ-loop
 loop-again c =

@@ -18,19 +18,30 @@ step-requires-2 c κs =
     (one .1 .0, omega arith, start .pre .1, rw z at (one .1 .1 (omega (arith, start .pre .1))))
 
 add-plan-at-2 : tie.Need-add-plan-at-2
-add-plan-at-2 c = let start = c .before .before .before .before .before .before .before .before .before .before .before .before .before .before .before .before .before .before .before .before .before .before .before .before .before .before .before .before in record { fits = omega (arith, start .pre .1, start .fits .n) }
+add-plan-at-2 c =
+    let two = c .before .before .before .before .before .before .before .before in
+    let start = two .before .before .before .before .before .before .before .before .before .before .before .before .before .before .before .before .before .before .before .before in
+    record { fits = omega (arith, start .pre .1, start .fits .n) }
 
 add-plan-at-3 : tie.Need-add-plan-at-3
-add-plan-at-3 c = let start = c .before .before .before .before .before .before .before .before .before .before .before .before .before .before .before .before .before .before .before .before .before .before .before .before .before .before .before .before in record { fits = omega (arith, start .pre .1, start .fits .n) }
+add-plan-at-3 c =
+    let two = c .before .before .before .before .before .before .before .before in
+    let start = two .before .before .before .before .before .before .before .before .before .before .before .before .before .before .before .before .before .before .before .before in
+    record { fits = omega (arith, start .pre .1, start .fits .n) }
 
 plan-at-requires-2 : tie.Need-plan-at-requires-2
-plan-at-requires-2 c κs = let start = c .before .before .before .before .before .before .before .before .before .before .before .before .before .before .before .before .before .before .before .before .before .before .before .before .before .before .before .before in (c .before .before .before .before .before .before .before .before .step2 .ensures .1 .0 .squared, omega (arith, start .pre .1), start .pre .1)
+plan-at-requires-2 c κs =
+    let two = c .before .before .before .before .before .before .before .before in
+    let start = two .before .before .before .before .before .before .before .before .before .before .before .before .before .before .before .before .before .before .before .before in
+    (two .step2 .ensures .1 .0 .squared, omega (arith, start .pre .1), start .pre .1)
 
 returns : tie.Need-returns
 returns c =
-    let start = c .before .before .before .before .before .before .before .before .before .before .before .before .before .before .before .before .before .before .before .before .before .before .before .before .before .before .before .before .before .before .before in
-    let one = c .before .before .before .before .before .before .before .before .before .before .before .before .before .before .before .before .before .before .before .before .before .step .ensures in
-    let two = c .before .before .before .before .before .before .before .before .before .before .before .step2 .ensures in
+    let at-two = c .before .before .before .before .before .before .before .before .before .before .before in
+    let at-one = at-two .before .before .before .before .before .before .before .before .before .before in
+    let start = at-one .before .before .before .before .before .before .before .before .before .before in
+    let one = at-one .step .ensures in
+    let two = at-two .step2 .ensures in
     let p : ℕ = start .args .p in
     let three : p + 2 + 1 ≡ p + 3 = omega arith in
     let last : p + 3 - 1 ≡ p + 2 = omega arith in (

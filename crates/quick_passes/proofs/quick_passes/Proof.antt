@@ -1,4 +1,4 @@
--- `quick_passes::quick_passes` meets its contract. Assumes nothing.
+-- `quick_passes::quick_passes` meets its contract: after each pass all is finite, so it was a pass of the definition. Assumes nothing.
 use Rattle.lists.proofs.Turns.{turns}
 use Prim.Native.Nat.{_-_, _≤_}
 use mathlib.Core.Path.{_≡_, refl, sym}
@@ -12,11 +12,11 @@ use Rattle.passing.proofs.Rotated.{passes-start, passes-quiet, passes-more, pas
 use Rattle.quick_passes.proofs.Spun.{now-held, pass-staged, held-beside}
 use Rattle.quick_passes.proofs.quick_passes.Statement.{statement}
 use Rattle.quick_passes.proofs.quick_passes.Tie as tie
-use Rattle.quick_passes.proofs.quick_passes.Reads as reads
-use Rattle.quick_passes.proofs.quick_passes.Lts as lts
 
 abbrev Inv-loop : tie.InvT-loop
-Inv-loop a₀ v₀ ss₀ m n count₀ quiet₀ a v ss count quiet = (count ≤ mostPasses) × (length a ≡ length a₀) × (length v ≡ length v₀) × (length ss ≡ length ss₀) × Held m n a v ss × (orthogonalized m n (svd a₀ v₀) ≡ passesFrom (mostPasses - count) quiet m n count (svd a v))
+Inv-loop a₀ v₀ ss₀ m n count₀ quiet₀ a v ss count quiet =
+    (count ≤ mostPasses) × (length a ≡ length a₀) × (length v ≡ length v₀) × (length ss ≡ length ss₀) × Held m n a v ss
+    × (orthogonalized m n (svd a₀ v₀) ≡ passesFrom (mostPasses - count) quiet m n count (svd a v))
 
 abbrev μ-loop : tie.MeasureT-loop
 μ-loop a₀ v₀ ss₀ m n count₀ quiet₀ a v ss count quiet = mostPasses - count
@@ -35,13 +35,17 @@ returns-2 c e = absurd (true≢false (sym e))
 
 loop-again : tie.Need-loop-again Inv-loop μ-loop
 loop-again c =
-    let f = c .before .both-finite .ensures (not-no _ (c .if2 .left)) in (
+    let fine = c .before .both-finite .ensures (not-no _ (c .if2 .left)) in
+    let made = c .before .before .before .before .before .before .before .before .before .before .pass .ensures in
+    let turn = c .before .before .before .before .before .before .before .before .before .before .before .before .before .before in
+    let held = turn .before .before .loop in
+    let staged = pass-staged _ _ _ _ _ _ _ _ (made .1) (fine .0) (fine .1) (held .inv .4) _ (made .0) in (
       search turns,
       search turns,
       search turns,
       search turns,
-      now-held _ _ (c .before .before .before .before .before .before .before .before .before .before .before .before .before .before .before .before .loop .a) (c .before .before .before .before .before .before .before .before .before .before .before .before .before .before .before .before .loop .v) (c .before .before .before .before .before .before .before .before .before .before .before .before .before .before .before .before .loop .ss) _ _ _ (c .before .before .before .before .before .before .before .before .before .before .pass .ensures .1) (f .0) (f .1),
-      passes-more _ _ _ _ _ _ _ (c .before .before .before .before .before .before .before .before .before .before .before .before .before .before .before .before .loop .inv .5) (c .before .before .before .before .before .before .before .before .before .before .before .before .before .before .before .loop-test .taken) (c .before .before .before .before .before .before .before .before .before .before .before .before .before .before .if1 .left) Whole _ (pass-staged _ _ _ _ _ _ _ _ (c .before .before .before .before .before .before .before .before .before .before .pass .ensures .1) (f .0) (f .1) (c .before .before .before .before .before .before .before .before .before .before .before .before .before .before .before .before .loop .inv .4) _ (c .before .before .before .before .before .before .before .before .before .before .pass .ensures .0)) refl,
+      now-held _ _ (held .a) (held .v) (held .ss) _ _ _ (made .1) (fine .0) (fine .1),
+      passes-more _ _ _ _ _ _ _ (held .inv .5) (turn .before .loop-test .taken) (turn .if1 .left) Whole _ staged refl,
     )
 
 returns-3 : tie.Need-returns-3 Inv-loop μ-loop

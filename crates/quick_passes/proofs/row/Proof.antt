@@ -31,7 +31,10 @@ step-requires c κs =
     (held .5, omega (arith, held .1), below, held .7 below)
 
 add-q-2 : tie.Need-add-q-2 Inv-loop μ-loop
-add-q-2 c = record { fits = omega (arith, c .before .before .before .before .before .before .before .before .before .before .before .loop-test .taken, c .before .before .before .before .before .before .before .before .before .before .before .before .before .before .before .before .before .before .before .before .fits) }
+add-q-2 c =
+    let turn = c .before .before .before .before .before .before .before .before .before .before .before in
+    let start = turn .before .before .before .before .before .before .before .before .before in
+    record { fits = omega (arith, turn .loop-test .taken, start .fits) }
 
 loop-again : tie.Need-loop-again Inv-loop μ-loop
 loop-again c =

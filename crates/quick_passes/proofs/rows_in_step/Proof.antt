@@ -32,7 +32,8 @@ loop-again c =
     let held = c .before .before .before .before .before .before .before .before .before .before .before .loop in
     let made = c .before .before .before .before .before .before .two-rows .ensures in
     let begun = passed (svd (given .a .now) (given .v .now)) true in
-    (omega (arith, c .before .before .before .before .before .before .before .before .before .before .loop-test .taken), search turns, search turns, search turns, made .1, iter-two (rowFree (given .m) (given .n)) begun (held .p) _ _ (held .inv .5) (made .0))
+    let below = c .before .before .before .before .before .before .before .before .before .before .loop-test .taken in
+    (omega (arith, below), search turns, search turns, search turns, made .1, iter-two (rowFree (given .m) (given .n)) begun (held .p) _ _ (held .inv .5) (made .0))
 
 returns : tie.Need-returns Inv-loop μ-loop
 returns c = let held = c .before .loop .inv in (held .5, (held .4, held .0))

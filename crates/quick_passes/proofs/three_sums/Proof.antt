@@ -1,4 +1,4 @@
--- `quick_passes::three_sums` meets its contract. Assumes nothing.
+-- `quick_passes::three_sums` meets its contract: each sum is that of the rows passed. Assumes nothing.
 use Rattle.lists.proofs.Turns.{turns}
 use Prim.Native.Nat.{ℕ, _-_, _≤_}
 use mathlib.Core.Path.{_≡_}
@@ -14,7 +14,11 @@ use Rattle.quick_passes.proofs.three_sums.Tie as tie
 ruleset ways = (turns, exacts)
 
 abbrev Inv-loop : tie.InvT-loop
-Inv-loop a m n p q w first₀ second₀ third₀ row₀ first second third row = (row ≤ m) × (first ≡ iter row (λ (i : ℕ) (s : Float). plus s (times (cell m a p i) (cell m a p i))) first₀) × (second ≡ iter row (λ (i : ℕ) (s : Float). plus s (times (cell m a q i) (cell m a q i))) second₀) × (third ≡ iter row (λ (i : ℕ) (s : Float). plus s (times (cell m a p i) (cell m a w i))) third₀)
+Inv-loop a m n p q w first₀ second₀ third₀ row₀ first second third row =
+    (row ≤ m)
+    × (first ≡ iter row (λ (i : ℕ) (s : Float). plus s (times (cell m a p i) (cell m a p i))) first₀)
+    × (second ≡ iter row (λ (i : ℕ) (s : Float). plus s (times (cell m a q i) (cell m a q i))) second₀)
+    × (third ≡ iter row (λ (i : ℕ) (s : Float). plus s (times (cell m a p i) (cell m a w i))) third₀)
 
 abbrev μ-loop : tie.MeasureT-loop
 μ-loop a m n p q w first₀ second₀ third₀ row₀ first second third row = m - row
