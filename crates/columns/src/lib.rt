@@ -1,6 +1,6 @@
 // Columns stored one after another: multiplied, turned, and looked over.
 ghost use mathlib.Core.Path.{_≡_};
-ghost use mathlib.Core.Bool.{true};
+ghost use mathlib.Core.Bool.{true, false};
 ghost use Prim.Native.Nat.{ℕ, _+_, _-_, _*_, _<_, _≤_};
 ghost use lib.ListN.{length, take, drop};
 ghost use Rattle.answers.specs.Outcome.{stageOf};
@@ -63,10 +63,25 @@ pub fn square_again(a: &[f64], m: usize, n: usize, p: usize, q: usize, ss: &mut 
     ss[q] = both.second;
 }
 
+// Whether products tell without a root that a pair is turned, as they do of most: 5e-28 is so far above the tolerance's square that no rounding
+// counts.
+fn plainly_turned(alpha: f64, low: f64, high: f64) -> bool
+    ensures { λ r. ⌜ (r ≡ true → skipped alpha low high ≡ false) ⌝ }
+{
+    let product = low * high;
+    if 0.0 < product {
+        return !(alpha * alpha <= product * 5e-28);
+    }
+    false
+}
+
 // Whether a pair is so near a right angle, or so small, that it isn't turned.
 pub fn skipped(alpha: f64, low: f64, high: f64) -> bool
     ensures { λ r. ⌜ r ≡ skipped alpha low high ⌝ }
 {
+    if plainly_turned(alpha, low, high) {
+        return false;
+    }
     let sq = numbers::root(low * high);
     if sq <= 0.0 {
         return true;
