@@ -1,3 +1,5 @@
 pub mod Finite
+pub mod Strips
+pub mod Plainly
 -- for the code: columns of which two were turned
 pub mod TwoColumns

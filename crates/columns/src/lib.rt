@@ -1,10 +1,11 @@
 // Columns stored one after another: multiplied, turned, and looked over.
 ghost use mathlib.Core.Path.{_≡_};
-ghost use mathlib.Core.Bool.{true};
-ghost use Prim.Native.Nat.{ℕ, _+_, _-_, _*_, _<_};
+ghost use mathlib.Core.Bool.{true, false};
+ghost use Prim.Native.Nat.{ℕ, _+_, _-_, _*_, _<_, _≤_};
 ghost use lib.ListN.{length, take, drop};
 ghost use Rattle.answers.specs.Outcome.{stageOf};
 ghost use Rattle.lists.specs.Floats.{at, allFinite, stored};
+ghost use Rattle.rotation.specs.Pairs.{turnPairs};
 ghost use Rattle.columns.specs.Columns.{turnStored, dot, skipped};
 ghost use Rattle.columns.specs.Loops.{squares, Elsewhere};
 
@@ -62,10 +63,25 @@ pub fn square_again(a: &[f64], m: usize, n: usize, p: usize, q: usize, ss: &mut 
     ss[q] = both.second;
 }
 
+// Whether products tell without a root that a pair is turned, as they do of most: 5e-28 is so far above the tolerance's square that no rounding
+// counts.
+fn plainly_turned(alpha: f64, low: f64, high: f64) -> bool
+    ensures { λ r. ⌜ (r ≡ true → skipped alpha low high ≡ false) ⌝ }
+{
+    let product = low * high;
+    if 0.0 < product {
+        return !(alpha * alpha <= product * 5e-28);
+    }
+    false
+}
+
 // Whether a pair is so near a right angle, or so small, that it isn't turned.
 pub fn skipped(alpha: f64, low: f64, high: f64) -> bool
     ensures { λ r. ⌜ r ≡ skipped alpha low high ⌝ }
 {
+    if plainly_turned(alpha, low, high) {
+        return false;
+    }
     let sq = numbers::root(low * high);
     if sq <= 0.0 {
         return true;
@@ -73,12 +89,72 @@ pub fn skipped(alpha: f64, low: f64, high: f64) -> bool
     numbers::magnitude(alpha / sq) <= 1e-14
 }
 
-// Columns p and q turned.
+// Two rows of the columns from i and from j on. All four numbers are read before one is stored, so that they are compiled as two pairs with no
+// test of whether the columns overlap.
+fn turn_two(a: &mut [f64], i: usize, j: usize, c: f64, s: f64)
+    requires { ⌜ (i + 2 ≤ j) × (j + 2 ≤ length (now a)) ⌝ }
+    ensures { λ _. ⌜ now (a .exit) ≡ turnPairs 2 1 i j c s (now (a .entry)) ⌝ }
+{
+    let x = a[i];
+    let y = a[i + 1];
+    let z = a[j];
+    let w = a[j + 1];
+    a[i] = c * x - s * z;
+    a[i + 1] = c * y - s * w;
+    a[j] = s * x + c * z;
+    a[j + 1] = s * y + c * w;
+}
+
+fn turn_eight(a: &mut [f64], i: usize, j: usize, c: f64, s: f64)
+    requires { ⌜ (i + 8 ≤ j) × (j + 8 ≤ length (now a)) ⌝ }
+    ensures { λ _. ⌜ now (a .exit) ≡ turnPairs 8 1 i j c s (now (a .entry)) ⌝ }
+{
+    turn_two(a, i, j, c, s);
+    turn_two(a, i + 2, j + 2, c, s);
+    turn_two(a, i + 4, j + 4, c, s);
+    turn_two(a, i + 6, j + 6, c, s);
+}
+
+// A strip of sixteen rows. A loop over strips of eight would be compiled two strips at a time, with a shuffle for every number.
+fn turn_strip(a: &mut [f64], i: usize, j: usize, c: f64, s: f64)
+    requires { ⌜ (i + 16 ≤ j) × (j + 16 ≤ length (now a)) ⌝ }
+    ensures { λ _. ⌜ now (a .exit) ≡ turnPairs 16 1 i j c s (now (a .entry)) ⌝ }
+{
+    turn_eight(a, i, j, c, s);
+    turn_eight(a, i + 8, j + 8, c, s);
+}
+
+fn turn_strips(a: &mut [f64], strips: usize, i: usize, j: usize, c: f64, s: f64)
+    requires { ⌜ (i + strips * 16 ≤ j) × (j + strips * 16 ≤ length (now a)) ⌝ }
+    ensures { λ _. ⌜ now (a .exit) ≡ turnPairs (strips * 16) 1 i j c s (now (a .entry)) ⌝ }
+{
+    for k in 0..strips {
+        turn_strip(a, i + k * 16, j + k * 16, c, s);
+    }
+}
+
+fn turn_twos(a: &mut [f64], twos: usize, i: usize, j: usize, c: f64, s: f64)
+    requires { ⌜ (i + twos * 2 ≤ j) × (j + twos * 2 ≤ length (now a)) ⌝ }
+    ensures { λ _. ⌜ now (a .exit) ≡ turnPairs (twos * 2) 1 i j c s (now (a .entry)) ⌝ }
+{
+    for k in 0..twos {
+        turn_two(a, i + k * 2, j + k * 2, c, s);
+    }
+}
+
+// Columns p and q turned: strips, what they leave two rows at a time, and the last row of an odd number.
 pub fn turn(a: &mut [f64], m: usize, n: usize, p: usize, q: usize, c: f64, s: f64)
     requires { ⌜ (length (now a) ≡ n * m) × (p < q) × (q < n) ⌝ }
     ensures { λ _. ⌜ now (a .exit) ≡ turnStored m n p q c s (now (a .entry)) ⌝ }
 {
-    rotation::turn_pairs(a, m, 1, p * m, q * m, c, s);
+    let i = p * m;
+    let j = q * m;
+    let strips = m / 16;
+    let rows = strips * 16;
+    let even = m / 2 * 2;
+    turn_strips(a, strips, i, j, c, s);
+    turn_twos(a, m % 16 / 2, i + rows, j + rows, c, s);
+    rotation::turn_pairs(a, m % 2, 1, i + even, j + even, c, s);
 }
 
 fn column_finite(a: &[f64], m: usize, n: usize, p: usize) -> bool
