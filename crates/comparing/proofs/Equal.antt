@@ -32,6 +32,10 @@ refuted t e x = true≢false (sym (t .always x) ∙ not-true _ e)
 pub tells-as : {X Y : Type 0} {r : Bool} → Tells r X → (X → Y) → (Y → X) → Tells r Y
 tells-as t f g = record { only = λ e. f (t .only e); always = λ y. t .always (g y) }
 
+-- the answer of which something is to be shown, and the one of which it is known, are one
+pub tells-by : {X : Type 0} {r s : Bool} → Tells s X → r ≡ s → Tells r X
+tells-by t e = record { only = λ h. t .only (sym e ∙ h); always = λ x. e ∙ t .always x }
+
 pub tells-both : {X Y : Type 0} {r s : Bool} → Tells r X → Tells s Y → Tells (r && s) (X × Y)
 tells-both t u = record { only = λ e. let w = both _ _ e in (t .only (w .0), u .only (w .1)); always = λ w. and-yes _ _ (t .always (w .0)) (u .always (w .1)) }
 
