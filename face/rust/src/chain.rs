@@ -38,7 +38,7 @@ impl Chain {
         })
     }
 
-    /// The separable start of one vector an axis.
+    /// The separable start of one vector per axis.
     pub fn separable(vectors: &[&[f64]]) -> Result<Chain, Refusal> {
         let sizes: Vec<usize> = vectors.iter().map(|vector| vector.len()).collect();
         let mut numbers = vec![0.0; sizes.iter().sum()];
