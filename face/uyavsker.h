@@ -186,7 +186,7 @@ uyavsker_rounded uyavsker_evolve(uyavsker_shape shape, uyavsker_course course, u
 /* ---- kept runs ----
  *
  * The slices of a run: the source chain, the weights, the stepped chain (as long as the source), the carries (right[k] times
- * right[k] numbers for each of the d - 1 bonds) and the sums (right[k] numbers an axis). */
+ * right[k] numbers for each of the d - 1 bonds) and the sums (right[k] numbers per axis). */
 
 /* One step of the source, then its inner product with the weights. */
 uyavsker_ran uyavsker_fresh_run(uyavsker_shape shape, uyavsker_axes axes, uyavsker_settings settings,
@@ -226,7 +226,7 @@ uyavsker_paired uyavsker_contract_and_split(uyavsker_sizes left, uyavsker_sizes 
 /* Reads a file into room for at least as many numbers as its chain has. */
 uyavsker_formed uyavsker_read_chain(const uint8_t *bytes, size_t bytes_len, double *out, size_t out_len);
 
-/* Writes the file, into exactly 8 + 12 * d bytes and 8 a number. */
+/* Writes the file, into exactly 8 + 12 * d bytes and 8 per number. */
 uyavsker_refusal uyavsker_write_chain(uyavsker_shape shape, const double *chain, size_t chain_len,
                                       uint8_t *out, size_t out_len);
 

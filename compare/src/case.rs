@@ -18,7 +18,7 @@ pub trait Case: Debug + Sized {
     fn port(&self, r: &mut Random, want: &Result<Self::Answer, Refusal>) -> Result<(), String>;
 }
 
-/// The numbers of the refusals on which both agree, one a call, 0 where both answer; or what differs, and the case.
+/// The numbers of the refusals on which both agree, one per call, 0 where both answer; or what differs, and the case.
 pub type Told = Result<Vec<u64>, String>;
 
 pub fn compare<C: Case>(mut case: C, r: &mut Random) -> Told {

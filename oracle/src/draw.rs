@@ -181,7 +181,7 @@ pub fn chain_of(r: &mut Random, cores: usize, size: usize, rank: usize) -> Vec<T
         .collect()
 }
 
-/// One list of numbers an axis, as long as its core's n.
+/// One list of numbers per axis, as long as its core's n.
 pub fn weights(r: &mut Random, cores: &[TtCore<f64>]) -> Vec<Vec<f64>> {
     let way = r.below(6);
     let manner = r.of(&[

@@ -1,4 +1,4 @@
-//! Prints cases with the Rust's answers, one a line; README.md says how to read them.
+//! Prints cases with the Rust's answers, one per line; README.md says how to read them.
 use oracle::draw::Most;
 use oracle::kinds;
 use oracle::line::Line;

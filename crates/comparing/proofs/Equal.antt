@@ -1,28 +1,63 @@
--- Lists that agree at every index, and numbers with equal bits, are equal. Assumes nothing.
+-- What a comparison tells, by its parts; lists that agree at every index, and numbers with equal bits, are equal. Assumes nothing.
 use mathlib.Core.Path.{_≡_, refl, sym, ap, _∙_}
 use Prim.Native.Nat.{ℕ, _+_, _≤_, _<_}
 use native.Mathlib.Nat.{not-suc-le-zero}
 use native.Mathlib.Omega.{arith}
-use mathlib.Core.Bool.{Bool, true, false, not, Bool·beq, true≢false}
+use mathlib.Core.Bool.{Bool, true, false, not, _&&_, Bool·beq, true≢false}
 use mathlib.Core.List.{List}
-use lib.Dec.{T}
+use lib.Dec.{T, eqb}
 use lib.ListN.{length, getD}
 use lib.Seq.{ext-getD}
 use lib.Ieee.{Float, binary64, fits, toBits, ofBits}
 use lib.Ieee.Bits.{ofBits-toBits}
 use borrow.Author.Count.{below-more}
+use borrow.Author.Tests.{not-true}
+use Rattle.lists.proofs.Tests.{both, and-yes, eqb-is, eqb-yes, same-test}
+use Rattle.comparing.specs.Same.{Tells}
 
+-- ---- what an answer tells; whatever X is, there is one such answer
+pub one-answer : {X : Type 0} {r s : Bool} → Tells r X → Tells s X → r ≡ s
+one-answer t u = same-test _ _ (λ e. u .always (t .only e)) (λ e. t .always (u .only e))
+
+pub tells-yes : {X : Type 0} → X → Tells true X
+tells-yes x = record { only = λ _. x; always = λ _. refl }
+
+pub tells-no : {X : Type 0} → (X → ⊥) → Tells false X
+tells-no h = record { only = λ e. absurd (true≢false (sym e)); always = λ x. absurd (h x) }
+
+-- a test that was left says X, one that was taken its contrary
+pub refuted : {X : Type 0} {r : Bool} → Tells r X → not r ≡ true → X → ⊥
+refuted t e x = true≢false (sym (t .always x) ∙ not-true _ e)
+
+pub tells-as : {X Y : Type 0} {r : Bool} → Tells r X → (X → Y) → (Y → X) → Tells r Y
+tells-as t f g = record { only = λ e. f (t .only e); always = λ y. t .always (g y) }
+
+-- the answer of which something is to be shown, and the one of which it is known, are one
+pub tells-by : {X : Type 0} {r s : Bool} → Tells s X → r ≡ s → Tells r X
+tells-by t e = record { only = λ h. t .only (sym e ∙ h); always = λ x. e ∙ t .always x }
+
+pub tells-both : {X Y : Type 0} {r s : Bool} → Tells r X → Tells s Y → Tells (r && s) (X × Y)
+tells-both t u = record { only = λ e. let w = both _ _ e in (t .only (w .0), u .only (w .1)); always = λ w. and-yes _ _ (t .always (w .0)) (u .always (w .1)) }
+
+-- ---- two numbers, by their bits
 pub same-bits : (x y : Float) → T (fits binary64 x) → T (fits binary64 y) → toBits binary64 x ≡ toBits binary64 y → x ≡ y
 same-bits x y f g e = sym (ofBits-toBits binary64 x f) ∙ ap (ofBits binary64) e ∙ ofBits-toBits binary64 y g
 
+pub bits-tell : (x y : Float) (m n : ℕ) → T (fits binary64 x) → T (fits binary64 y) → m ≡ toBits binary64 x → n ≡ toBits binary64 y → Tells (eqb m n) (x ≡ y)
+bits-tell x y m n f g p q = record { only = λ e. same-bits x y f g (sym p ∙ eqb-is m n e ∙ q); always = λ e. eqb-yes m n (p ∙ ap (toBits binary64) e ∙ sym q) }
+
+-- ---- two flags
 pub same-flag : (x y : Bool) → not (Bool·beq x y) ≡ false → x ≡ y
 same-flag true true e = refl
 same-flag true false e = absurd (true≢false e)
 same-flag false true e = absurd (true≢false e)
 same-flag false false e = refl
 
-pub never : {X : Type 0} → false ≡ true → X
-never e = absurd (true≢false (sym e))
+pub other-flag : (x y : Bool) → not (Bool·beq x y) ≡ true → x ≡ y → ⊥
+other-flag true true e h = true≢false (sym e)
+other-flag true false e h = true≢false h
+other-flag false true e h = true≢false (sym h)
+other-flag false false e h = true≢false (sym e)
 
 -- ---- a loop over two lists: the first i of a and b agree
 pub record Agreed {A : Type 0} (o : A) (a b : List A) (i : ℕ) : Type 0 where
@@ -35,5 +70,11 @@ module _ {A : Type 0} {o : A} {a b : List A} where
   pub agreed-more : {i : ℕ} → Agreed o a b i → getD a i o ≡ getD b i o → Agreed o a b (i + 1)
   agreed-more {i} e g = record { each = below-more (λ (k : ℕ). getD a k o ≡ getD b k o) i (e .each) g }
 
-  pub agreed-all : {i : ℕ} → Agreed o a b i → length a ≤ i → length a ≡ length b → a ≡ b
-  agreed-all {i} e h l = ext-getD o a b l (λ k lt. e .each k (omega arith))
+  pub agreed-all : {i : ℕ} → Agreed o a b i → length a ≤ i → length a ≡ length b → Tells true (a ≡ b)
+  agreed-all {i} e h l = tells-yes (ext-getD o a b l (λ k lt. e .each k (omega arith)))
+
+pub differs-at : {A : Type 0} {a b : List A} (o : A) (i : ℕ) → (getD a i o ≡ getD b i o → ⊥) → Tells false (a ≡ b)
+differs-at {A} o i h = tells-no (λ e. h (ap (λ (l : List A). getD l i o) e))
+
+pub differs-in-length : {A : Type 0} {a b : List A} → (length a ≡ length b → ⊥) → Tells false (a ≡ b)
+differs-in-length h = tells-no (λ e. h (ap length e))

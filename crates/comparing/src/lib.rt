@@ -1,18 +1,17 @@
 // Two kept runs beside each other, number by number and bit by bit.
 ghost use mathlib.Core.Path.{_≡_};
-ghost use mathlib.Core.Bool.{true};
-ghost use Rattle.comparing.specs.Same.{SameRecord, SameKept};
+ghost use Rattle.comparing.specs.Same.{Tells, SameRecord, SameKept};
 
 // Whether two numbers have the same bits.
 pub fn same_number(x: f64, y: f64) -> bool
-    ensures { λ r. ⌜ (r ≡ true → x ≡ y) ⌝ }
+    ensures { λ r. ⌜ Tells r (x ≡ y) ⌝ }
 {
     digits::pattern(x) == digits::pattern(y)
 }
 
 // Whether two lists hold the same numbers, down to the bits.
 pub fn same_numbers(a: &[f64], b: &[f64]) -> bool
-    ensures { λ r. ⌜ (r ≡ true → now (a .entry) ≡ now (b .entry)) ⌝ }
+    ensures { λ r. ⌜ Tells r (now (a .entry) ≡ now (b .entry)) ⌝ }
 {
     if a.len() != b.len() {
         return false;
@@ -28,7 +27,7 @@ pub fn same_numbers(a: &[f64], b: &[f64]) -> bool
 }
 
 fn same_counts(a: [usize; shape::MOST_AXES], b: [usize; shape::MOST_AXES]) -> bool
-    ensures { λ r. ⌜ (r ≡ true → a ≡ b) ⌝ }
+    ensures { λ r. ⌜ Tells r (a ≡ b) ⌝ }
 {
     let mut k = 0;
     while k < shape::MOST_AXES {
@@ -41,7 +40,7 @@ fn same_counts(a: [usize; shape::MOST_AXES], b: [usize; shape::MOST_AXES]) -> bo
 }
 
 fn same_flags(a: [bool; shape::MOST_AXES], b: [bool; shape::MOST_AXES]) -> bool
-    ensures { λ r. ⌜ (r ≡ true → a ≡ b) ⌝ }
+    ensures { λ r. ⌜ Tells r (a ≡ b) ⌝ }
 {
     let mut k = 0;
     while k < shape::MOST_AXES {
@@ -55,7 +54,7 @@ fn same_flags(a: [bool; shape::MOST_AXES], b: [bool; shape::MOST_AXES]) -> bool
 
 // Whether two records keep the same ranks, sweeps, flags and figure.
 pub fn same_record(a: kept::Run, b: kept::Run) -> bool
-    ensures { λ r. ⌜ (r ≡ true → SameRecord a b) ⌝ }
+    ensures { λ r. ⌜ Tells r (SameRecord a b) ⌝ }
 {
     let ranks = a.ranks;
     let other_ranks = b.ranks;
@@ -86,7 +85,8 @@ pub fn same_kept(
     sums: &[f64],
     sums2: &[f64],
 ) -> bool
-    ensures { λ r. ⌜ (r ≡ true → SameKept a b (now (chain .entry)) (now (chain2 .entry)) (now (carries .entry)) (now (carries2 .entry)) (now (sums .entry)) (now (sums2 .entry))) ⌝ }
+    ensures { λ r. ⌜ Tells r (SameKept a b (now (chain .entry)) (now (chain2 .entry)) (now (carries .entry)) (now (carries2 .entry))
+        (now (sums .entry)) (now (sums2 .entry))) ⌝ }
 {
     let record = same_record(a, b);
     let cores = same_numbers(chain, chain2);

@@ -80,7 +80,7 @@ pub fn step_over(
     work(0, s, set, xs, chain, scratch)
 }
 
-// The same of a course.
+// What 6 and 7 ask of the lone settings and the number of steps of a course.
 fn course_finite(p: Course) -> bool
     ensures { λ r. ⌜ r ≡ finite (p .«t_final») && (finite (p .c) && finite (p .eps)) ⌝ }
 {
@@ -138,7 +138,7 @@ pub fn evolve_over(
     work(p.steps - 1, s, set, xs, chain, scratch)
 }
 
-// One step of a chain, with one record an axis.
+// One step of a chain, with one record per axis.
 pub fn step(
     s: shape::Shape,
     set: stepping::Settings,

@@ -24,7 +24,7 @@ pub fn take_carry(z: usize, s: shape::Shape, carries: &[f64], held: &mut [f64])
     committing::put_at(at, &carries[at..end], held);
 }
 
-// The same of the sums.
+// The sums left of zone z, in their slot of summed; left of zone 0 there are none.
 pub fn take_sum(z: usize, s: shape::Shape, sums: &[f64], summed: &mut [f64])
     requires { ⌜ SizesWithin s ⌝ }
     requires { ⌜ (z < s .d) × (offset (sumSize s) (s .d) ≤ length (now sums)) × (offset (sumSize s) (s .d) ≤ length (now summed)) ⌝ }

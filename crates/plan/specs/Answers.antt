@@ -3,6 +3,7 @@ use mathlib.Core.Path.{_≡_}
 use Prim.Native.Nat.{ℕ}
 use mathlib.Core.List.{List}
 use lib.Ieee.{Float}
+use Rattle.answers.specs.declared.Verdict.the-variants.{Fits}
 use Rattle.lists.specs.Floats.{zeros}
 use Rattle.axes.specs.declared.Axis.{Axis}
 use Rattle.kept.specs.Call.{FreshEnd, ReplaceEnd, freshCall, replaceCoreCall, replaceWeightsCall, replaceAxisCall}
@@ -36,3 +37,11 @@ axisEnd p z x = replaceAxisCall (p .run) z x (p .source) (p .weights) (p .chain)
 -- two plans keep the same
 abbrev pub SamePlans : Plan → Plan → Type 0
 SamePlans p q = SameKept (p .run) (q .run) (p .chain) (q .chain) (p .carries) (q .carries) (p .sums) (q .sums)
+
+-- a fresh run is accepted, and leaves a plan that keeps what p keeps
+pub record FreshIs (p : Plan) (fresh : Answer) : Type 0 where
+  pub accepted : fresh .verdict ≡ Fits
+  pub kept : SamePlans p (fresh .plan)
+
+abbrev pub AsFresh : Plan → Type 0
+AsFresh p = FreshIs p (freshAnswer p (freshEnd p))

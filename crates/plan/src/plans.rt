@@ -1,9 +1,8 @@
 // The plan with its run, by value: a record and five arrays; a fresh run of it, and the replacement of one zone's core, weights
 // or axis record; and whether it keeps the bits of a fresh run.
 ghost use mathlib.Core.Path.{_≡_};
-ghost use mathlib.Core.Bool.{true};
-ghost use Rattle.comparing.specs.Same.{SameKept};
-ghost use Rattle.plan.specs.Answers.{freshEnd, freshAnswer, coreEnd, weightsEnd, axisEnd, replaceAnswer, SamePlans};
+ghost use Rattle.comparing.specs.Same.{Tells, SameKept};
+ghost use Rattle.plan.specs.Answers.{freshEnd, freshAnswer, coreEnd, weightsEnd, axisEnd, replaceAnswer, AsFresh};
 
 pub struct Plan {
     pub run: kept::Run,
@@ -170,16 +169,20 @@ fn same_kept(
     a: kept::Run,
     b: kept::Run,
 ) -> bool
-    ensures { λ r. ⌜ (r ≡ true → SameKept a b chain chain2 carries carries2 sums sums2) ⌝ }
+    ensures { λ r. ⌜ Tells r (SameKept a b chain chain2 carries carries2 sums sums2) ⌝ }
 {
     comparing::same_kept(a, b, &chain, &chain2, &carries, &carries2, &sums, &sums2)
 }
 
-// A fresh run is made, and every number that is kept is compared.
+// Whether a fresh run on the plan's inputs is accepted and keeps the same, down to the bits of every number.
 pub fn as_fresh(p: Plan) -> bool
-    ensures { λ r. ⌜ (r ≡ true → SamePlans p (freshAnswer p (freshEnd p) .plan)) ⌝ }
+    ensures { λ r. ⌜ Tells r (AsFresh p) ⌝ }
 {
     let a = fresh(p);
+    let verdict = a.verdict;
+    if let answers::Verdict::Refused(_) = verdict {
+        return false;
+    }
     let q = a.plan;
     let chain = p.chain;
     let chain2 = q.chain;

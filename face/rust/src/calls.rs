@@ -62,7 +62,7 @@ pub fn tt_round(
     Rounded::of(raw::tt_round(shape.raw, eps, chain, scratch))
 }
 
-/// One step of a chain, with one record an axis.
+/// One step of a chain, with one record per axis.
 pub fn step(
     shape: &Shape,
     settings: &Settings,

@@ -38,7 +38,7 @@ impl Chain {
         })
     }
 
-    /// The separable start of one vector an axis.
+    /// The separable start of one vector per axis.
     pub fn separable(vectors: &[&[f64]]) -> Result<Chain, Refusal> {
         let sizes: Vec<usize> = vectors.iter().map(|vector| vector.len()).collect();
         let mut numbers = vec![0.0; sizes.iter().sum()];
@@ -85,7 +85,7 @@ impl Chain {
         Ok(self.packed(rounded))
     }
 
-    /// One step, with one record an axis; refused, the chain is as it was.
+    /// One step, with one record per axis; refused, the chain is as it was.
     pub fn step(&mut self, settings: &Settings, axes: &[Axis]) -> Result<Rounded, Refusal> {
         let (numbers, scratch) = (&mut self.numbers, &mut self.scratch);
         let rounded = calls::step(&self.shape, settings, axes, numbers, scratch)?;

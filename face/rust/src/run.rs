@@ -44,7 +44,7 @@ pub struct Run {
 }
 
 impl Run {
-    /// A fresh run, with one record an axis; another number of records is refused with 5 at 0, as a step has it.
+    /// A fresh run, with one record per axis; another number of records is refused with 5 at 0, as a step has it.
     pub fn fresh(
         shape: &Shape,
         axes: &[Axis],

@@ -1,7 +1,7 @@
 -- `comparing::same_counts` meets its contract. Assumes nothing.
 use borrow.Author.Needs.{needs}
 use Prim.Native.Nat.{_≤_, _-_}
-use Rattle.comparing.proofs.Equal.{never, Agreed, agreed-none, agreed-more, agreed-all}
+use Rattle.comparing.proofs.Equal.{Agreed, agreed-none, agreed-more, agreed-all, differs-at}
 use Rattle.comparing.proofs.same_counts.Statement.{statement}
 use Rattle.comparing.proofs.same_counts.Tie as tie
 
@@ -14,8 +14,11 @@ abbrev μ-loop : tie.MeasureT-loop
 loop-again : tie.Need-loop-again Inv-loop μ-loop
 loop-again c = (search needs, agreed-more (c .before .before .loop .inv .1) (search needs))
 
+returns : tie.Need-returns Inv-loop μ-loop
+returns c = differs-at 0 (c .before .before .loop .k) (λ e. search needs)
+
 returns-2 : tie.Need-returns-2 Inv-loop μ-loop
-returns-2 c = λ _. agreed-all (c .before .loop .inv .1) (search needs) (search needs)
+returns-2 c = agreed-all (c .before .loop .inv .1) (search needs) (search needs)
 
 pub same-counts-spec : {M : Type 1} → statement M
 same-counts-spec = tie.close (tie.spec
@@ -26,7 +29,7 @@ same-counts-spec = tie.close (tie.spec
     (λ c. search needs)
     (λ c. search needs)
     (λ c. search needs)
-    (λ c. never)
+    returns
     (λ c. search needs)
     (λ c. search needs)
     loop-again

@@ -2,7 +2,7 @@
 use borrow.Author.Needs.{needs}
 use Prim.Native.Nat.{_≤_, _-_}
 use mathlib.Core.Bool.{false}
-use Rattle.comparing.proofs.Equal.{same-flag, never, Agreed, agreed-none, agreed-more, agreed-all}
+use Rattle.comparing.proofs.Equal.{same-flag, other-flag, Agreed, agreed-none, agreed-more, agreed-all, differs-at}
 use Rattle.comparing.proofs.same_flags.Statement.{statement}
 use Rattle.comparing.proofs.same_flags.Tie as tie
 
@@ -15,8 +15,11 @@ abbrev μ-loop : tie.MeasureT-loop
 loop-again : tie.Need-loop-again Inv-loop μ-loop
 loop-again c = (search needs, agreed-more (c .before .before .loop .inv .1) (same-flag _ _ (c .if1 .left)))
 
+returns : tie.Need-returns Inv-loop μ-loop
+returns c = differs-at false _ (other-flag _ _ (c .if1 .taken))
+
 returns-2 : tie.Need-returns-2 Inv-loop μ-loop
-returns-2 c = λ _. agreed-all (c .before .loop .inv .1) (search needs) (search needs)
+returns-2 c = agreed-all (c .before .loop .inv .1) (search needs) (search needs)
 
 pub same-flags-spec : {M : Type 1} → statement M
 same-flags-spec = tie.close (tie.spec
@@ -25,7 +28,7 @@ same-flags-spec = tie.close (tie.spec
     (λ c. (search needs, agreed-none))
     (λ c. search needs)
     (λ c. search needs)
-    (λ c. never)
+    returns
     (λ c. search needs)
     (λ c. search needs)
     loop-again

@@ -1,20 +1,18 @@
 -- `comparing::same_kept` meets its contract. Assumes nothing.
 use borrow.Author.Needs.{needs}
-use Rattle.lists.proofs.Tests.{both}
+use Rattle.comparing.proofs.Equal.{tells-as, tells-by, tells-both}
 use Rattle.comparing.proofs.same_kept.Statement.{statement}
 use Rattle.comparing.proofs.same_kept.Tie as tie
 
 returns : tie.Need-returns
-returns c = λ e.
-    let x = both _ _ e in
-    let y = both _ _ (x .0) in
-    let z = both _ _ (y .0) in
-    record {
-      bonds = c .before .before .before .same-record .ensures (z .0);
-      chain = c .before .before .same-numbers .ensures (z .1);
-      carries = c .before .same-numbers2 .ensures (y .1);
-      sums = c .same-numbers3 .ensures (x .1);
-    }
+returns c =
+    let bonds = c .before .before .before .same-record .ensures in
+    let chain = c .before .before .same-numbers .ensures in
+    let carries = c .before .same-numbers2 .ensures in
+    let all = tells-both (tells-both (tells-both bonds chain) carries) (c .same-numbers3 .ensures) in
+    tells-by
+    (tells-as all (λ w. record { bonds = w .0 .0 .0; chain = w .0 .0 .1; carries = w .0 .1; sums = w .1 }) (λ k. (((k .bonds, k .chain), k .carries), k .sums)))
+    (search needs)
 
 pub same-kept-spec : {M : Type 1} → statement M
 same-kept-spec = tie.close (tie.spec
