@@ -46,7 +46,10 @@ struct Eight {
 // The sums of every eighth of the first 8 k numbers, from each of the first eight on: the eight wait for nothing, and are compiled as four pairs.
 fn eight_sums(s: &[f64], k: usize) -> Eight
     requires { ⌜ k * 8 ≤ length (now s) ⌝ }
-    ensures { λ r. ⌜ (r .a ≡ sumTo k (λ (i : ℕ). at (now (s .entry)) (i * 8))) × (r .b ≡ sumTo k (λ (i : ℕ). at (now (s .entry)) (i * 8 + 1))) × (r .c ≡ sumTo k (λ (i : ℕ). at (now (s .entry)) (i * 8 + 2))) × (r .d ≡ sumTo k (λ (i : ℕ). at (now (s .entry)) (i * 8 + 3))) × (r .e ≡ sumTo k (λ (i : ℕ). at (now (s .entry)) (i * 8 + 4))) × (r .f ≡ sumTo k (λ (i : ℕ). at (now (s .entry)) (i * 8 + 5))) × (r .g ≡ sumTo k (λ (i : ℕ). at (now (s .entry)) (i * 8 + 6))) × (r .h ≡ sumTo k (λ (i : ℕ). at (now (s .entry)) (i * 8 + 7))) ⌝ }
+    ensures { λ r. ⌜ (r .a ≡ sumTo k (λ (i : ℕ). at (now (s .entry)) (i * 8))) × (r .b ≡ sumTo k (λ (i : ℕ). at (now (s .entry)) (i * 8 + 1)))
+        × (r .c ≡ sumTo k (λ (i : ℕ). at (now (s .entry)) (i * 8 + 2))) × (r .d ≡ sumTo k (λ (i : ℕ). at (now (s .entry)) (i * 8 + 3)))
+        × (r .e ≡ sumTo k (λ (i : ℕ). at (now (s .entry)) (i * 8 + 4))) × (r .f ≡ sumTo k (λ (i : ℕ). at (now (s .entry)) (i * 8 + 5)))
+        × (r .g ≡ sumTo k (λ (i : ℕ). at (now (s .entry)) (i * 8 + 6))) × (r .h ≡ sumTo k (λ (i : ℕ). at (now (s .entry)) (i * 8 + 7))) ⌝ }
 {
     let mut a = 0.0;
     let mut b = 0.0;

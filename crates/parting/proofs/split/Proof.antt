@@ -21,35 +21,59 @@ part-b-end : tie.Need-part-b-end
 part-b-end c = mul-le-mul (c .before .before .before .before .before .before .pre .0 .columns) (c .before .before .before .before .before .before .pre .0 .rows)
 
 valued-requires : tie.Need-valued-requires
-valued-requires c κs = (c .before .before .before .before .before .before .before .pre .1, c .before .before .before .before .before .before .before .pre .2, span-length _ _ (mul-le-mul (c .before .before .before .before .before .before .before .pre .0 .columns) (c .before .before .before .before .before .before .before .pre .0 .columns)), span-length _ _ (c .before .before .before .before .before .before .before .pre .0 .columns), span-length _ _ (mul-le-mul (c .before .before .before .before .before .before .before .pre .0 .columns) (c .before .before .before .before .before .before .before .pre .0 .rows)))
+valued-requires c κs =
+    let at-7 = c .before .before .before .before .before .before .before in (
+      at-7 .pre .1,
+      at-7 .pre .2,
+      span-length _ _ (mul-le-mul (at-7 .pre .0 .columns) (at-7 .pre .0 .columns)),
+      span-length _ _ (at-7 .pre .0 .columns),
+      span-length _ _ (mul-le-mul (at-7 .pre .0 .columns) (at-7 .pre .0 .rows)),
+    )
 
 returns : tie.Need-returns
-returns c = rw (c .refused-pair .ensures) (split-stop _ _ _ _ _ _ (c .before .before .before .before .before .before .before .before .before .valued .ensures) _ _ (c .before .before .stage .given .1))
+returns c =
+    let made = c .before .before .before .before .before .before .before .before .before .valued .ensures in
+    rw (c .refused-pair .ensures) (split-stop _ _ _ _ _ _ made _ _ (c .before .before .stage .given .1))
 
 part-cut-end : tie.Need-part-cut-end
-part-cut-end c = lent-end _ (c .before .before .before .before .before .before .before .before .before .valued .last .1 .0) _ _ (c .before .before .before .before .before .before .v2 .given) (mul-le-mul (c .before .before .before .before .before .before .before .before .before .before .before .before .before .before .before .before .before .pre .0 .columns) (c .before .before .before .before .before .before .before .before .before .before .before .before .before .before .before .before .before .pre .0 .columns))
+part-cut-end c =
+    let at-valued = c .before .before .before .before .before .before .before .before .before in
+    let columns = at-valued .before .before .before .before .before .before .before .before .pre .0 .columns in
+    lent-end _ (at-valued .valued .last .1 .0) _ _ (c .before .before .before .before .before .before .v2 .given) (mul-le-mul columns columns)
 
 part-cut-end-2 : tie.Need-part-cut-end-2
-part-cut-end-2 c = lent-end _ (c .before .before .before .before .before .before .before .before .before .before .before .valued .last .1 .1 .0) _ _ (c .before .before .before .before .before .before .before .sv2 .given) (c .before .before .before .before .before .before .before .before .before .before .before .before .before .before .before .before .before .before .before .pre .0 .columns)
+part-cut-end-2 c =
+    let at-valued = c .before .before .before .before .before .before .before .before .before .before .before in
+    lent-end _ (at-valued .valued .last .1 .1 .0) _ _ (c .before .before .before .before .before .before .before .sv2 .given) (at-valued .before .before .before .before .before .before .before .before .pre .0 .columns)
 
 cut-requires : tie.Need-cut-requires
 cut-requires c κs =
-    let values = lent-again _ (c .before .before .before .before .before .before .before .before .before .before .before .before .before .before .valued .last .1 .1 .0) _ _ (c .before .before .before .before .before .before .before .before .before .before .sv2 .given) (c .before .before .before .before .before .before .before .before .before .before .before .before .before .before .before .before .before .before .before .before .before .before .pre .0 .columns) in
-    let wide = mul-le-mul (c .before .before .before .before .before .before .before .before .before .before .before .before .before .before .before .before .before .before .before .before .before .before .pre .0 .columns) (c .before .before .before .before .before .before .before .before .before .before .before .before .before .before .before .before .before .before .before .before .before .before .pre .0 .columns) in (
-      c .before .before .before .before .before .before .before .before .before .before .before .before .before .before .before .before .before .before .before .before .before .before .pre .0,
-      c .before .before .before .before .before .before .before .before .before .before .before .before .before .a .given ∙ c .before .before .before .before .before .before .before .before .before .before .before .before .before .before .before .before .before .before .before .before .before .before .pre .1,
-      span-length _ _ (lent-end _ (c .before .before .before .before .before .before .before .before .before .before .before .before .before .before .valued .last .1 .0) _ _ (c .before .before .before .before .before .before .before .before .before .before .before .v2 .given) wide),
-      span-length _ _ (lent-end _ (c .before .before .before .before .before .before .before .before .before .before .before .before .before .before .valued .last .1 .1 .0) _ _ (c .before .before .before .before .before .before .before .before .before .before .sv2 .given) (c .before .before .before .before .before .before .before .before .before .before .before .before .before .before .before .before .before .before .before .before .before .before .pre .0 .columns)),
-      ap allFinite values ∙ values-finite _ _ _ _ _ (c .before .before .before .before .before .before .before .before .before .before .before .before .before .before .valued .ensures) (c .before .before .before .before .before .before .before .enum-told .given .1),
-      c .before .before .before .before .before .before .before .before .before .before .before .before .before .before .before .before .before .before .before .before .before .before .pre .3,
-      c .before .before .before .before .before .before .before .before .before .before .before .before .before .before .before .before .before .before .before .before .before .before .pre .4,
+    let given = c .before .before .before .before .before .before .before .before .before .before in
+    let at-valued = given .before .before .before .before in
+    let start = at-valued .before .before .before .before .before .before .before .before in
+    let columns = start .pre .0 .columns in
+    let lent = at-valued .valued .last in
+    let values = lent-again _ (lent .1 .1 .0) _ _ (given .sv2 .given) columns in (
+      start .pre .0,
+      given .before .before .before .a .given ∙ start .pre .1,
+      span-length _ _ (lent-end _ (lent .1 .0) _ _ (given .before .v2 .given) (mul-le-mul columns columns)),
+      span-length _ _ (lent-end _ (lent .1 .1 .0) _ _ (given .sv2 .given) columns),
+      ap allFinite values ∙ values-finite _ _ _ _ _ (at-valued .valued .ensures) (c .before .before .before .before .before .before .before .enum-told .given .1),
+      start .pre .3,
+      start .pre .4,
     )
 
 returns-2 : tie.Need-returns-2
 returns-2 c =
-    let basis = lent-again _ (c .before .before .before .before .before .before .before .before .before .before .before .before .before .before .before .before .before .before .before .valued .last .1 .0) _ _ (c .before .before .before .before .before .before .before .before .before .before .before .before .before .before .before .before .v2 .given) (mul-le-mul (c .before .before .before .before .before .before .before .before .before .before .before .before .before .before .before .before .before .before .before .before .before .before .before .before .before .before .before .pre .0 .columns) (c .before .before .before .before .before .before .before .before .before .before .before .before .before .before .before .before .before .before .before .before .before .before .before .before .before .before .before .pre .0 .columns)) in
-    let values = lent-again _ (c .before .before .before .before .before .before .before .before .before .before .before .before .before .before .before .before .before .before .before .valued .last .1 .1 .0) _ _ (c .before .before .before .before .before .before .before .before .before .before .before .before .before .before .before .sv2 .given) (c .before .before .before .before .before .before .before .before .before .before .before .before .before .before .before .before .before .before .before .before .before .before .before .before .before .before .before .pre .0 .columns) in
-    split-end _ _ _ _ _ _ (c .before .before .before .before .before .before .before .before .before .before .before .before .before .before .before .before .before .before .before .valued .ensures) (c .before .before .before .before .before .before .before .before .before .before .before .before .enum-told .given .1) _ (cut-same _ _ _ _ _ _ _ _ _ _ basis values (c .before .before .before .before .cut .ensures))
+    let given = c .before .before .before .before .before .before .before .before .before .before .before .before .before .before .before in
+    let at-valued = given .before .before .before .before in
+    let start = at-valued .before .before .before .before .before .before .before .before in
+    let columns = start .pre .0 .columns in
+    let lent = at-valued .valued .last in
+    let basis = lent-again _ (lent .1 .0) _ _ (given .before .v2 .given) (mul-le-mul columns columns) in
+    let values = lent-again _ (lent .1 .1 .0) _ _ (given .sv2 .given) columns in
+    let cut = cut-same _ _ _ _ _ _ _ _ _ _ basis values (c .before .before .before .before .cut .ensures) in
+    split-end _ _ _ _ _ _ (at-valued .valued .ensures) (c .before .before .before .before .before .before .before .before .before .before .before .before .enum-told .given .1) _ cut
 
 pub split-spec : {M : Type 1} → statement M
 split-spec = tie.close (tie.spec
