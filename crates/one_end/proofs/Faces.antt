@@ -41,61 +41,61 @@ use Rattle.zones.proofs.files.uyavsker_text_of as text-of-call
 use Rattle.zones.proofs.files.uyavsker_text_of.Reads as text-of-reads
 use Rattle.one_end.specs.OneEnd.{OneEnd}
 
-pub root : OneEnd root-call.ended (λ M 𝓤. root-call.clauses 𝓤) root-reads.Post {A = Float} (λ κs e. [])
-root = record { plain = λ w κs a. refl; one = λ κs a r r' e e' p q. (cc, cc) }
+pub uyavsker-root : OneEnd root-call.ended (λ M 𝓤. root-call.clauses 𝓤) root-reads.Post {A = Float} (λ κs e. [])
+uyavsker-root = record { plain = λ w κs a. refl; one = λ κs a r r' e e' p q. (cc, cc) }
 
-pub floor : OneEnd floor-call.ended (λ M 𝓤. floor-call.clauses 𝓤) floor-reads.Post {A = Float} (λ κs e. [])
-floor = record { plain = λ w κs a. refl; one = λ κs a r r' e e' p q. (cc, cc) }
+pub uyavsker-floor : OneEnd floor-call.ended (λ M 𝓤. floor-call.clauses 𝓤) floor-reads.Post {A = Float} (λ κs e. [])
+uyavsker-floor = record { plain = λ w κs a. refl; one = λ κs a r r' e e' p q. (cc, cc) }
 
-pub magnitude : OneEnd magnitude-call.ended (λ M 𝓤. magnitude-call.clauses 𝓤) magnitude-reads.Post {A = Float} (λ κs e. [])
-magnitude = record { plain = λ w κs a. refl; one = λ κs a r r' e e' p q. (cc, cc) }
+pub uyavsker-magnitude : OneEnd magnitude-call.ended (λ M 𝓤. magnitude-call.clauses 𝓤) magnitude-reads.Post {A = Float} (λ κs e. [])
+uyavsker-magnitude = record { plain = λ w κs a. refl; one = λ κs a r r' e e' p q. (cc, cc) }
 
-pub shape-check : OneEnd shape-check-call.ended (λ M 𝓤. shape-check-call.clauses 𝓤) shape-check-reads.Post {A = Float} (λ κs e. [])
-shape-check = record { plain = λ w κs a. refl; one = λ κs a r r' e e' p q. (cc, cc) }
+pub uyavsker-shape-check : OneEnd shape-check-call.ended (λ M 𝓤. shape-check-call.clauses 𝓤) shape-check-reads.Post {A = Float} (λ κs e. [])
+uyavsker-shape-check = record { plain = λ w κs a. refl; one = λ κs a r r' e e' p q. (cc, cc) }
 
-pub entry-of : OneEnd entry-of-call.ended (λ M 𝓤. entry-of-call.clauses 𝓤) entry-of-reads.Post {A = Float} (λ κs e. [])
-entry-of = record { plain = λ w κs a. refl; one = λ κs a r r' e e' p q. (cc, cc) }
+pub uyavsker-entry-of : OneEnd entry-of-call.ended (λ M 𝓤. entry-of-call.clauses 𝓤) entry-of-reads.Post {A = Float} (λ κs e. [])
+uyavsker-entry-of = record { plain = λ w κs a. refl; one = λ κs a r r' e e' p q. (cc, cc) }
 
-pub inner-separable : OneEnd inner-separable-call.ended (λ M 𝓤. inner-separable-call.clauses 𝓤) inner-separable-reads.Post {A = Float} (λ κs e. [])
-inner-separable = record { plain = λ w κs a. refl; one = λ κs a r r' e e' p q. (cc, cc) }
+pub uyavsker-inner-separable : OneEnd inner-separable-call.ended (λ M 𝓤. inner-separable-call.clauses 𝓤) inner-separable-reads.Post {A = Float} (λ κs e. [])
+uyavsker-inner-separable = record { plain = λ w κs a. refl; one = λ κs a r r' e e' p q. (cc, cc) }
 
-pub rank1-separable : OneEnd rank1-separable-call.ended (λ M 𝓤. rank1-separable-call.clauses 𝓤) rank1-separable-reads.Post (λ κs e. now (e .1 .1 .0) ∷ [])
-rank1-separable = record { plain = λ w κs a. refl; one = λ κs a r r' e e' p q. (cc, cc) }
+pub uyavsker-rank1-separable : OneEnd rank1-separable-call.ended (λ M 𝓤. rank1-separable-call.clauses 𝓤) rank1-separable-reads.Post (λ κs e. now (e .1 .1 .0) ∷ [])
+uyavsker-rank1-separable = record { plain = λ w κs a. refl; one = λ κs a r r' e e' p q. (cc, cc) }
 
-pub tt-round : OneEnd tt-round-call.ended (λ M 𝓤. tt-round-call.clauses 𝓤) tt-round-reads.Post (λ κs e. now (e .1 .1 .0) ∷ now (e .1 .1 .1 .0) ∷ [])
-tt-round = record { plain = λ w κs a. refl; one = λ κs a r r' e e' p q. (cc, cc) }
+pub uyavsker-tt-round : OneEnd tt-round-call.ended (λ M 𝓤. tt-round-call.clauses 𝓤) tt-round-reads.Post (λ κs e. now (e .1 .1 .0) ∷ now (e .1 .1 .1 .0) ∷ [])
+uyavsker-tt-round = record { plain = λ w κs a. refl; one = λ κs a r r' e e' p q. (cc, cc) }
 
-pub step : OneEnd step-call.ended (λ M 𝓤. step-call.clauses 𝓤) step-reads.Post (λ κs e. now (e .1 .1 .1 .1 .0) ∷ now (e .1 .1 .1 .1 .1 .0) ∷ [])
-step = record { plain = λ w κs a. refl; one = λ κs a r r' e e' p q. (cc, cc) }
+pub uyavsker-step : OneEnd step-call.ended (λ M 𝓤. step-call.clauses 𝓤) step-reads.Post (λ κs e. now (e .1 .1 .1 .1 .0) ∷ now (e .1 .1 .1 .1 .1 .0) ∷ [])
+uyavsker-step = record { plain = λ w κs a. refl; one = λ κs a r r' e e' p q. (cc, cc) }
 
-pub evolve : OneEnd evolve-call.ended (λ M 𝓤. evolve-call.clauses 𝓤) evolve-reads.Post (λ κs e. now (e .1 .1 .1 .1 .0) ∷ now (e .1 .1 .1 .1 .1 .0) ∷ [])
-evolve = record { plain = λ w κs a. refl; one = λ κs a r r' e e' p q. (cc, cc) }
+pub uyavsker-evolve : OneEnd evolve-call.ended (λ M 𝓤. evolve-call.clauses 𝓤) evolve-reads.Post (λ κs e. now (e .1 .1 .1 .1 .0) ∷ now (e .1 .1 .1 .1 .1 .0) ∷ [])
+uyavsker-evolve = record { plain = λ w κs a. refl; one = λ κs a r r' e e' p q. (cc, cc) }
 
-pub contract-and-split : OneEnd contract-and-split-call.ended (λ M 𝓤. contract-and-split-call.clauses 𝓤) contract-and-split-reads.Post
+pub uyavsker-contract-and-split : OneEnd contract-and-split-call.ended (λ M 𝓤. contract-and-split-call.clauses 𝓤) contract-and-split-reads.Post
     (λ κs e. now (e .1 .1 .1 .1 .1 .0) ∷ now (e .1 .1 .1 .1 .1 .1 .0) ∷ now (e .1 .1 .1 .1 .1 .1 .1 .0) ∷ [])
-contract-and-split = record { plain = λ w κs a. refl; one = λ κs a r r' e e' p q. (cc, cc) }
+uyavsker-contract-and-split = record { plain = λ w κs a. refl; one = λ κs a r r' e e' p q. (cc, cc) }
 
-pub fresh-run : OneEnd fresh-run-call.ended (λ M 𝓤. fresh-run-call.clauses 𝓤) fresh-run-reads.Post
+pub uyavsker-fresh-run : OneEnd fresh-run-call.ended (λ M 𝓤. fresh-run-call.clauses 𝓤) fresh-run-reads.Post
     (λ κs e. now (e .1 .1 .1 .1 .1 .0) ∷ now (e .1 .1 .1 .1 .1 .1 .0) ∷ now (e .1 .1 .1 .1 .1 .1 .1 .0) ∷ now (e .1 .1 .1 .1 .1 .1 .1 .1 .0) ∷ [])
-fresh-run = record { plain = λ w κs a. refl; one = λ κs a r r' e e' p q. (cc, cc) }
+uyavsker-fresh-run = record { plain = λ w κs a. refl; one = λ κs a r r' e e' p q. (cc, cc) }
 
-pub replace-core : OneEnd replace-core-call.ended (λ M 𝓤. replace-core-call.clauses 𝓤) replace-core-reads.Post
+pub uyavsker-replace-core : OneEnd replace-core-call.ended (λ M 𝓤. replace-core-call.clauses 𝓤) replace-core-reads.Post
     (λ κs e. now (e .1 .1 .0) ∷ now (e .1 .1 .1 .1 .0) ∷ now (e .1 .1 .1 .1 .1 .0) ∷ now (e .1 .1 .1 .1 .1 .1 .0) ∷ now (e .1 .1 .1 .1 .1 .1 .1 .1 .0) ∷ [])
-replace-core = record { plain = λ w κs a. refl; one = λ κs a r r' e e' p q. (cc, cc) }
+uyavsker-replace-core = record { plain = λ w κs a. refl; one = λ κs a r r' e e' p q. (cc, cc) }
 
-pub replace-axis : OneEnd replace-axis-call.ended (λ M 𝓤. replace-axis-call.clauses 𝓤) replace-axis-reads.Post
+pub uyavsker-replace-axis : OneEnd replace-axis-call.ended (λ M 𝓤. replace-axis-call.clauses 𝓤) replace-axis-reads.Post
     (λ κs e. now (e .1 .1 .1 .1 .1 .0) ∷ now (e .1 .1 .1 .1 .1 .1 .0) ∷ now (e .1 .1 .1 .1 .1 .1 .1 .0) ∷ now (e .1 .1 .1 .1 .1 .1 .1 .1 .0) ∷ [])
-replace-axis = record { plain = λ w κs a. refl; one = λ κs a r r' e e' p q. (cc, cc) }
+uyavsker-replace-axis = record { plain = λ w κs a. refl; one = λ κs a r r' e e' p q. (cc, cc) }
 
-pub replace-weights : OneEnd replace-weights-call.ended (λ M 𝓤. replace-weights-call.clauses 𝓤) replace-weights-reads.Post
+pub uyavsker-replace-weights : OneEnd replace-weights-call.ended (λ M 𝓤. replace-weights-call.clauses 𝓤) replace-weights-reads.Post
     (λ κs e. now (e .1 .1 .1 .0) ∷ now (e .1 .1 .1 .1 .1 .1 .0) ∷ now (e .1 .1 .1 .1 .1 .1 .1 .1 .0) ∷ [])
-replace-weights = record { plain = λ w κs a. refl; one = λ κs a r r' e e' p q. (cc, cc) }
+uyavsker-replace-weights = record { plain = λ w κs a. refl; one = λ κs a r r' e e' p q. (cc, cc) }
 
-pub read-chain : OneEnd read-chain-call.ended (λ M 𝓤. read-chain-call.clauses 𝓤) read-chain-reads.Post (λ κs e. now (e .1 .0) ∷ [])
-read-chain = record { plain = λ w κs a. refl; one = λ κs a r r' e e' p q. (cc, cc) }
+pub uyavsker-read-chain : OneEnd read-chain-call.ended (λ M 𝓤. read-chain-call.clauses 𝓤) read-chain-reads.Post (λ κs e. now (e .1 .0) ∷ [])
+uyavsker-read-chain = record { plain = λ w κs a. refl; one = λ κs a r r' e e' p q. (cc, cc) }
 
-pub write-chain : OneEnd write-chain-call.ended (λ M 𝓤. write-chain-call.clauses 𝓤) write-chain-reads.Post (λ κs e. now (e .1 .1 .0) ∷ [])
-write-chain = record { plain = λ w κs a. refl; one = λ κs a r r' e e' p q. (cc, cc) }
+pub uyavsker-write-chain : OneEnd write-chain-call.ended (λ M 𝓤. write-chain-call.clauses 𝓤) write-chain-reads.Post (λ κs e. now (e .1 .1 .0) ∷ [])
+uyavsker-write-chain = record { plain = λ w κs a. refl; one = λ κs a r r' e e' p q. (cc, cc) }
 
-pub text-of : OneEnd text-of-call.ended (λ M 𝓤. text-of-call.clauses 𝓤) text-of-reads.Post (λ κs e. now (e .1 .0) ∷ [])
-text-of = record { plain = λ w κs a. refl; one = λ κs a r r' e e' p q. (cc, cc) }
+pub uyavsker-text-of : OneEnd text-of-call.ended (λ M 𝓤. text-of-call.clauses 𝓤) text-of-reads.Post (λ κs e. now (e .1 .0) ∷ [])
+uyavsker-text-of = record { plain = λ w κs a. refl; one = λ κs a r r' e e' p q. (cc, cc) }
