@@ -8,8 +8,7 @@ use Rattle.shape.specs.Shapes.{shapeOk}
 use Rattle.stepping.specs.Zones.{Rules}
 use Rattle.kept.specs.Kept.{Kept, running}
 use Rattle.kept.specs.Checks.{rankOk, inputsLent, keptLent}
-use Rattle.kept.specs.Requests.{Request, zoneOf, present, partFits, numbersOk, replaceOk, redo, replace}
-use Rattle.kept.proofs.Found.{InOrder}
+use Rattle.kept.specs.Requests.{Request, zoneOf, present, partFits, InOrder, numbersOk, replaceOk, redo, replace}
 
 pub record Accepted (R : Rules) (room : Check) (k : Kept) (q : Request) : Type 0 where
   pub shape : shapeOk (k .inputs .shape) (rankOk (k .inputs .shape) (k .stepped)) ≡ done tt

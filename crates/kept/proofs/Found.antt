@@ -27,15 +27,10 @@ use Rattle.kept.specs.Kept.{Inputs, Summed, allCarries, allSums, bare, b
 use Rattle.walking.specs.Keeping.{Stepped, carrySize, rankAt, keepStep}
 use Rattle.kept.specs.Work.{keepSums}
 use Rattle.kept.specs.Checks.{rankOk, keptLent, loneFinite, zoneFinite, keptFinite, loneOk}
-use Rattle.kept.specs.Requests.{Request, zoneOf, present, partFits, partFinite, partOk, shiftsOk, numbersOk, replaceOk}
+use Rattle.kept.specs.Requests.{Request, zoneOf, present, partFits, InOrder, partFinite, partOk, shiftsOk, numbersOk, replaceOk}
 use Rattle.kept.proofs.Sound.{Sound}
 use Rattle.kept.proofs.Trace.{Trace, steppedBy, summedBy, keptBy}
 use Rattle.kept.proofs.Held.{cuts-length, sums-length, rank-fits, carry-finite, core-finite, sum-finite, figure-finite}
-
--- the request names a zone of the run, and its part has that zone's length
-pub record InOrder (s : Shape) (q : Request) : Type 0 where
-  pub inside : zoneOf q < s .d
-  pub fits : partFits s q ≡ true
 
 -- 6 and 7 of the new part, and 8 of the shifts that are made
 unfoldable pub partPasses : Rules → Inputs → Request → Check

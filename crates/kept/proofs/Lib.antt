@@ -16,7 +16,9 @@ pub mod Same
 pub mod Found
 pub mod OneRequest
 pub mod StaysFresh
+pub mod Lending
 pub mod Demand3
 pub mod NotInOrder
+pub mod OnePage
 -- small runs, computed
 pub mod Computed

@@ -1,7 +1,9 @@
 -- What is kept up from call to call: the run is what a fresh run on the present inputs leaves. Of the rules only `Sound` is used.
 use mathlib.Core.Path.{_≡_, refl, sym, ap, _∙_, subst}
 use native.Mathlib.Omega.{arith}
+use mathlib.Core.List.{List}
 use lib.ListN.{length, length-set, length-replicate}
+use lib.Ieee.{Float}
 use Rattle.numbers.specs.Arithmetic.{zero64}
 use Rattle.answers.specs.declared.Refusal.the-variants.{Length}
 use Rattle.answers.specs.declared.Verdict.the-variants.{Fits}
@@ -18,13 +20,12 @@ use Rattle.stepping.specs.Zones.{Rules}
 use Rattle.kept.specs.Kept.{Inputs, Kept, allCarries, allSums, blank}
 use Rattle.kept.specs.Work.{workFrom}
 use Rattle.kept.specs.Checks.{keptLent, scratchLent, freshOk, freshRun}
-use Rattle.kept.specs.Requests.{Request, newCore, newAxis, newWeights, present, replace}
+use Rattle.kept.specs.Requests.{Request, newCore, newAxis, newWeights, present, InOrder, replace}
 use Rattle.kept.specs.Call.{FreshEnd, Room, roomOk, freshEnd, freshBy, scratchPlace, replaceEnd, replaceBy}
-use Rattle.kept.specs.Sequence.{keptAfterFresh, keptAfter, leaving, AsFresh, Asked, takenUp, endOf}
+use Rattle.kept.specs.Sequence.{keptAfterFresh, keptAfter, leaving, AsFresh, takenUp}
 use Rattle.kept.proofs.Sound.{Sound}
 use Rattle.kept.proofs.Trace.{passed, traced}
 use Rattle.kept.proofs.Held.{sizes}
-use Rattle.kept.proofs.Found.{InOrder}
 use Rattle.kept.proofs.OneRequest.{one-request}
 use Rattle.kept.proofs.Accepted.{accepted}
 
@@ -99,17 +100,14 @@ module _ (R : Rules) where
         ap (λ (x : Kept). replace R (done tt) x q) (sym (T .1)) ∙ one-request R S i (T .0) (omega arith) q O
 
     -- and the run is as fresh again
-    pub next-fresh : (c : Asked) → AsFresh R (takenUp (endOf R k c .result .verdict) i (c .request)) (keptAfter (endOf R k c))
+    pub next-fresh : (q : Request) (scratch : List Float) → AsFresh R (takenUp (replaceBy R k q scratch .result .verdict) i q) (keptAfter (replaceBy R k q scratch))
     unfolding replaceBy replaceEnd
-    next-fresh c = go (replace R room k q) refl
+    next-fresh q scratch = go (replace R room k q) refl
       where
-        q : Request
-        q = c .request
-
         room : Check
-        room = scratchLent (k .inputs .shape) (scratchPlace (c .request)) (c .scratch)
+        room = scratchLent (k .inputs .shape) (scratchPlace q) scratch
 
-        go : (o : Answer Kept) → replace R room k q ≡ o → AsFresh R (takenUp (verdictOf o) i (c .request)) (keptAfter (replaceEnd k (c .scratch) o))
+        go : (o : Answer Kept) → replace R room k q ≡ o → AsFresh R (takenUp (verdictOf o) i q) (keptAfter (replaceEnd k scratch o))
         go (done k') e =
             let A = accepted R room k k' q e .0 in
             let O : InOrder (i .shape) q = subst (λ (x : Inputs). InOrder (x .shape) q) (F .inputs) (A .order) in

@@ -13,13 +13,13 @@ use Rattle.answers.specs.declared.Verdict.the-variants.{Fits, Refused}
 use Rattle.answers.specs.Outcome.{Answer, done, refused, verdictOf}
 use Rattle.answers.proofs.Outcomes.{bind-done, done-inj, fits-done}
 use Rattle.answers.proofs.Checks.{demand-is, then-is}
+use Rattle.lists.specs.Slots.{WrittenFrom}
 use Rattle.lists.specs.Walks.{walk}
 use Rattle.lists.proofs.Tests.{eqb-is}
 use Rattle.lists.proofs.Tables.{listed-length}
 use Rattle.lists.proofs.Walks.{walk-length}
-use Rattle.lists.proofs.Written.{WrittenFrom, written-from}
+use Rattle.lists.proofs.Written.{written-from}
 use Rattle.shape.specs.declared.Shape.{Shape}
-use Rattle.shape.specs.Limits.{mostAxes}
 use Rattle.shape.specs.Shapes.{coreSize, entriesOf}
 use Rattle.shape.proofs.Shaped.{Shaped, shaped}
 use Rattle.cutform.specs.Rounding.{Carry, Cut, rankIn, numbersIn}
@@ -31,42 +31,14 @@ use Rattle.kept.specs.Kept.{Inputs, Summed, Kept, running, allCarries, a
 use Rattle.walking.specs.Keeping.{Stepped, bondSize, carrySize, keepStep}
 use Rattle.kept.specs.Work.{keepSums, sumZone, restep, resum, sumFrom, workFrom}
 use Rattle.kept.specs.Checks.{rankOk, keptLent, scratchLent}
-use Rattle.kept.specs.Requests.{Request, newCore, newAxis, newWeights, zoneOf, present, redo, replace}
+use Rattle.kept.specs.Requests.{Request, newCore, newAxis, newWeights, present, InOrder, redo, replace}
 use Rattle.kept.specs.Call.{scratchPlace, replaceEnd, replaceBy}
+use Rattle.kept.specs.Left.{StepFrom, Left, Arrays}
 use Rattle.kept.specs.Sequence.{keptAfter}
-use Rattle.kept.proofs.Found.{InOrder}
 use Rattle.kept.proofs.Accepted.{accepted}
 use Rattle.kept.proofs.Before.{bond-count, Roomy}
 
--- ---- what is left
--- of the step, where the cores from z on are made anew: all that stands before zone z and behind the last, unused room too
-pub record StepFrom (s : Shape) (z : ℕ) (t t' : Stepped) : Type 0 where
-  pub ranks : WrittenFrom (bondSize s) z (s .d) (t .ranks) (t' .ranks)
-  pub sweeps : WrittenFrom (bondSize s) z (s .d) (t .sweeps) (t' .sweeps)
-  pub settled : WrittenFrom (bondSize s) z (s .d) (t .settled) (t' .settled)
-  pub chain : WrittenFrom (coreSize s) z (s .d) (t .chain) (t' .chain)
-  pub carries : WrittenFrom (carrySize s) z (s .d) (t .carries) (t' .carries)
-
--- a weights replacement leaves all of the step
-abbrev pub StepLeft : Shape → Request → Stepped → Stepped → Type 0
-StepLeft s (newCore z xs) t t' = StepFrom s z t t'
-StepLeft s (newAxis z a) t t' = StepFrom s z t t'
-StepLeft s (newWeights z ws) t t' = t' ≡ t
-
--- the inputs have the new part in; the sums before its zone are as they were
-pub record Left (k k' : Kept) (q : Request) : Type 0 where
-  pub inputs : k' .inputs ≡ present (k .inputs) q
-  pub stepped : StepLeft (k .inputs .shape) q (k .stepped) (k' .stepped)
-  pub sums : WrittenFrom (sumSize (k .inputs .shape)) (zoneOf q) (k .inputs .shape .d) (k .summed .sums) (k' .summed .sums)
-
 -- ---- the room of a run that is accepted
--- the arrays of the record have 16 places, as their types say
-pub record Arrays (k : Kept) : Type 0 where
-  pub axes : length (k .inputs .axes) ≡ mostAxes
-  pub ranks : length (k .stepped .ranks) ≡ mostAxes
-  pub sweeps : length (k .stepped .sweeps) ≡ mostAxes
-  pub settled : length (k .stepped .settled) ≡ mostAxes
-
 pub record Slices (s : Shape) (chain carries sums : List Float) : Type 0 where
   pub chain-long : length chain ≡ entriesOf s
   pub carries-long : length carries ≡ allCarries s

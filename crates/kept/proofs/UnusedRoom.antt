@@ -31,12 +31,12 @@ use Rattle.kept.specs.Work.{keepSums, sumZone, restep, resum, sumFrom, w
 use Rattle.kept.proofs.Before.{Roomy, right-before}
 use Rattle.answers.specs.declared.Verdict.the-variants.{Refused}
 use Rattle.kept.specs.Checks.{rankOk, scratchLent}
-use Rattle.kept.specs.Requests.{Request, newCore, newAxis, newWeights, present, replaceOk, redo, replace}
+use Rattle.kept.specs.Requests.{Request, newCore, newAxis, newWeights, present, InOrder, replaceOk, redo, replace}
 use Rattle.kept.specs.Call.{ReplaceEnd, scratchPlace, replaceEnd, replaceBy}
+use Rattle.kept.specs.Left.{Arrays}
 use Rattle.kept.specs.Sequence.{keptAfter}
-use Rattle.kept.proofs.Found.{InOrder}
 use Rattle.kept.proofs.Accepted.{checks-say}
-use Rattle.kept.proofs.Untouched.{Arrays, slices-are, roomy}
+use Rattle.kept.proofs.Untouched.{slices-are, roomy}
 use Rattle.kept.proofs.AlikeRuns.{AlikeSteps, Alike, AnswersAlike, bond-same, checks-same, steps-alike}
 
 -- the sums

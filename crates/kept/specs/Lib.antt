@@ -6,6 +6,8 @@ pub mod Checks
 pub mod Requests
 pub mod Call
 -- what the theorems speak of
+pub mod Left
 pub mod Sequence
+pub mod OnePage
 pub mod StepThenInner
 pub mod Cases

@@ -1,5 +1,6 @@
 -- The three replacements on any run, also one that others wrote to: their checks in order, then the same work from their zone on. Definitions only.
-use Prim.Native.Nat.{ℕ, _-_}
+use mathlib.Core.Path.{_≡_}
+use Prim.Native.Nat.{ℕ, _-_, _<_}
 use mathlib.Core.Bool.{Bool, true, _&&_}
 use mathlib.Core.List.{List}
 use lib.Dec.{eqb, ltb}
@@ -42,6 +43,11 @@ abbrev pub partFits : Shape → Request → Bool
 partFits s (newCore z xs) = eqb (length xs) (coreSize s z)
 partFits s (newAxis z a) = true
 partFits s (newWeights z ws) = eqb (length ws) (pointSize s z)
+
+-- the request names a zone of the run, and its part has that zone's length
+pub record InOrder (s : Shape) (q : Request) : Type 0 where
+  pub inside : zoneOf q < s .d
+  pub fits : partFits s q ≡ true
 
 abbrev pub partFinite : Request → ℕ → Bool
 partFinite (newCore z xs) k = pick (eqb k z) (allFinite xs) true

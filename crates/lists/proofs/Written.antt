@@ -6,7 +6,7 @@ use native.Mathlib.Omega.{arith}
 use mathlib.Core.List.{List, [], _∷_, _++_, map, map-append}
 use lib.ListN.{length, take, drop, getD, replicate, length-map, length-replicate, List·getD-map}
 use lib.Seq.{getD-take, getD-drop}
-use Rattle.lists.specs.Slots.{offset, slot, put, fit, write}
+use Rattle.lists.specs.Slots.{offset, slot, put, fit, write, WrittenFrom}
 use Rattle.lists.proofs.Tests.{below-or-not}
 use Rattle.lists.proofs.Slots.{offset-mono, slot-put-before, slot-put-behind, write-write, write-slot, write-before, write-behind, write-length}
 
@@ -22,12 +22,6 @@ pub map-take : {A B : Type 0} (f : A → B) (z : ℕ) (l : List A) → map f (ta
 map-take f zero l = refl
 map-take f (suc z) [] = refl
 map-take f (suc z) (x ∷ l) = ap (λ y. f x ∷ y) (map-take f z l)
-
--- written in the slots from z up to d: what stands before slot z and behind the slots is as it was, unused room too
-pub record WrittenFrom {A : Type 0} (size : ℕ → ℕ) (z d : ℕ) (l l' : List A) : Type 0 where
-  pub before : take (offset size z) l' ≡ take (offset size z) l
-  pub behind : drop (offset size d) l' ≡ drop (offset size d) l
-  pub long : length l' ≡ length l
 
 module _ {A R : Type 0} (size : ℕ → ℕ) (o : A) (d : ℕ) (f : R → List A) where
   -- what was written is held; e is a zone of which nothing is taken
