@@ -29,8 +29,9 @@ use Rattle.lists.proofs.Floats.{stored-is, finite-getD}
 use Rattle.lists.proofs.Sums.{Fits, Zero, sum-fits, one-term, sum-finite, zero-fits, times-none}
 use Rattle.lists.proofs.Walks.{walk-cons}
 use Rattle.shape.specs.declared.Shape.{Shape}
-use Rattle.shape.specs.Shapes.{pointsOf}
+use Rattle.shape.specs.Shapes.{pointsOf, chainOk}
 use Rattle.shape.specs.Cores.{Core, entry, coreAt, pointsAt}
+use Rattle.shape.proofs.Shaped.{shaped}
 use Rattle.contraction.specs.Contract.{contract}
 use Rattle.product.specs.Product.{contractAt, sumAxis, startSums, sums, inner}
 use Rattle.product.specs.Entry.{rowTimes, rowAfter, ttEntry, entryAt, OneAt, NotMinusZero}
@@ -197,7 +198,7 @@ unfolding ttEntry
 entry-not-minus-zero ps = rows-after-keep ps startSums start-keeps 0
 
 -- of a lone core the entry is the number that the core holds, and +0 where that is -0
-pub lone-entry : (c : Core) (i : ℕ) → c .rl ≡ 1 → c .rr ≡ 1 → Fits (entry c 0 i 0) → ttEntry ((c, i) ∷ []) ≡ unsigned (entry c 0 i 0)
+lone-entry : (c : Core) (i : ℕ) → c .rl ≡ 1 → c .rr ≡ 1 → Fits (entry c 0 i 0) → ttEntry ((c, i) ∷ []) ≡ unsigned (entry c 0 i 0)
 unfolding ttEntry rowAfter rowTimes sumTo sumOn
 lone-entry c i left right held =
     let x = entry c 0 i 0 in
@@ -207,3 +208,15 @@ lone-entry c i left right held =
     ∙ ap (plus zero64) (one-times x held)
     ∙ plus-swap zero64 x
     ∙ plus-zero-unsigned x held
+
+-- and so is the figure
+pub lone-figure : (s : Shape) (chain weights : List Float) (i : ℕ) → s .d ≡ 1 → OneAt (pointsOf s 0) i (pointsAt s weights 0) → Fits (entry (coreAt s chain 0) 0 i 0)
+    → innerCall s chain weights .verdict ≡ Accepted → innerCall s chain weights .value ≡ unsigned (entry (coreAt s chain 0) 0 i 0)
+unfolding innerCall innerOk entryAt coreAt listed
+lone-figure s chain weights i alone one held e =
+    let o = innerOk s chain weights then inner (weighed s chain weights) in
+    let ok = then-is (innerOk s chain weights) (inner (weighed s chain weights)) (innerCall s chain weights .value) (figure-of o e) .0 in
+    let S = shaped s (λ (k : ℕ). true) (then-is (chainOk s) _ tt ok .0) in
+    unit-entry s chain weights (λ (k : ℕ). i) (λ k lt. let z : 0 ≡ k = omega arith in subst (λ (j : ℕ). OneAt (pointsOf s j) i (pointsAt s weights j)) z one) e
+    ∙ ap (λ (d : ℕ). ttEntry (tab d (λ (k : ℕ). (coreAt s chain k, i)))) alone
+    ∙ lone-entry (coreAt s chain 0) i (S .first) (S .last 0 (sym alone)) held
