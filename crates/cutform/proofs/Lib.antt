@@ -1,1 +1,4 @@
 pub mod Examples
+-- the count and the flag of sweeps: of one bond, and of a rounding
+pub mod Counted
+pub mod CountedBonds

@@ -14,7 +14,7 @@ use Rattle.answers.specs.declared.Verdict.the-variants.{Fits as Accepted}
 use Rattle.answers.specs.Outcome.{Answer, done, refused, _then_}
 use Rattle.answers.proofs.Outcomes.{bind-done, done-inj, making-is}
 use Rattle.answers.proofs.Checks.{then-is}
-use Rattle.numbers.specs.Arithmetic.{plus, times, zero64, one64}
+use Rattle.numbers.specs.Arithmetic.{plus, times, zero64}
 use Rattle.numbers.specs.Finite.{finite}
 use Rattle.numbers.specs.Zeros.{unsigned, Alike}
 use Rattle.numbers.proofs.Constants.{zero-is}
