@@ -20,3 +20,5 @@ pub mod Demand3
 pub mod NotInOrder
 -- small runs, computed
 pub mod Computed
+-- the counts of sweeps
+pub mod CountedRuns
