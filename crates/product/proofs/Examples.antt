@@ -1,22 +1,27 @@
 -- One axis' sums worked out in f64 arithmetic beside the definition, and the call beside the entry of a chain that holds -0, by computation. Assumes nothing.
-use mathlib.Core.Path.{_≡_, refl}
+use mathlib.Core.Path.{_≡_, refl, ap}
 use mathlib.Core.List.{List, [], _∷_, map}
-use Prim.Native.Nat.{ℕ}
-use lib.Ieee.{Float, binary64, add, mul, ofBits, toBits}
+use Prim.Native.Nat.{ℕ, zero, suc, _<_}
+use native.Mathlib.Omega.{arith}
+use lib.ListN.{getD}
+use lib.Ieee.{Float, nan, binary64, add, mul, ofBits, toBits}
 use Rattle.answers.specs.declared.Verdict.{Verdict}
 use Rattle.answers.specs.declared.Verdict.the-variants.{Fits}
 use Rattle.answers.specs.Outcome.{demand, demandEach}
+use Rattle.numbers.specs.Arithmetic.{zero64}
+use Rattle.numbers.specs.Zeros.{Alike}
 use Rattle.lists.specs.Lists.{pick, listed}
 use Rattle.lists.specs.Slots.{offset, slot}
 use Rattle.lists.specs.Walks.{walk}
 use Rattle.lists.specs.Floats.{sumOn, sumTo, sumRows, allFinite, stored}
 use Rattle.shape.specs.declared.Shape.{Shape}
-use Rattle.shape.specs.Shapes.{sizeOk, bondOk, shapeOk, coreSize, pointSize}
+use Rattle.shape.specs.Shapes.{pointsOf, sizeOk, bondOk, shapeOk, coreSize, pointSize}
 use Rattle.shape.specs.Cores.{Core, coreWith, place, entry, coreAt, pointsAt}
 use Rattle.contraction.specs.Contract.{contract}
 use Rattle.product.specs.Product.{contractAt, sumAxis, sums, inner}
-use Rattle.product.specs.Entry.{rowTimes, rowAfter, ttEntry, entryAt}
+use Rattle.product.specs.Entry.{rowTimes, rowAfter, ttEntry, entryAt, OneAt}
 use Rattle.product.specs.Call.{innerLent, innerFinite, innerOk, weighed, innerCall}
+use Rattle.product.proofs.Units.{unit-entry}
 
 abbrev of : List ℕ → List Float
 of l = map (ofBits binary64) l
@@ -59,3 +64,18 @@ lone-entries = refl
 pub lone-figures : figure at-first ∷ figure at-last ∷ [] ≡ (Fits, 0) ∷ (Fits, 0xc008000000000000) ∷ []
 unfolding add mul ofBits toBits demand demandEach pick listed offset slot sumOn sumRows allFinite stored place entry coreAt pointsAt coreSize pointSize sizeOk bondOk shapeOk contract contractAt sumAxis walk sums inner weighed innerLent innerFinite innerOk innerCall
 lone-figures = refl
+
+-- and the entry theorem speaks of this call
+first-alone : (k : ℕ) → k < 1 → OneAt (pointsOf one-core k) 0 (pointsAt one-core at-first k)
+unfolding ofBits offset slot pointSize pointsAt
+first-alone zero lt = record { inside = omega arith; one = refl; elsewhere = others }
+  where
+    others : (j : ℕ) → j < 3 → ¬ (j ≡ 0) → Alike (getD at-first j nan) zero64
+    others zero l d = absurd (d refl)
+    others (suc zero) l d = refl
+    others (suc (suc zero)) l d = refl
+    others (suc (suc (suc j))) l d = absurd (omega arith)
+first-alone (suc k) lt = absurd (omega arith)
+
+pub lone-is : innerCall one-core held at-first .value ≡ entryAt one-core held (λ (k : ℕ). 0)
+lone-is = unit-entry one-core held at-first (λ (k : ℕ). 0) first-alone (ap (λ (l : List (Verdict × ℕ)). getD l 0 (Fits, 0) .0) lone-figures)
