@@ -8,70 +8,45 @@ use mathlib.Core.List.{List, [], _∷_, _++_, map}
 use lib.Dec.{ltb}
 use lib.ListN.{length, getD}
 use lib.Ieee.{Float}
-use Rattle.answers.specs.declared.Part.the-variants.{Spectrum, Factor}
-use Rattle.answers.specs.Outcome.{Answer, done, making}
-use Rattle.answers.proofs.Outcomes.{bind-done, done-inj, making-is}
+use Rattle.answers.specs.Outcome.{Answer, done}
+use Rattle.answers.proofs.Outcomes.{bind-done, done-inj}
 use Rattle.lists.specs.Lists.{flat}
 use Rattle.lists.specs.Walks.{stateAt}
-use Rattle.lists.specs.Floats.{stored}
 use Rattle.lists.proofs.Tests.{ltb-yes}
 use Rattle.lists.proofs.Tables.{tab-getD}
-use Rattle.lists.proofs.Floats.{making-stored}
 use Rattle.lists.proofs.Walks.{All, listed-all, walk-length, from-at, walk-from}
 use Rattle.shape.specs.Cores.{Core, coreWith}
 use Rattle.rotation.specs.Rotation.{eye}
-use Rattle.cutform.specs.Sweeps.{eig, Swept, diagonalized, mostSweeps}
-use Rattle.cutform.specs.Values.{singulars, order, sorted, keptRank}
-use Rattle.cutform.specs.Factors.{leftFactor, carryOf}
+use Rattle.cutform.specs.Sweeps.{eig, mostSweeps}
 use Rattle.cutform.specs.Bonds.{gram, Bond, cutBond}
 use Rattle.cutform.specs.Rounding.{Carry, none, some, Cut, takenIn, cutIf, roundCore, rounding, countsIn, flagsIn}
 use Rattle.cutform.specs.Claims.{Counted, BondCounted, coreIn, RoundCounted}
+use Rattle.cutform.proofs.Stages.{stages}
 use Rattle.cutform.proofs.Counted.{sweeps-counted, counted-once}
 
 -- ---- one bond
--- the sweeps behind a cut
-swept-behind : (k : ℕ) (eps : Float) (c : Core) (b : Bond) → cutBond k eps c ≡ done b
-    → (w : Swept) × (diagonalized (c .rr) (eig (gram c) (eye (c .rr))) ≡ done w) × (b .sweeps ≡ w .count) × (b .settles ≡ w .settles)
-unfolding cutBond
-swept-behind k eps c b h =
-    let A = bind-done (making Spectrum k (stored (gram c))) _ b h in
-    let B = bind-done (making Spectrum k (diagonalized (c .rr) (eig (A .0) (eye (c .rr))))) _ b (A .2) in
-    let w = B .0 in
-    let C = bind-done (making Spectrum k (stored (singulars (c .rr) (w .eig .g)))) _ b (B .2) in
-    let js = order (c .rr) (C .0) in
-    let ss = sorted (c .rr) (C .0) in
-    let r = keptRank eps (c .rr) ss in
-    let D = bind-done (making Factor k (stored (leftFactor c r ss js (w .eig .v)))) _ b (C .2) in
-    let E = bind-done (making Factor k (stored (carryOf (c .rr) r ss js (w .eig .v)))) _ b (D .2) in
-    let end = done-inj (E .2) in (
-      w,
-      ap (λ (g : List Float). diagonalized (c .rr) (eig g (eye (c .rr)))) (making-stored Spectrum k (gram c) (A .0) (A .1) .0) ∙ making-is Spectrum k _ w (B .1),
-      ap (λ (x : Bond). x .sweeps) (sym end),
-      ap (λ (x : Bond). x .settles) (sym end),
-    )
-
 -- a cut that answers one count and one flag, which are those of the iteration
-pub record CutCounted (k : ℕ) (s : Carry) (c : Core) (r : Carry × Cut) : Type 0 where
-  pub count : ℕ
-  pub flag : Bool
-  pub counts : r .1 .counts ≡ count ∷ []
-  pub flags : r .1 .flags ≡ flag ∷ []
-  pub told : BondCounted k s c count flag
+record CutCounted (k : ℕ) (s : Carry) (c : Core) (r : Carry × Cut) : Type 0 where
+  count : ℕ
+  flag : Bool
+  counts : r .1 .counts ≡ count ∷ []
+  flags : r .1 .flags ≡ flag ∷ []
+  told : BondCounted k s c count flag
 
 cut-counted : (eps : Float) (k : ℕ) (s : Carry) (c : Core) (r : Carry × Cut) → roundCore eps true k s c ≡ done r → CutCounted k s c r
 unfolding roundCore
 cut-counted eps k s c r h =
     let A = bind-done (takenIn k s c) (λ t. cutIf true k eps t) r h in
     let B = bind-done (cutBond k eps (A .0)) (λ b. done (some (b .core .rr) (b .carry), record { core = b .core; counts = b .sweeps ∷ []; flags = b .settles ∷ [] })) r (A .2) in
-    let W = swept-behind k eps (A .0) (B .0) (B .1) in
-    let w = W .0 in
+    let S = stages k eps (A .0) (B .0) (B .1) in
+    let w = S .swept in
     let end = done-inj (B .2) in
     record {
       count = w .count;
       flag = w .settles;
-      counts = ap (λ (x : Carry × Cut). x .1 .counts) (sym end) ∙ ap (λ (n : ℕ). n ∷ []) (W .2);
-      flags = ap (λ (x : Carry × Cut). x .1 .flags) (sym end) ∙ ap (λ (b : Bool). b ∷ []) (W .3);
-      told = record { core = A .0; taken = A .1; end = w .eig; counted = sweeps-counted (A .0 .rr) (eig (gram (A .0)) (eye (A .0 .rr))) w (W .1) };
+      counts = ap (λ (x : Carry × Cut). x .1 .counts) (sym end) ∙ ap (λ (b : Bond). b .sweeps ∷ []) (sym (S .end));
+      flags = ap (λ (x : Carry × Cut). x .1 .flags) (sym end) ∙ ap (λ (b : Bond). b .settles ∷ []) (sym (S .end));
+      told = record { core = A .0; taken = A .1; end = w .eig; counted = sweeps-counted (A .0 .rr) (eig (gram (A .0)) (eye (A .0 .rr))) w (S .sweeping) };
     }
 
 -- ---- every bond
@@ -89,7 +64,7 @@ module _ (eps : Float) (cs : List Core) (cuts : List (Carry × Cut)) (ran : roun
       let n = walk-length turn 0 none cs cuts ran in
       subst (λ (j : ℕ). Ran j (stateAt none cuts k) (getD cuts k o)) (zero-add k) (from-at Ran 0 none cuts W k o (omega arith))
 
-  pub bond-counted : (k : ℕ) → suc k < length cs → CutCounted k (stateAt none cuts k) (coreIn cs k) (getD cuts k o)
+  bond-counted : (k : ℕ) → suc k < length cs → CutCounted k (stateAt none cuts k) (coreIn cs k) (getD cuts k o)
   bond-counted k lt =
       cut-counted eps k (stateAt none cuts k) (coreIn cs k) (getD cuts k o)
       (ap (λ (b : Bool). roundCore eps b k (stateAt none cuts k) (coreIn cs k)) (sym (ltb-yes (suc k) (length cs) lt)) ∙ turn-ran k (omega arith))
