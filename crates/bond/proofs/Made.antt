@@ -4,20 +4,17 @@ use Prim.Native.Nat.{ℕ, _*_, _≤_}
 use mathlib.Core.Bool.{true}
 use lib.ListN.{length}
 use lib.Ieee.{Float}
-use Rattle.answers.specs.declared.Part.the-variants.{Spectrum, Factor}
-use Rattle.answers.specs.Outcome.{done, making}
-use Rattle.answers.proofs.Outcomes.{bind-done, done-inj}
-use Rattle.lists.specs.Floats.{allFinite, stored}
+use Rattle.answers.specs.Outcome.{done}
+use Rattle.lists.specs.Floats.{allFinite}
 use Rattle.lists.proofs.Tables.{length-grid}
-use Rattle.lists.proofs.Floats.{making-stored}
+use Rattle.lists.proofs.Floats.{stored-is}
 use Rattle.shape.specs.Cores.{Core, coreWith}
 use Rattle.shape.proofs.Places.{block-length}
-use Rattle.cutform.specs.Sweeps.{eig, diagonalized}
-use Rattle.rotation.specs.Rotation.{eye}
-use Rattle.cutform.specs.Values.{singulars, order, sorted, keptRank}
+use Rattle.cutform.specs.Values.{sorted, keptRank}
 use Rattle.values.proofs.Ranked.{rank-least, rank-most}
-use Rattle.cutform.specs.Bonds.{gram, Bond, cutBond}
+use Rattle.cutform.specs.Bonds.{Bond, cutBond}
 use Rattle.cutform.specs.Factors.{leftFactor, carryOf}
+use Rattle.cutform.proofs.Stages.{stages}
 
 -- the core c cut
 pub record CutFrom (c : Core) (b : Bond) : Type 0 where
@@ -31,20 +28,14 @@ pub record CutFrom (c : Core) (b : Bond) : Type 0 where
   pub carry-fine : allFinite (b .carry) ≡ true
 
 pub cut-from : (k : ℕ) (eps : Float) (c : Core) (b : Bond) → cutBond k eps c ≡ done b → CutFrom c b
-unfolding cutBond leftFactor carryOf
+unfolding leftFactor carryOf
 cut-from k eps c b h =
-    let A = bind-done (making Spectrum k (stored (gram c))) _ b h in
-    let B = bind-done (making Spectrum k (diagonalized (c .rr) (eig (A .0) (eye (c .rr))))) _ b (A .2) in
-    let w = B .0 in
-    let C = bind-done (making Spectrum k (stored (singulars (c .rr) (w .eig .g)))) _ b (B .2) in
-    let js = order (c .rr) (C .0) in
-    let ss = sorted (c .rr) (C .0) in
+    let S = stages k eps c b h in
+    let ss = sorted (c .rr) (S .values) in
     let r = keptRank eps (c .rr) ss in
-    let D = bind-done (making Factor k (stored (leftFactor c r ss js (w .eig .v)))) _ b (C .2) in
-    let E = bind-done (making Factor k (stored (carryOf (c .rr) r ss js (w .eig .v)))) _ b (D .2) in
-    let U = making-stored Factor k (leftFactor c r ss js (w .eig .v)) (D .0) (D .1) in
-    let Y = making-stored Factor k (carryOf (c .rr) r ss js (w .eig .v)) (E .0) (E .1) in
-    let x : Bond = record { core = coreWith (c .rl) (c .n) r (D .0); sweeps = w .count; settles = w .settles; carry = E .0 } in
+    let U = stored-is _ (S .left) (S .lefts) in
+    let Y = stored-is _ (S .carry) (S .carries) in
+    let x : Bond = record { core = coreWith (c .rl) (c .n) r (S .left); sweeps = S .swept .count; settles = S .swept .settles; carry = S .carry } in
     let f : CutFrom c x = record {
       left = refl;
       points = refl;
@@ -55,4 +46,4 @@ cut-from k eps c b h =
       carry-long = ap length (sym (Y .0)) ∙ length-grid r (c .rr) _;
       carry-fine = Y .1;
     } in
-    subst (CutFrom c) (done-inj (E .2)) f
+    subst (CutFrom c) (S .end) f

@@ -1,1 +1,6 @@
 pub mod Examples
+-- the stages of a cut
+pub mod Stages
+-- the count and the flag of sweeps: of one bond, and of a rounding
+pub mod Counted
+pub mod CountedBonds

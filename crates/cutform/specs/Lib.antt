@@ -3,3 +3,4 @@ pub mod Values
 pub mod Factors
 pub mod Bonds
 pub mod Rounding
+pub mod Claims

@@ -22,3 +22,5 @@ pub mod NotInOrder
 pub mod OnePage
 -- small runs, computed
 pub mod Computed
+-- the counts of sweeps
+pub mod CountedRuns

@@ -1,3 +1,4 @@
+pub mod Signs
 pub mod Units
 pub mod Examples
 pub mod Checks

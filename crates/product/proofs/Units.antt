@@ -1,167 +1,222 @@
--- Weights of 1 at one index and 0 elsewhere give, where they are accepted, that entry of the chain, zero signs aside: the matrix product from the left. Assumes nothing.
-use mathlib.Core.Path.{_≡_, refl, sym, ap, _∙_, subst}
-use Prim.Native.Nat.{ℕ, zero, suc, _≤_, _<_}
-use mathlib.Core.Bool.{Bool, true, false}
-use mathlib.Core.List.{List, [], _∷_, map}
-use lib.Dec.{eqb, ltb}
+-- THE ENTRY THEOREM: weights of 1 at one index and 0 elsewhere give, where they are accepted, that entry of the chain, bit for bit: the matrix product from the left, sums ascending.
+-- And what follows of a zero's sign: neither a figure nor an entry is -0, and a lone core's -0 gives +0. Assumes nothing.
+use mathlib.Core.Path.{_≡_, refl, sym, ap, ap₂, _∙_, subst}
+use Prim.Native.Nat.{ℕ, zero, suc, _+_, _≤_, _<_}
+use native.Mathlib.Omega.{arith}
+use mathlib.Core.Bool.{true, false}
+use mathlib.Core.List.{List, [], _∷_}
 use lib.ListN.{length, List·getD-eq-default}
-use lib.Ieee.{Float, nan, binary64, fits, ofBits}
+use lib.IntN.{pos}
+use lib.Ieee.{Float, nan, inf, fin, binary64, fits, ofBits}
 use lib.Ieee.Fits.{mul-fits}
-use Rattle.answers.specs.Outcome.{done}
-use Rattle.answers.proofs.Outcomes.{bind-done, done-inj, making-is}
 use Rattle.answers.specs.declared.Part.the-variants.{Sum}
-use Rattle.numbers.specs.Arithmetic.{plus, times, zero64, one64}
+use Rattle.answers.specs.declared.Verdict.the-variants.{Fits as Accepted}
+use Rattle.answers.specs.Outcome.{Answer, done, refused, _then_}
+use Rattle.answers.proofs.Outcomes.{bind-done, done-inj, making-is}
+use Rattle.answers.proofs.Checks.{then-is}
+use Rattle.numbers.specs.Arithmetic.{plus, times, zero64}
 use Rattle.numbers.specs.Finite.{finite}
-use Rattle.numbers.specs.Zeros.{Alike}
-use Rattle.numbers.proofs.Zeros.{times-one, alike-refl, alike-trans, alike-plus, alike-times}
-use Rattle.lists.specs.Lists.{iter, pick}
+use Rattle.numbers.specs.Zeros.{unsigned, Alike}
+use Rattle.numbers.proofs.Constants.{zero-is}
+use Rattle.numbers.proofs.Swaps.{plus-swap}
+use Rattle.numbers.proofs.Zeros.{one-times, times-one, alike-refl, alike-finite, alike-times, plus-zero-unsigned}
+use Rattle.lists.specs.Lists.{iter, listed, tab}
 use Rattle.lists.specs.Walks.{walk, stateAt}
 use Rattle.lists.specs.Floats.{at, sumOn, sumTo, sumRows, allFinite, stored}
-use Rattle.lists.proofs.Tables.{length-tab, getD-tab}
-use Rattle.lists.proofs.Tests.{eqb-yes, eqb-no, ltb-is, ltb-not}
+use Rattle.lists.proofs.Tables.{listed-same, length-tab, getD-tab}
+use Rattle.lists.proofs.Tests.{below-or-not}
 use Rattle.lists.proofs.Floats.{stored-is, finite-getD}
-use Rattle.lists.proofs.Sums.{Fits, Zero, sum-fits, one-term, sum-finite, zero-fits, nan-fits, times-none}
+use Rattle.lists.proofs.Sums.{Fits, Zero, sum-fits, one-term, sum-finite, zero-fits, times-none}
 use Rattle.lists.proofs.Walks.{walk-cons}
-use Rattle.shape.specs.Cores.{Core, entry, place}
+use Rattle.shape.specs.declared.Shape.{Shape}
+use Rattle.shape.specs.Shapes.{pointsOf, chainOk}
+use Rattle.shape.specs.Cores.{Core, entry, coreAt, pointsAt}
+use Rattle.shape.proofs.Shaped.{shaped}
 use Rattle.contraction.specs.Contract.{contract}
 use Rattle.product.specs.Product.{contractAt, sumAxis, startSums, sums, inner}
-use Rattle.product.specs.Entry.{rowTimes, rowAfter, ttEntry, unitWeights}
+use Rattle.product.specs.Entry.{rowTimes, rowAfter, ttEntry, entryAt, OneAt, NotMinusZero}
+use Rattle.product.specs.Call.{innerOk, weighed, figureBy, innerCall}
+use Rattle.product.proofs.Signs.{alike-equal, plus-keeps, sum-keeps}
 
--- ---- one axis
+-- ---- zeros
+zero-keeps : NotMinusZero zero64
+zero-keeps = ap unsigned zero-is ∙ sym zero-is
 
-weight-here : (n i : ℕ) → i < n → at (unitWeights n i) i ≡ one64
-unfolding unitWeights pick
-weight-here n i l = getD-tab n (λ (j : ℕ). pick (eqb j i) one64 zero64) i nan l ∙ rw (eqb-yes i i refl)
+zero-of : (x : Float) → Alike x zero64 → Zero x
+zero-of x e = go x (e ∙ ap unsigned zero-is)
+  where
+    go : (x : Float) → unsigned x ≡ fin false 0 (pos 0) → Zero x
+    go nan h = let z : _≡_ {A = ℕ} 0 1 = cc in absurd (omega arith)
+    go (inf s) h = let z : _≡_ {A = ℕ} 0 1 = cc in absurd (omega arith)
+    go (fin s zero e) h = let z : e ≡ pos 0 = cc in (s, ap (fin s 0) z)
+    go (fin s (suc m) e) h = let z : suc m ≡ 0 = cc in absurd (omega arith)
 
-weight-there : (n i j : ℕ) → j < n → ¬ (j ≡ i) → at (unitWeights n i) j ≡ zero64
-unfolding unitWeights pick
-weight-there n i j l d = getD-tab n (λ (j : ℕ). pick (eqb j i) one64 zero64) j nan l ∙ rw (eqb-no j i d)
+zero-fit : (x : Float) → Zero x → Fits x
+unfolding fits
+zero-fit x z = subst Fits (sym (z .1)) tt
 
-module _ (c : Core) (i : ℕ) (inside : i < c .n) (entries-fit : (x : ℕ) → Fits (at (c .entries) x))
-    (eta v : List Float) (eta-fits : (a : ℕ) → Fits (at eta a)) (v-fits : (a : ℕ) → Fits (at v a)) (same : (a : ℕ) → Alike (at eta a) (at v a)) where
-  abbrev f : List Float
-  f = unitWeights (c .n) i
-
+-- ---- one axis, by any weights
+module _ (c : Core) (f eta : List Float) where
   abbrev product : ℕ → ℕ → ℕ → Float
   product j a k = times (at eta a) (entry c a k j)
 
-  entry-fits : (a k j : ℕ) → Fits (entry c a k j)
-  unfolding entry
-  entry-fits a k j = entries-fit (place (c .n) (c .rr) a k j)
+  -- the terms of row a at right index j
+  abbrev term : ℕ → ℕ → ℕ → Float
+  term j a k = times (product j a k) (at f k)
 
-  term-fits : (j a k : ℕ) → Fits (times (product j a k) (at f k))
+  term-fits : (j a k : ℕ) → Fits (term j a k)
   term-fits j a k = mul-fits binary64 (product j a k) (at f k)
-
-  -- the terms of row a at right index j: one is the product, the others are zeros
-  row-zero : (j a k : ℕ) → k < c .n → ¬ (k ≡ i) → finite (times (product j a k) (at f k)) ≡ true → Zero (times (product j a k) (at f k))
-  row-zero j a k l d h =
-      let e = weight-there (c .n) i k l d in
-      subst (λ (w : Float). Zero (times (product j a k) w)) (sym e) (times-none (product j a k) (subst (λ (w : Float). finite (times (product j a k) w) ≡ true) e h))
-
-  row-one : (j a : ℕ) → times (product j a i) (at f i) ≡ product j a i
-  row-one j a = ap (times (product j a i)) (weight-here (c .n) i inside) ∙ times-one (product j a i) (mul-fits binary64 (at eta a) (entry c a i j))
 
   -- the rows below m, ascending
   abbrev rows : ℕ → ℕ → Float
-  rows j m = iter m (λ (a : ℕ) (s : Float). sumOn s (c .n) (λ (k : ℕ). times (product j a k) (at f k))) zero64
-
-  abbrev straight : ℕ → ℕ → Float
-  straight j m = sumOn zero64 m (λ (a : ℕ). times (at v a) (entry c a i j))
+  rows j m = iter m (λ (a : ℕ) (s : Float). sumOn s (c .n) (term j a)) zero64
 
   rows-fit : (j m : ℕ) → Fits (rows j m)
   rows-fit j zero = zero-fits
-  rows-fit j (suc m) = sum-fits (λ (k : ℕ). times (product j m k) (at f k)) (term-fits j m) (rows j m) (c .n) (rows-fit j m)
+  rows-fit j (suc m) = sum-fits (term j m) (term-fits j m) (rows j m) (c .n) (rows-fit j m)
 
-  rows-alike : (j m : ℕ) → finite (rows j m) ≡ true → Alike (rows j m) (straight j m)
-  unfolding sumOn
-  rows-alike j zero h = alike-refl zero64
-  rows-alike j (suc m) h =
-      let t : ℕ → Float = λ (k : ℕ). times (product j m k) (at f k) in
-      let F = sum-finite t (term-fits j m) (rows j m) (c .n) h in
-      let A = one-term t (term-fits j m) (rows j m) i (c .n) inside (rows-fit j m) (λ k l d. row-zero j m k l d (F .1 k l)) in
-      let B : Alike (plus (rows j m) (t i)) (plus (straight j m) (times (at v m) (entry c m i j))) =
-      alike-plus (rows j m) (straight j m) (t i) (times (at v m) (entry c m i j)) (rows-fit j m)
-      (sum-fits (λ (a : ℕ). times (at v a) (entry c a i j)) (λ a. mul-fits binary64 (at v a) (entry c a i j)) zero64 m zero-fits)
-      (term-fits j m i) (mul-fits binary64 (at v m) (entry c m i j))
-      (rows-alike j m (F .0))
-      (subst (λ (w : Float). Alike w (times (at v m) (entry c m i j))) (sym (row-one j m)) (alike-times (at eta m) (at v m) (entry c m i j) (entry c m i j) (eta-fits m) (v-fits m) (entry-fits m i j) (entry-fits m i j) (same m) (alike-refl (entry c m i j)))) in
-      alike-trans (rows j (suc m)) (plus (rows j m) (t i)) (straight j (suc m)) A B
+  rows-keep : (j m : ℕ) → NotMinusZero (rows j m)
+  rows-keep j zero = zero-keeps
+  rows-keep j (suc m) = sum-keeps (term j m) (term-fits j m) (rows j m) (c .n) (rows-fit j m) (rows-keep j m)
 
-  -- what is stored at this axis is the row times the matrix at i
-  pub axis-alike : (e : List Float) → stored (contract c f eta) ≡ done e → (j : ℕ) → Alike (at e j) (at (rowTimes v c i) j)
-  unfolding contract rowTimes sumRows sumTo
-  axis-alike e h j = go (ltb j (c .rr)) refl
-    where
-      S : (contract c f eta ≡ e) × (allFinite e ≡ true)
-      S = stored-is (contract c f eta) e h
+  -- ---- by weights of 1 at index i
+  module _ (i : ℕ) (one : OneAt (c .n) i f) where
+    -- one term of a row is the product, the others are zeros
+    row-one : (j a : ℕ) → term j a i ≡ product j a i
+    row-one j a = ap (times (product j a i)) (one .one) ∙ times-one (product j a i) (mul-fits binary64 (at eta a) (entry c a i j))
 
-      go : (b : Bool) → ltb j (c .rr) ≡ b → Alike (at e j) (at (rowTimes v c i) j)
-      go true t =
-          let l = ltb-is j (c .rr) t in
-          let n = length-tab (c .rr) (λ (j : ℕ). rows j (c .rl)) in
-          let b : j < length e = subst (λ (x : List Float). j < length x) (S .0) (subst (λ (n : ℕ). j < n) (sym n) l) in
-          let p : at e j ≡ rows j (c .rl) = ap (λ (x : List Float). at x j) (sym (S .0)) ∙ getD-tab (c .rr) (λ (j : ℕ). rows j (c .rl)) j nan l in
-          let q : at (rowTimes v c i) j ≡ straight j (c .rl) = getD-tab (c .rr) (λ (j : ℕ). straight j (c .rl)) j nan l in
-          let g : finite (rows j (c .rl)) ≡ true = subst (λ (x : Float). finite x ≡ true) p (finite-getD e j nan b (S .1)) in
-          subst (λ (x : Float). Alike x (at (rowTimes v c i) j)) (sym p) (subst (λ (x : Float). Alike (rows j (c .rl)) x) (sym q) (rows-alike j (c .rl) g))
-      go false t =
-          let l = ltb-not j (c .rr) t in
-          let p : at e j ≡ nan = ap (λ (x : List Float). at x j) (sym (S .0)) ∙ List·getD-eq-default (contract c f eta) nan (subst (λ (n : ℕ). n ≤ j) (sym (length-tab (c .rr) (λ (j : ℕ). rows j (c .rl)))) l) in
-          let q : at (rowTimes v c i) j ≡ nan = List·getD-eq-default (rowTimes v c i) nan (subst (λ (n : ℕ). n ≤ j) (sym (length-tab (c .rr) (λ (j : ℕ). straight j (c .rl)))) l) in
-          subst (λ (x : Float). Alike (at e j) x) (p ∙ sym q) (alike-refl (at e j))
+    row-zero : (j a k : ℕ) → k < c .n → ¬ (k ≡ i) → finite (term j a k) ≡ true → Zero (term j a k)
+    row-zero j a k l d h =
+        let p = product j a k in
+        let w = at f k in
+        let e = one .elsewhere k l d in
+        let p-fits = mul-fits binary64 (at eta a) (entry c a k j) in
+        let A : Alike (times p w) (times p zero64) = alike-times p p w zero64 p-fits p-fits (zero-fit w (zero-of w e)) zero-fits (alike-refl p) e in
+        let z = times-none p (sym (alike-finite (times p w) (times p zero64) A) ∙ h) in
+        zero-of (times p w) (A ∙ ap unsigned (z .1) ∙ ap unsigned (sym zero-is))
 
-  pub axis-fits : (e : List Float) → stored (contract c f eta) ≡ done e → (j : ℕ) → Fits (at e j)
-  unfolding contract sumRows
-  axis-fits e h j = go (ltb j (c .rr)) refl
-    where
-      S : (contract c f eta ≡ e) × (allFinite e ≡ true)
-      S = stored-is (contract c f eta) e h
+    abbrev straight : ℕ → ℕ → Float
+    straight j m = sumOn zero64 m (λ (a : ℕ). product j a i)
 
-      go : (b : Bool) → ltb j (c .rr) ≡ b → Fits (at e j)
-      go true t = subst (λ (l : List Float). Fits (at l j)) (S .0) (subst Fits (sym (getD-tab (c .rr) (λ (j : ℕ). rows j (c .rl)) j nan (ltb-is j (c .rr) t))) (rows-fit j (c .rl)))
-      go false t = subst (λ (l : List Float). Fits (at l j)) (S .0) (subst Fits (sym (List·getD-eq-default (contract c f eta) nan (subst (λ (n : ℕ). n ≤ j) (sym (length-tab (c .rr) (λ (j : ℕ). rows j (c .rl)))) (ltb-not j (c .rr) t)))) nan-fits)
+    rows-exact : (j m : ℕ) → finite (rows j m) ≡ true → rows j m ≡ straight j m
+    unfolding sumOn
+    rows-exact j zero h = refl
+    rows-exact j (suc m) h =
+        let F = sum-finite (term j m) (term-fits j m) (rows j m) (c .n) h in
+        let A = one-term (term j m) (term-fits j m) (rows j m) i (c .n) (one .inside) (rows-fit j m) (λ k l d. row-zero j m k l d (F .1 k l)) in
+        alike-equal (rows j (suc m)) (plus (rows j m) (term j m i)) (rows-keep j (suc m)) (plus-keeps (rows j m) (term j m i) (rows-fit j m) (term-fits j m i) (rows-keep j m)) A
+        ∙ ap₂ plus (rows-exact j m (F .0)) (row-one j m)
 
-  pub row-fits : (j : ℕ) → Fits (at (rowTimes v c i) j)
-  unfolding rowTimes sumTo
-  row-fits j = go (ltb j (c .rr)) refl
-    where
-      go : (b : Bool) → ltb j (c .rr) ≡ b → Fits (at (rowTimes v c i) j)
-      go true t = subst Fits (sym (getD-tab (c .rr) (λ (j : ℕ). straight j (c .rl)) j nan (ltb-is j (c .rr) t))) (sum-fits (λ (a : ℕ). times (at v a) (entry c a i j)) (λ a. mul-fits binary64 (at v a) (entry c a i j)) zero64 (c .rl) zero-fits)
-      go false t = subst Fits (sym (List·getD-eq-default (rowTimes v c i) nan (subst (λ (n : ℕ). n ≤ j) (sym (length-tab (c .rr) (λ (j : ℕ). straight j (c .rl)))) (ltb-not j (c .rr) t)))) nan-fits
+    -- what is stored at this axis is the row times the matrix at i
+    axis-exact : (e : List Float) → stored (contract c f eta) ≡ done e → e ≡ rowTimes eta c i
+    unfolding contract rowTimes sumRows sumTo
+    axis-exact e h =
+        let S = stored-is (contract c f eta) e h in
+        let sum : ℕ → Float = λ j. rows j (c .rl) in
+        sym (S .0) ∙ listed-same (c .rr) 0 sum (λ (j : ℕ). straight j (c .rl)) (λ j a b.
+        let l : j < c .rr = omega arith in
+        let long : j < length (tab (c .rr) sum) = subst (λ (n : ℕ). j < n) (sym (length-tab (c .rr) sum)) l in
+        rows-exact j (c .rl) (ap finite (sym (getD-tab (c .rr) sum j nan l)) ∙ finite-getD (tab (c .rr) sum) j nan long (ap allFinite (S .0) ∙ S .1)))
 
 -- ---- all axes
--- every index lies within its core, and every number is an f64
-abbrev pub InRange : List (Core × ℕ) → Type 0
-InRange [] = Unit {0}
-InRange (p ∷ ps) = (p .1 < p .0 .n) × (((x : ℕ) → Fits (at (p .0 .entries) x)) × InRange ps)
+module _ (c : ℕ → Core) (w : ℕ → List Float) (i : ℕ → ℕ) where
+  walk-exact : (m k : ℕ) (v : List Float) → ((j : ℕ) → k ≤ j → j < k + m → OneAt (c j .n) (i j) (w j)) → (tr : List (List Float × Unit {0}))
+      → walk sumAxis k v (listed m k (λ (j : ℕ). (c j, w j))) ≡ done tr → stateAt v tr (length tr) ≡ rowAfter v (listed m k (λ (j : ℕ). (c j, i j)))
+  unfolding walk listed rowAfter sumAxis contractAt
+  walk-exact zero k v u tr h = ap (λ (t : List (List Float × Unit {0})). stateAt v t (length t)) (sym (done-inj h))
+  walk-exact (suc m) k v u tr h =
+      let W = walk-cons sumAxis k v (c k, w k) (listed m (suc k) (λ (j : ℕ). (c j, w j))) tr h in
+      let B = bind-done (contractAt k (c k) (w k) v) (λ e. done (e, tt)) (W .0) (W .1) in
+      let s = making-is Sum k (stored (contract (c k) (w k) v)) (B .0) (B .1) in
+      let row : W .0 .0 ≡ rowTimes v (c k) (i k) = ap (λ (x : List Float × Unit {0}). x .0) (sym (done-inj (B .2))) ∙ axis-exact (c k) (w k) v (i k) (u k (omega arith) (omega arith)) (B .0) s in
+      ap (λ (t : List (List Float × Unit {0})). stateAt v t (length t)) (sym (W .2 .2))
+      ∙ walk-exact m (suc k) (W .0 .0) (λ j a b. u j (omega arith) (omega arith)) (W .2 .0) (W .2 .1)
+      ∙ ap (λ (x : List Float). rowAfter x (listed m (suc k) (λ (j : ℕ). (c j, i j)))) row
 
-abbrev pub units : List (Core × ℕ) → List (Core × List Float)
-units ps = map (λ (p : Core × ℕ). (p .0, unitWeights (p .0 .n) (p .1))) ps
+-- the figure that was accepted is that of the sums
+figure-of : (o : Answer Float) → figureBy o .verdict ≡ Accepted → o ≡ done (figureBy o .value)
+figure-of (done x) e = refl
+figure-of (refused r) e = let z : _≡_ {A = ℕ} 0 1 = cc in absurd (omega arith)
 
-walk-alike : (ps : List (Core × ℕ)) → InRange ps → (k : ℕ) (eta v : List Float) → ((a : ℕ) → Fits (at eta a)) → ((a : ℕ) → Fits (at v a)) → ((a : ℕ) → Alike (at eta a) (at v a))
-    → (tr : List (List Float × Unit {0})) → walk sumAxis k eta (units ps) ≡ done tr → (a : ℕ) → Alike (at (stateAt eta tr (length tr)) a) (at (rowAfter v ps) a)
-unfolding walk rowAfter sumAxis contractAt
-walk-alike [] r k eta v ef vf same tr h a = subst (λ (t : List (List Float × Unit {0})). Alike (at (stateAt eta t (length t)) a) (at v a)) (done-inj h) (same a)
-walk-alike (p ∷ ps) r k eta v ef vf same tr h a =
-    let W = walk-cons sumAxis k eta (p .0, unitWeights (p .0 .n) (p .1)) (units ps) tr h in
-    let B = bind-done (contractAt k (p .0) (unitWeights (p .0 .n) (p .1)) eta) (λ e. done (e, tt)) (W .0) (W .1) in
-    let s = making-is Sum k (stored (contract (p .0) (unitWeights (p .0 .n) (p .1)) eta)) (B .0) (B .1) in
-    let st : B .0 ≡ W .0 .0 = ap (λ (x : List Float × Unit {0}). x .0) (done-inj (B .2)) in
-    subst (λ (t : List (List Float × Unit {0})). Alike (at (stateAt eta t (length t)) a) (at (rowAfter (rowTimes v (p .0) (p .1)) ps) a)) (W .2 .2)
-    (walk-alike ps (r .1 .1) (suc k) (W .0 .0) (rowTimes v (p .0) (p .1))
-    (subst (λ (e : List Float). (a : ℕ) → Fits (at e a)) st (axis-fits (p .0) (p .1) (r .0) (r .1 .0) eta v ef vf same (B .0) s))
-    (row-fits (p .0) (p .1) (r .0) (r .1 .0) eta v ef vf same)
-    (subst (λ (e : List Float). (a : ℕ) → Alike (at e a) (at (rowTimes v (p .0) (p .1)) a)) st (axis-alike (p .0) (p .1) (r .0) (r .1 .0) eta v ef vf same (B .0) s))
-    (W .2 .0) (W .2 .1) a)
+-- UNIT WEIGHTS GIVE THE ENTRY
+pub unit-entry : (s : Shape) (chain weights : List Float) (i : ℕ → ℕ) → ((k : ℕ) → k < s .d → OneAt (pointsOf s k) (i k) (pointsAt s weights k))
+    → innerCall s chain weights .verdict ≡ Accepted → innerCall s chain weights .value ≡ entryAt s chain i
+unfolding innerCall inner sums weighed entryAt ttEntry coreAt
+unit-entry s chain weights i one e =
+    let o = innerOk s chain weights then inner (weighed s chain weights) in
+    let I = then-is (innerOk s chain weights) (inner (weighed s chain weights)) (innerCall s chain weights .value) (figure-of o e) .1 in
+    let B = bind-done (sums (weighed s chain weights)) (λ tr. done (at (stateAt startSums tr (length tr)) 0)) (innerCall s chain weights .value) I in
+    sym (done-inj (B .2)) ∙ ap (λ (v : List Float). at v 0) (walk-exact (coreAt s chain) (pointsAt s weights) i (s .d) 0 startSums (λ k a b. one k (omega arith)) (B .0) (B .1))
 
-start-fits : (a : ℕ) → Fits (at startSums a)
-unfolding ofBits fits
-start-fits zero = tt
-start-fits (suc a) = nan-fits
+-- ---- a zero's sign
+tab-keeps : (n : ℕ) (g : ℕ → Float) → ((j : ℕ) → NotMinusZero (g j)) → (j : ℕ) → NotMinusZero (at (tab n g) j)
+tab-keeps n g h j =
+    below-or-not j n
+    (λ l. subst NotMinusZero (sym (getD-tab n g j nan l)) (h j))
+    (λ l. subst NotMinusZero (sym (List·getD-eq-default (tab n g) nan (subst (λ (m : ℕ). m ≤ j) (sym (length-tab n g)) l))) refl)
 
--- UNIT WEIGHTS GIVE THE ENTRY: where the inner product is accepted, it is the tensor-train entry at those indices, zero signs aside
-pub unit-entry : (ps : List (Core × ℕ)) → InRange ps → (x : Float) → inner (units ps) ≡ done x → Alike x (ttEntry ps)
-unfolding inner sums ttEntry
-unit-entry ps r x h =
-    let B = bind-done (walk sumAxis 0 startSums (units ps)) (λ tr. done (at (stateAt startSums tr (length tr)) 0)) x h in
-    subst (λ (y : Float). Alike y (ttEntry ps)) (done-inj (B .2)) (walk-alike ps r 0 startSums startSums start-fits start-fits (λ a. alike-refl (at startSums a)) (B .0) (B .1) 0)
+start-keeps : (a : ℕ) → NotMinusZero (at startSums a)
+unfolding ofBits
+start-keeps zero = refl
+start-keeps (suc a) = refl
+
+walk-keeps : (ps : List (Core × List Float)) (k : ℕ) (v : List Float) → ((a : ℕ) → NotMinusZero (at v a)) → (tr : List (List Float × Unit {0}))
+    → walk sumAxis k v ps ≡ done tr → (a : ℕ) → NotMinusZero (at (stateAt v tr (length tr)) a)
+unfolding walk sumAxis contractAt contract sumRows
+walk-keeps [] k v q tr h a = subst (λ (t : List (List Float × Unit {0})). NotMinusZero (at (stateAt v t (length t)) a)) (done-inj h) (q a)
+walk-keeps (p ∷ ps) k v q tr h a =
+    let W = walk-cons sumAxis k v p ps tr h in
+    let B = bind-done (contractAt k (p .0) (p .1) v) (λ e. done (e, tt)) (W .0) (W .1) in
+    let s = stored-is (contract (p .0) (p .1) v) (B .0) (making-is Sum k (stored (contract (p .0) (p .1) v)) (B .0) (B .1)) in
+    let e : contract (p .0) (p .1) v ≡ W .0 .0 = s .0 ∙ ap (λ (x : List Float × Unit {0}). x .0) (done-inj (B .2)) in
+    let next = subst (λ (x : List Float). (b : ℕ) → NotMinusZero (at x b)) e (tab-keeps (p .0 .rr) (λ (j : ℕ). rows (p .0) (p .1) v j (p .0 .rl)) (λ j. rows-keep (p .0) (p .1) v j (p .0 .rl))) in
+    subst (λ (t : List (List Float × Unit {0})). NotMinusZero (at (stateAt v t (length t)) a)) (W .2 .2) (walk-keeps ps (suc k) (W .0 .0) next (W .2 .0) (W .2 .1) a)
+
+-- no figure is -0, whatever the weights are
+pub figure-not-minus-zero : (s : Shape) (chain weights : List Float) → NotMinusZero (innerCall s chain weights .value)
+unfolding innerCall inner sums
+figure-not-minus-zero s chain weights = go (innerOk s chain weights then inner (weighed s chain weights)) refl
+  where
+    go : (o : Answer Float) → (innerOk s chain weights then inner (weighed s chain weights)) ≡ o → NotMinusZero (figureBy o .value)
+    go (done x) e =
+        let I = then-is (innerOk s chain weights) (inner (weighed s chain weights)) x e .1 in
+        let B = bind-done (sums (weighed s chain weights)) (λ tr. done (at (stateAt startSums tr (length tr)) 0)) x I in
+        subst NotMinusZero (done-inj (B .2)) (walk-keeps (weighed s chain weights) 0 startSums start-keeps (B .0) (B .1) 0)
+    go (refused r) e = zero-keeps
+
+-- nor is an entry
+rows-after-keep : (ps : List (Core × ℕ)) (v : List Float) → ((a : ℕ) → NotMinusZero (at v a)) → (a : ℕ) → NotMinusZero (at (rowAfter v ps) a)
+unfolding rowAfter rowTimes sumTo
+rows-after-keep [] v q a = q a
+rows-after-keep (p ∷ ps) v q a =
+    let t : ℕ → ℕ → Float = λ j b. times (at v b) (entry (p .0) b (p .1) j) in
+    rows-after-keep ps (rowTimes v (p .0) (p .1))
+    (tab-keeps (p .0 .rr) (λ (j : ℕ). sumOn zero64 (p .0 .rl) (t j)) (λ j. sum-keeps (t j) (λ b. mul-fits binary64 (at v b) (entry (p .0) b (p .1) j)) zero64 (p .0 .rl) zero-fits zero-keeps)) a
+
+pub entry-not-minus-zero : (ps : List (Core × ℕ)) → NotMinusZero (ttEntry ps)
+unfolding ttEntry
+entry-not-minus-zero ps = rows-after-keep ps startSums start-keeps 0
+
+-- of a lone core the entry is the number that the core holds, and +0 where that is -0
+lone-entry : (c : Core) (i : ℕ) → c .rl ≡ 1 → c .rr ≡ 1 → Fits (entry c 0 i 0) → ttEntry ((c, i) ∷ []) ≡ unsigned (entry c 0 i 0)
+unfolding ttEntry rowAfter rowTimes sumTo sumOn
+lone-entry c i left right held =
+    let x = entry c 0 i 0 in
+    let term : ℕ → Float = λ a. times (at startSums a) (entry c a i 0) in
+    getD-tab (c .rr) (λ (j : ℕ). sumTo (c .rl) (λ (a : ℕ). times (at startSums a) (entry c a i j))) 0 nan (omega arith)
+    ∙ ap (λ (m : ℕ). sumOn zero64 m term) left
+    ∙ ap (plus zero64) (one-times x held)
+    ∙ plus-swap zero64 x
+    ∙ plus-zero-unsigned x held
+
+-- and so is the figure
+pub lone-figure : (s : Shape) (chain weights : List Float) (i : ℕ) → s .d ≡ 1 → OneAt (pointsOf s 0) i (pointsAt s weights 0) → Fits (entry (coreAt s chain 0) 0 i 0)
+    → innerCall s chain weights .verdict ≡ Accepted → innerCall s chain weights .value ≡ unsigned (entry (coreAt s chain 0) 0 i 0)
+unfolding innerCall innerOk entryAt coreAt listed
+lone-figure s chain weights i alone one held e =
+    let o = innerOk s chain weights then inner (weighed s chain weights) in
+    let ok = then-is (innerOk s chain weights) (inner (weighed s chain weights)) (innerCall s chain weights .value) (figure-of o e) .0 in
+    let S = shaped s (λ (k : ℕ). true) (then-is (chainOk s) _ tt ok .0) in
+    unit-entry s chain weights (λ (k : ℕ). i) (λ k lt. let z : 0 ≡ k = omega arith in subst (λ (j : ℕ). OneAt (pointsOf s j) i (pointsAt s weights j)) z one) e
+    ∙ ap (λ (d : ℕ). ttEntry (tab d (λ (k : ℕ). (coreAt s chain k, i)))) alone
+    ∙ lone-entry (coreAt s chain 0) i (S .first) (S .last 0 (sym alone)) held

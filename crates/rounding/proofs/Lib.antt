@@ -3,3 +3,5 @@ pub mod Early
 pub mod Chains
 -- the call
 pub mod Ends
+-- its counts
+pub mod CountedCall

@@ -1,5 +1,6 @@
 pub mod Restart
 pub mod Rounds
+pub mod CountedSteps
 pub mod Verdicts
 pub mod Fronts
 pub mod Standings
