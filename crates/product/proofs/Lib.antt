@@ -1,4 +1,5 @@
 pub mod Units
 pub mod Examples
+pub mod Edges
 pub mod Checks
 pub mod Walking
