@@ -9,3 +9,4 @@ pub mod Call
 pub mod Sequence
 pub mod StepThenInner
 pub mod Cases
+pub mod Edges
