@@ -1,8 +1,7 @@
 -- Every case at an edge comes out as it is written, by computation. Assumes nothing.
 use mathlib.Core.Path.{refl}
-use lib.Ieee.{add, sub, mul, div, neg, lt, le, eq, ofInt, ofBits, toBits}
+use lib.Ieee.{add, mul, lt, eq, ofBits, toBits}
 use Rattle.answers.specs.Outcome.{demand, demandEach}
-use Rattle.numbers.specs.Root.{rootIn, wholeRoot, rootOfUnits, rootOf}
 use Rattle.lists.specs.Floats.{allFinite}
 use Rattle.lists.specs.Lists.{pick, listed, flat}
 use Rattle.lists.specs.Slots.{offset, slot}
@@ -17,8 +16,8 @@ use Rattle.hand_sums.specs.Cases.{AllRight}
 use Rattle.hand_sums.specs.Edges.{edges}
 
 pub at-the-edge : AllRight edges
-unfolding edges add sub mul div neg lt le eq ofInt ofBits toBits demand demandEach rootIn wholeRoot rootOfUnits rootOf allFinite pick listed flat
-    offset slot place entry coreAt pointsAt sizeOk bondOk shapeOk coreSize pointSize axisFinite axisOk plusProduct slabEntry slab startSized startLent
-    startFinite startOk startCall lengthsOk coreFinite notBelowZero endedBy stepOk stepCall evolveCall
+unfolding edges add mul lt eq ofBits toBits demand demandEach allFinite pick listed flat offset slot place entry coreAt pointsAt sizeOk bondOk shapeOk
+    coreSize pointSize axisFinite axisOk plusProduct slabEntry slab startSized startLent startFinite startOk startCall lengthsOk coreFinite notBelowZero
+    endedBy stepOk stepCall evolveCall
 at-the-edge =
     (refl, (refl, (refl, (refl, (refl, (refl, (refl, (refl, (refl, (refl, (refl, (refl, (refl, (refl, (refl, (refl, (refl, (refl, (refl, (refl, tt))))))))))))))))))))
