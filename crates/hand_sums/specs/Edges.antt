@@ -32,11 +32,11 @@ minus-one = fin true 1 (pos 0)
 abbrev minus-nought : Float
 minus-nought = fin true 0 (pos 0)
 
--- ---- three cores of n, 1 and 1 points and these ranks
-abbrev three-cores : ℕ → ℕ → ℕ → ℕ → ℕ → ℕ → ℕ → List ℕ
-three-cores n l0 r0 l1 r1 l2 r2 =
+-- ---- three cores of one point each, and these ranks
+abbrev three-cores : ℕ → ℕ → ℕ → ℕ → ℕ → ℕ → List ℕ
+three-cores l0 r0 l1 r1 l2 r2 =
     let none : List ℕ = replicate 13 0 in
-    told (verdictOf (chainOk (record { d = 3; left = l0 ∷ l1 ∷ l2 ∷ none; n = n ∷ 1 ∷ 1 ∷ none; right = r0 ∷ r1 ∷ r2 ∷ none })))
+    told (verdictOf (chainOk (record { d = 3; left = l0 ∷ l1 ∷ l2 ∷ none; n = 1 ∷ 1 ∷ 1 ∷ none; right = r0 ∷ r1 ∷ r2 ∷ none })))
 
 -- ---- D with x for its last number, which is core 1's, and with these settings
 abbrev D-with : Float → List Float
@@ -69,12 +69,12 @@ slabOf l r = bits (slab (coreWith 1 1 2 l) (coreWith 2 1 1 r))
 unfoldable pub edges : List Case
 edges =
     -- 3: the left end at core 0, a bond at its left core, the right end at the last core; the lowest of two. A size comes first
-    case 3 (three-cores 1 2 1 1 2 3 1) (3 ∷ 0 ∷ [])
-    ∷ case 3 (three-cores 1 2 1 1 1 1 2) (3 ∷ 0 ∷ [])
-    ∷ case 3 (three-cores 1 1 1 2 1 1 2) (3 ∷ 0 ∷ [])
-    ∷ case 3 (three-cores 1 1 1 1 1 2 2) (3 ∷ 1 ∷ [])
-    ∷ case 3 (three-cores 1 1 1 1 1 1 2) (3 ∷ 2 ∷ [])
-    ∷ case 2 (three-cores 1 2 1 1 1 9 1) (2 ∷ 2 ∷ [])
+    case 3 (three-cores 2 1 1 2 3 1) (3 ∷ 0 ∷ [])
+    ∷ case 3 (three-cores 2 1 1 1 1 2) (3 ∷ 0 ∷ [])
+    ∷ case 3 (three-cores 1 1 2 1 1 2) (3 ∷ 0 ∷ [])
+    ∷ case 3 (three-cores 1 1 1 1 2 2) (3 ∷ 1 ∷ [])
+    ∷ case 3 (three-cores 1 1 1 1 1 2) (3 ∷ 2 ∷ [])
+    ∷ case 2 (three-cores 2 1 1 1 9 1) (2 ∷ 2 ∷ [])
     -- 6 before 7: a NaN in core 1, in axis 1 and in a lone setting, each beside a setting below zero
     ∷ case 6 (stepped minus-one zero64 zero64 still still nan) (6 ∷ 1 ∷ [])
     ∷ case 6 (stepped one64 zero64 minus-one still (axis zero64 nan) one64) (6 ∷ 1 ∷ [])
