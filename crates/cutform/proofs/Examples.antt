@@ -1,4 +1,6 @@
--- Bonds worked out beside the definitions, by computation: D of the scope at and past the threshold, a rank above the number of rows, two cores that take one and three sweeps, as f64 arithmetic gives them, and D rounded with a core behind it. Assumes nothing.
+-- Bonds worked out beside the definitions, by computation. Assumes nothing.
+-- D of the scope at and past the threshold, a rank above the number of rows, two cores that take one and three sweeps, as f64 arithmetic gives them, and D rounded
+-- with a core behind it. Then each comparison with 1e-30 at the numbers next to it and at itself, and sums whose only terms are -0.
 use mathlib.Core.Path.{_≡_, refl}
 use mathlib.Core.Bool.{Bool, true, false}
 use mathlib.Core.List.{List, [], _∷_, map}
@@ -68,6 +70,31 @@ two-wide = coreWith 1 2 2 (map (ofBits binary64) (one ∷ one ∷ 0 ∷ one ∷ 
 abbrev small : Float
 small = ofBits binary64 0x3d719799812dea11
 
+-- ---- the edges
+abbrev nought : Float
+nought = fin false 0 (pos 0)
+
+abbrev minus-nought : Float
+minus-nought = fin true 0 (pos 0)
+
+-- rows (1, g) and (0, 1): the Gram matrix has 1 on its diagonal and g off it
+abbrev leaning : ℕ → Core
+leaning g = coreWith 1 2 2 (map (ofBits binary64) (one ∷ g ∷ 0 ∷ one ∷ []))
+
+-- what becomes of it where no pair is turned
+abbrev unturned : ℕ → Bool → ℕ → Seen
+unturned c b g = record { rank = 2; sweeps = c; settles = b; left = one ∷ g ∷ 0 ∷ one ∷ []; carry = one ∷ 0 ∷ 0 ∷ one ∷ [] }
+
+-- and where g is near 1e-15 and its pair is turned, by half a right angle
+abbrev turned-once : Seen
+turned-once =
+    saw 2 1 (0x3fe6a09e667f3bd1 ∷ 0x3fe6a09e667f3bca ∷ 0x3fe6a09e667f3bcb ∷ 0xbfe6a09e667f3bd0 ∷ [])
+    (0x3fe6a09e667f3bcd ∷ 0x3fe6a09e667f3bcd ∷ 0x3fe6a09e667f3bc8 ∷ 0xbfe6a09e667f3bc8 ∷ [])
+
+-- one number
+abbrev lone : ℕ → Core
+lone x = coreWith 1 1 1 (ofBits binary64 x ∷ [])
+
 pub record Examples : Type 0 where
   -- 3 lies above 0.5*4, so both are kept
   pub above : seen (cutBond 0 half D) ≡ saw 2 0 (0 ∷ one ∷ one ∷ 0 ∷ []) (0 ∷ 0x4010000000000000 ∷ 0x4008000000000000 ∷ 0 ∷ [])
@@ -82,7 +109,43 @@ pub record Examples : Type 0 where
       (0xbff947c839ec3dca ∷ 0x40004998b94c7964 ∷ 0xbfd7b836cb5d275a ∷ 0x3fe80be632b49918 ∷ 0x3fe3da7e596e3f21 ∷ 0x3fca2fff79ee50b4 ∷ 0xbfb811e0950aa470 ∷ 0xbf7aa94ffa5156d4 ∷ 0x3fd75d8139a4775b ∷ [])
   -- what is kept of D goes into the core behind it, two ones
   pub rounded : cores (rounding three-quarters (D ∷ coreWith 2 1 1 (fin false 1 (pos 0) ∷ fin false 1 (pos 0) ∷ []) ∷ [])) ≡ (0 ∷ one ∷ []) ∷ (0x4010000000000000 ∷ []) ∷ []
+  -- 1e-15 squared is 1e-30, which is not below it: the pair is turned. The number before 1e-15 is skipped, in each of 50 sweeps
+  pub skips-below : seen (cutBond 0 nought (leaning 0x3cd203af9ee75615)) ≡ unturned 50 false 0x3cd203af9ee75615
+  pub turns-at : seen (cutBond 0 nought (leaning 0x3cd203af9ee75616)) ≡ turned-once
+  pub turns-above : seen (cutBond 0 nought (leaning 0x3cd203af9ee75617)) ≡ turned-once
+  -- this g has 2*g*g = 1e-30, which does not stop the sweeps; its own square does not turn the pair
+  pub stops-below : seen (cutBond 0 nought (leaning 0x3cc979e8ae802111)) ≡ unturned 0 true 0x3cc979e8ae802111
+  pub goes-on-at : seen (cutBond 0 nought (leaning 0x3cc979e8ae802112)) ≡ unturned 50 false 0x3cc979e8ae802112
+  pub goes-on-above : seen (cutBond 0 nought (leaning 0x3cc979e8ae802113)) ≡ unturned 50 false 0x3cc979e8ae802113
+  -- a value of 1e-30 divides nothing, the next one does
+  pub undivided-at : seen (cutBond 0 nought (lone 0x39b4484bfeebc2a0)) ≡ saw 1 0 (0 ∷ []) (0x39b4484bfeebc2a0 ∷ [])
+  pub divided-above : seen (cutBond 0 nought (lone 0x39b4484bfeebc2a1)) ≡ saw 1 0 (one ∷ []) (0x39b4484bfeebc2a1 ∷ [])
+  -- sums start at +0, and +0 + -0 is +0: in the Gram matrix, in a row times a basis column, in an absorbed core
+  pub gram-signs : bits (gram (coreWith 1 1 2 (fin false 1 (pos 0) ∷ minus-nought ∷ []))) ≡ one ∷ 0 ∷ 0 ∷ 0 ∷ []
+  pub factor-signs : seen (cutBond 0 nought (coreWith 1 2 1 (fin false 1 (pos 0) ∷ minus-nought ∷ []))) ≡ saw 1 0 (one ∷ 0 ∷ []) (one ∷ [])
+  pub absorbed-signs : bits (absorb 1 (fin false 1 (pos 0) ∷ []) (coreWith 1 1 1 (minus-nought ∷ []))) ≡ 0 ∷ []
 
 pub examples : Examples
-unfolding add sub mul div neg lt le eq ofBits toBits rootIn wholeRoot rootOfUnits rootOf pick listed flat first count pairs folded along sumOn sumTo sumRows allFinite firstNotFinite stored place entry block tangentOf slopeOf cosineOf turnedAt eye turnColumns turnRows cleared turned skipped rotate sweep offSum settled sweepsFrom diagonalized singularOf singulars rankIn indexAt order sorted thresholdOf keptRank gram divided leftFactor carryOf cutBond absorb walk roundCore rounding
-examples = record { above = refl; at-threshold = refl; above-rows = refl; one-sweep = refl; three-sweeps = refl; rounded = refl }
+unfolding add sub mul div neg lt le eq ofBits toBits rootIn wholeRoot rootOfUnits rootOf pick listed flat first count pairs folded along sumOn sumTo
+    sumRows allFinite firstNotFinite stored place entry block tangentOf slopeOf cosineOf turnedAt eye turnColumns turnRows cleared turned skipped rotate
+    sweep offSum settled sweepsFrom diagonalized singularOf singulars rankIn indexAt order sorted thresholdOf keptRank gram divided leftFactor carryOf
+    cutBond absorb walk roundCore rounding
+examples = record {
+  above = refl;
+  at-threshold = refl;
+  above-rows = refl;
+  one-sweep = refl;
+  three-sweeps = refl;
+  rounded = refl;
+  skips-below = refl;
+  turns-at = refl;
+  turns-above = refl;
+  stops-below = refl;
+  goes-on-at = refl;
+  goes-on-above = refl;
+  undivided-at = refl;
+  divided-above = refl;
+  gram-signs = refl;
+  factor-signs = refl;
+  absorbed-signs = refl;
+}

@@ -31,5 +31,11 @@ use Rattle.stepping.specs.Zones.{zonesOf, rules}
 use Rattle.hand_sums.specs.Cases.{cases, AllRight}
 
 pub by-hand : AllRight cases
-unfolding cases add sub mul div neg lt le eq ofInt ofBits toBits demand demandEach floorOf wrap rootIn wholeRoot rootOfUnits rootOf wholeOf fractionOf sumOn sumTo sumRows allFinite firstNotFinite stored pick listed flat first count pairs folded offset slot fit along every walk place entry block coreAt coresOf pointsAt reshaped sizeOk bondOk shapeOk coreSize pointSize axisFinite axisOk distance spacing shiftOf shifted scaled cubicBandWeights bandOn shiftedAt gram divided leftFactor carryOf cutBond absorb tangentOf slopeOf cosineOf turnedAt eye turnColumns turnRows cleared turned skipped rotate sweep offSum settled sweepsFrom diagonalized singularOf singulars rankIn indexAt order sorted thresholdOf keptRank lengthsOk coreFinite notBelowZero roundFinite roundOk scratchAfter endedBy roundCall roundCore rounding innerLent innerFinite innerOk weighed innerCall contract contractAt sumAxis sums inner reachesAt stepOk stepCall shiftZone scaleZone roundZone stepFrom step zonesOf rules
+unfolding cases add sub mul div neg lt le eq ofInt ofBits toBits demand demandEach floorOf wrap rootIn wholeRoot rootOfUnits rootOf wholeOf fractionOf
+    sumOn sumTo sumRows allFinite firstNotFinite stored pick listed flat first count pairs folded offset slot fit along every walk place entry block coreAt
+    coresOf pointsAt reshaped sizeOk bondOk shapeOk coreSize pointSize axisFinite axisOk distance spacing shiftOf shifted scaled cubicBandWeights bandOn
+    shiftedAt gram divided leftFactor carryOf cutBond absorb tangentOf slopeOf cosineOf turnedAt eye turnColumns turnRows cleared turned skipped rotate
+    sweep offSum settled sweepsFrom diagonalized singularOf singulars rankIn indexAt order sorted thresholdOf keptRank lengthsOk coreFinite notBelowZero
+    roundFinite roundOk scratchAfter endedBy roundCall roundCore rounding innerLent innerFinite innerOk weighed innerCall contract contractAt sumAxis sums
+    inner reachesAt stepOk stepCall shiftZone scaleZone roundZone stepFrom step zonesOf rules
 by-hand = (refl, (refl, (refl, (refl, (refl, (refl, (refl, (refl, (refl, (refl, (refl, tt)))))))))))

@@ -1,8 +1,10 @@
--- Every case comes out as it is written, by computation. Assumes nothing.
+-- Every case comes out as it is written, those at the edges too, by computation. Assumes nothing.
 use mathlib.Core.Path.{refl}
 use lib.Ieee.{add, sub, mul, div, neg, lt, le, eq, ofInt, ofBits, toBits}
 use Rattle.answers.specs.Outcome.{demand, demandEach}
+use Rattle.numbers.specs.Residues.{wrap}
 use Rattle.numbers.specs.Root.{rootIn, wholeRoot, rootOfUnits, rootOf}
+use Rattle.numbers.specs.Whole.{wholeOf, fractionOf}
 use Rattle.lists.specs.Floats.{sumOn, sumTo, sumRows, allFinite, firstNotFinite, stored}
 use Rattle.lists.specs.Lists.{pick, listed, flat, first, count, pairs, folded}
 use Rattle.lists.specs.Slots.{offset, slot, put, fit, laid, write}
@@ -10,7 +12,8 @@ use Rattle.lists.specs.Walks.{along, every, walk}
 use Rattle.shape.specs.Cores.{place, entry, block, coreAt, pointsAt}
 use Rattle.shape.specs.Shapes.{sizeOk, bondOk, shapeOk, coreSize, pointSize}
 use Rattle.axes.specs.Axes.{axisFinite, axisOk}
-use Rattle.shift.specs.Shifts.{distance, spacing, shiftOf, scaled}
+use Rattle.shift.specs.Shifts.{distance, spacing, shiftOf, shifted, scaled}
+use Rattle.bands.specs.Weights.{cubicBandWeights, bandOn, shiftedAt}
 use Rattle.cutform.specs.Bonds.{gram, cutBond, absorb}
 use Rattle.cutform.specs.Factors.{divided, leftFactor, carryOf}
 use Rattle.rotation.specs.Rotation.{eye}
@@ -31,7 +34,26 @@ use Rattle.kept.specs.Checks.{rankOk, inputsLent, keptLent, scratchLent,
 use Rattle.kept.specs.Requests.{numbersOk, replaceOk, replace}
 use Rattle.kept.specs.Call.{roomOk, freshEnd, replaceEnd, freshBy, replaceBy}
 use Rattle.kept.specs.Cases.{cases, AllRight}
+use Rattle.kept.specs.Edges.{freshEdges, replacedEdges, RefusedFresh}
 
-pub all-right : AllRight cases
-unfolding cases add sub mul div neg lt le eq ofInt ofBits toBits demand demandEach rootIn wholeRoot rootOfUnits rootOf sumOn sumTo sumRows allFinite firstNotFinite stored pick listed flat first count pairs folded offset slot put fit laid write along every walk place entry block coreAt pointsAt sizeOk bondOk shapeOk coreSize pointSize axisFinite axisOk distance spacing shiftOf scaled gram divided leftFactor carryOf cutBond absorb eye offSum settled sweepsFrom diagonalized singularOf singulars rankIn indexAt order sorted thresholdOf keptRank coreFinite notBelowZero scratchAfter roundCore contract contractAt reachesAt shiftZone scaleZone roundZone stepFrom rules bondSize carrySize sumSize bare blank zoneAt keptCore carryAt sumsAt weighedAt keepStep keepSums sumZone restep resum sumFrom workFrom rankOk inputsLent keptLent scratchLent loneFinite zoneFinite keptFinite loneOk inReachAt freshOk freshRun numbersOk replaceOk replace roomOk freshEnd replaceEnd freshBy replaceBy
-all-right = (refl, (refl, (refl, (refl, (refl, (refl, (refl, (refl, (refl, (refl, (refl, (refl, (refl, (refl, (refl, (refl, tt))))))))))))))))
+pub record Computed : Type 0 where
+  pub right : AllRight cases
+  pub fresh-edges : AllRight freshEdges
+  pub replaced-edges : AllRight replacedEdges
+  pub refused-fresh : RefusedFresh
+
+pub computed : Computed
+unfolding cases freshEdges replacedEdges add sub mul div neg lt le eq ofInt ofBits toBits demand demandEach wrap wholeOf fractionOf rootIn wholeRoot
+    rootOfUnits rootOf sumOn sumTo sumRows allFinite firstNotFinite stored pick listed flat first count pairs folded offset slot put fit laid write along
+    every walk place entry block coreAt pointsAt sizeOk bondOk shapeOk coreSize pointSize axisFinite axisOk distance spacing shiftOf shifted
+    cubicBandWeights bandOn shiftedAt scaled gram divided leftFactor carryOf cutBond absorb eye offSum settled sweepsFrom diagonalized singularOf singulars
+    rankIn indexAt order sorted thresholdOf keptRank coreFinite notBelowZero scratchAfter roundCore contract contractAt reachesAt shiftZone scaleZone
+    roundZone stepFrom rules bondSize carrySize sumSize bare blank zoneAt keptCore carryAt sumsAt weighedAt keepStep keepSums sumZone restep resum sumFrom
+    workFrom rankOk inputsLent keptLent scratchLent loneFinite zoneFinite keptFinite loneOk inReachAt freshOk freshRun numbersOk replaceOk replace roomOk
+    freshEnd replaceEnd freshBy replaceBy
+computed = record {
+  right = (refl, (refl, (refl, (refl, (refl, (refl, (refl, (refl, (refl, (refl, (refl, (refl, (refl, (refl, (refl, (refl, (refl, tt)))))))))))))))));
+  fresh-edges = (refl, (refl, (refl, (refl, (refl, (refl, (refl, (refl, (refl, (refl, (refl, tt)))))))))));
+  replaced-edges = (refl, (refl, (refl, (refl, (refl, (refl, (refl, (refl, (refl, (refl, (refl, (refl, (refl, (refl, (refl, (refl, (refl, (refl, (refl, (refl, (refl, (refl, (refl, (refl, tt))))))))))))))))))))))));
+  refused-fresh = (refl, refl);
+}

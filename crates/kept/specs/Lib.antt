@@ -11,3 +11,4 @@ pub mod Sequence
 pub mod OnePage
 pub mod StepThenInner
 pub mod Cases
+pub mod Edges

@@ -1,5 +1,6 @@
 pub mod Signs
 pub mod Units
 pub mod Examples
+pub mod Edges
 pub mod Checks
 pub mod Walking

@@ -1,0 +1,23 @@
+-- Every case at an edge comes out as it is written, by computation. Assumes nothing.
+use mathlib.Core.Path.{refl}
+use lib.Ieee.{add, mul, lt, eq, ofBits, toBits}
+use Rattle.answers.specs.Outcome.{demand, demandEach}
+use Rattle.lists.specs.Floats.{allFinite}
+use Rattle.lists.specs.Lists.{pick, listed, flat}
+use Rattle.lists.specs.Slots.{offset, slot}
+use Rattle.shape.specs.Cores.{place, entry, coreAt, pointsAt}
+use Rattle.shape.specs.Shapes.{sizeOk, bondOk, shapeOk, coreSize, pointSize}
+use Rattle.axes.specs.Axes.{axisFinite, axisOk}
+use Rattle.slabs.specs.Slabs.{plusProduct, slabEntry, slab}
+use Rattle.starting.specs.Start.{startSized, startLent, startFinite, startOk, startCall}
+use Rattle.rounding.specs.Call.{lengthsOk, coreFinite, notBelowZero, endedBy}
+use Rattle.stepping.specs.Call.{stepOk, stepCall, evolveCall}
+use Rattle.hand_sums.specs.Cases.{AllRight}
+use Rattle.hand_sums.specs.Edges.{edges}
+
+pub at-the-edge : AllRight edges
+unfolding edges add mul lt eq ofBits toBits demand demandEach allFinite pick listed flat offset slot place entry coreAt pointsAt sizeOk bondOk shapeOk
+    coreSize pointSize axisFinite axisOk plusProduct slabEntry slab startSized startLent startFinite startOk startCall lengthsOk coreFinite notBelowZero
+    endedBy stepOk stepCall evolveCall
+at-the-edge =
+    (refl, (refl, (refl, (refl, (refl, (refl, (refl, (refl, (refl, (refl, (refl, (refl, (refl, (refl, (refl, (refl, (refl, (refl, (refl, (refl, tt))))))))))))))))))))
