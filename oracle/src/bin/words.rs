@@ -51,7 +51,11 @@ impl Shape {
 
 /// All that stands behind the shape, with its lengths; `left`, `right`, `axes` and others are names for the reader alone.
 fn rest(given: &[&str]) -> Vec<u64> {
-    let words: Vec<&str> = given[1..].iter().skip_while(|w| number(w).is_some()).copied().collect();
+    let words: Vec<&str> = given[1..]
+        .iter()
+        .skip_while(|w| number(w).is_some())
+        .copied()
+        .collect();
     numbers(&words)
 }
 
@@ -65,7 +69,13 @@ fn scratch(given: &[&str]) -> u64 {
 /// The lengths of a pair's outputs and scratch.
 fn rooms(given: &[&str]) -> Vec<u64> {
     let sides = shape(given).1;
-    let asked = || vec![sides[0][0] * sides[1][0] * 8, 8 * sides[1][1] * sides[2][1], 20480];
+    let asked = || {
+        vec![
+            sides[0][0] * sides[1][0] * 8,
+            8 * sides[1][1] * sides[2][1],
+            20480,
+        ]
+    };
     named(given, "room").unwrap_or_else(asked)
 }
 
@@ -80,7 +90,9 @@ fn pair(given: &[&str]) -> Vec<u64> {
         }
         None => ["left", "right"].map(|name| list(given, name).expect("a core")),
     };
-    let counted = cores.iter().flat_map(|c| [vec![c.len() as u64], c.clone()].concat());
+    let counted = cores
+        .iter()
+        .flat_map(|c| [vec![c.len() as u64], c.clone()].concat());
     [sizes.to_vec(), eps, counted.collect(), rooms(given)].concat()
 }
 
@@ -257,7 +269,9 @@ fn answer(kind: &str, given: &[&str], words: &[&str]) -> Answer {
 fn main() {
     let wrong = std::env::args().any(|word| word == "wrong");
     let mut text = String::new();
-    std::io::stdin().read_to_string(&mut text).expect("lines of cases");
+    std::io::stdin()
+        .read_to_string(&mut text)
+        .expect("lines of cases");
     let mut cases = Vec::new();
     for line in text.lines() {
         let words: Vec<&str> = line.split_whitespace().collect();
