@@ -2,9 +2,10 @@
 """Chain files and what the scope says of them, as the last list that `replays` reads: oracle/files.py > file.list
 
 Everything here is written from the scope's section on the chain file, and shares nothing with the code that it tests. A case
-starts with its kind: 0 reading (bytes, room; number and place, or 0 and 0; shape; room, and what it holds at the end), 1 writing
+starts with its kind: 0 reading (bytes, room; number and place, or 0 and 0; shape; what the room holds at the end), 1 writing
 (shape, chain, the output's length; number and place; what the output holds at the end), 2 the listing (bytes; text). A word has
-eight bytes, the lowest first; bytes stand behind a word that says how many.
+eight bytes, the lowest first; bytes stand behind a word that says how many. A second list follows, of cases each of which has an answer
+that is wrong in one word or byte.
 """
 import struct
 import sys
@@ -117,7 +118,7 @@ def text(data):
     return out
 
 
-cases = []
+cases, spoilt = [], []
 
 
 def words(*numbers):
@@ -128,32 +129,93 @@ def counted(data):
     return words(len(data)) + data
 
 
+class Answer:
+    """what a case answers, as bytes, and where it can be made wrong"""
+
+    def __init__(self):
+        self.data, self.values, self.lists = b"", [], []
+
+    def value(self, *numbers):
+        """words that are no length"""
+        for number in numbers:
+            self.values.append(len(self.data))
+            self.data += words(number)
+
+    def counts(self, numbers):
+        """the counts at the front of an array, 0 behind them"""
+        at = len(self.data)
+        self.data += words(len(numbers))
+        self.value(*numbers)
+        if len(numbers) < 16:
+            self.lists.append((at, len(self.data)))
+
+    def held(self, front, length, behind):
+        """the numbers at the front of a slice of that length, and what stands behind each"""
+        self.data += words(len(front))
+        if len(front) < length:
+            self.value(behind)
+        else:
+            self.data += words(behind)
+        self.value(*front)
+
+    def text(self, data):
+        self.data += words(len(data))
+        self.values += range(len(self.data), len(self.data) + len(data))
+        self.data += data
+
+    def made_wrong(self):
+        """every value turned in its lowest bit, and every list with one number more"""
+        for at in self.values:
+            yield put(self.data, at, bytes([self.data[at] ^ 1]))
+        for at, end in self.lists:
+            yield put(self.data[:end], at, words((end - at) // 8)) + words(1) + self.data[end:]
+
+
+def case(given, answer):
+    cases.append(given + answer.data)
+    return given, answer
+
+
+def make_wrong(given, answer):
+    spoilt.extend(given + data for data in answer.made_wrong())
+
+
 def shaped(d, cores):
     """how many cores, then the left ranks of all, their sizes, their right ranks"""
     return words(d, *(core[i] for i in range(3) for core in cores))
 
 
 def reading(data, room):
-    case = words(0) + counted(data) + words(room)
+    answer = Answer()
     try:
         cores, bits = read(data, room)
-        case += words(0, 0) + shaped(len(cores), cores) + words(room, *bits, *[0] * (room - len(bits)))
+        answer.value(0, 0, len(cores))
+        sides, front, behind = zip(*cores), bits, 0
     except Refused as r:
-        case += words(*r.args, 0, room, *[BEFORE] * room)
-    cases.append(case)
+        answer.value(*r.args, 0)
+        sides, front, behind = [()] * 3, [], BEFORE
+    for side in sides:
+        answer.counts(side)
+    answer.held(front, room, behind)
+    return case(words(0) + counted(data) + words(room), answer)
 
 
 def writing(d, cores, bits, room):
-    case = words(1) + shaped(d, cores[:min(d, 16)]) + words(len(bits), *bits) + words(room)
+    answer = Answer()
     try:
-        case += words(0, 0) + counted(write(d, cores, bits, room))
+        made = write(d, cores, bits, room)
+        answer.value(0, 0)
     except Refused as r:
-        case += words(*r.args) + counted(bytes([SPACE]) * room)
-    cases.append(case)
+        made = bytes([SPACE]) * room
+        answer.value(*r.args)
+    answer.text(made)
+    return case(words(1) + shaped(d, cores[:min(d, 16)]) + words(len(bits), *bits) + words(room), answer)
 
 
 def listing(data):
-    cases.append(words(2) + counted(data) + counted(text(data).encode()))
+    answer = Answer()
+    answer.text(text(data).encode())
+    return case(words(2) + counted(data), answer)
 
 
 def both(data, room=None):
@@ -228,5 +290,18 @@ writing(17, [(1, 1, 1)] * 16, bits(*range(16)), 328)
 for bad in ((0, 4, 1), (9, 4, 1), (1, 0, 1), (1, 65, 1), (1, 4, 0), (1, 4, 9), (2, 4, 1), (1, 4, 2)):
     writing(1, [bad], bits(1), 51)
 writing(2, [(1, 2, 2), (3, 1, 1)], bits(1), 51)
-sys.stdout.buffer.write(words(len(cases)) + b"".join(cases))
-print(len(cases), file=sys.stderr)
+# an end rank and a bond at once
+for cores in ([(2, 1, 1), (1, 1, 2), (3, 1, 1)], [(1, 1, 2), (3, 1, 1), (1, 1, 2)], [(1, 1, 1), (1, 1, 2), (3, 1, 2)], [(2, 1, 1), (1, 1, 1), (1, 1, 2)]):
+    chain = bits(*range(entries(cores)))
+    writing(3, cores, chain, 44 + 8 * len(chain))
+    both(make(cores, chain), len(chain))
+# wrong answers: of a file that leaves room, of one that is cut, of one written and one not, and of both listings
+make_wrong(*reading(two, 8))
+make_wrong(*reading(two[:-1], 8))
+make_wrong(*writing(1, [(1, 4, 1)], bits(4, 8, 16, 0), 52))
+make_wrong(*writing(1, [(1, 4, 2)], bits(4, 8, 16, 0), 52))
+make_wrong(*listing(one))
+make_wrong(*listing(one[:19]))
+for some in (cases, spoilt):
+    sys.stdout.buffer.write(words(len(some)) + b"".join(some))
+    print(len(some), file=sys.stderr)

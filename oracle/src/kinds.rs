@@ -8,9 +8,11 @@ use crate::tt_chernoff::{cubic_band_weights, TtChernoff, TtState};
 use crate::tt_core::TtCore;
 
 /// A kind's name, and the function that draws a case of it.
-pub const KINDS: [(&str, fn(&mut Random, &Most, &mut Line)); 9] = [
+pub const KINDS: [(&str, fn(&mut Random, &Most, &mut Line)); 11] = [
     ("round", round),
     ("inner", inner),
+    ("start", start),
+    ("entry", entry),
     ("step", step),
     ("edge", edge),
     ("evolve", evolve),
@@ -43,27 +45,64 @@ fn ended(line: &mut Line, cores: &[TtCore<f64>], end: Result<Bonds, Refused>) {
     }
 }
 
-fn round(r: &mut Random, most: &Most, line: &mut Line) {
-    let mut cores = draw::chain(r, most);
-    let eps = draw::eps(r);
-    line.shape(&cores).float("eps", eps).chain(&cores).answer();
+/// What the Rust makes of a chain.
+pub fn rounded(line: &mut Line, mut cores: Vec<TtCore<f64>>, eps: f64) {
+    line.answer();
     let end = calls::round(&mut cores, eps);
     ended(line, &cores, end);
 }
 
-fn inner(r: &mut Random, most: &Most, line: &mut Line) {
-    let state = TtState {
-        cores: draw::chain(r, most),
-    };
-    let weights = draw::weights(r, &state.cores);
-    line.shape(&state.cores)
-        .chain(&state.cores)
-        .floats("weights", &weights.concat())
-        .answer();
-    match calls::inner(&state, &weights) {
+fn round(r: &mut Random, most: &Most, line: &mut Line) {
+    let cores = draw::chain(r, most);
+    let eps = draw::eps(r);
+    line.shape(&cores).float("eps", eps).chain(&cores);
+    rounded(line, cores, eps);
+}
+
+/// The figure of a chain and weights.
+pub fn summed(line: &mut Line, cores: Vec<TtCore<f64>>, weights: &[Vec<f64>]) {
+    line.answer();
+    match calls::inner(&TtState { cores }, weights) {
         Ok(figure) => _ = line.float("figure", figure),
         Err(why) => refused(line, &why),
     }
+}
+
+fn inner(r: &mut Random, most: &Most, line: &mut Line) {
+    let cores = draw::chain(r, most);
+    let weights = draw::weights(r, &cores);
+    line.shape(&cores)
+        .chain(&cores)
+        .floats("weights", &weights.concat());
+    summed(line, cores, &weights);
+}
+
+fn start(r: &mut Random, most: &Most, line: &mut Line) {
+    let cores = draw::chain(r, most);
+    let vectors = draw::weights(r, &cores);
+    line.shape(&cores)
+        .floats("vectors", &vectors.concat())
+        .answer();
+    let made = TtState::rank1_separable(vectors).cores;
+    let sizes = |c: &TtCore<f64>| (c.r_left, c.n);
+    assert!(
+        made.iter().map(sizes).eq(cores.iter().map(|c| (1, c.n))),
+        "the start has other sizes"
+    );
+    let ranks: Vec<usize> = made.iter().map(|c| c.r_right).collect();
+    line.words("ranks", &ranks).chain(&made);
+}
+
+fn entry(r: &mut Random, most: &Most, line: &mut Line) {
+    let cores = draw::chain(r, most);
+    let k = r.below(cores.len());
+    let c = &cores[k];
+    let (il, im, ir) = (r.below(c.r_left), r.below(c.n), r.below(c.r_right));
+    line.shape(&cores)
+        .chain(&cores)
+        .words("at", &[k, il, im, ir])
+        .answer()
+        .float("value", c.get(il, im, ir));
 }
 
 /// What a step is given but for tau.
@@ -113,15 +152,10 @@ fn evolve(r: &mut Random, most: &Most, line: &mut Line) {
     ended(line, &state.cores, end);
 }
 
-fn pair(r: &mut Random, most: &Most, line: &mut Line) {
-    let mut state = TtState {
-        cores: draw::pair(r, most).to_vec(),
-    };
-    let eps = draw::eps(r);
-    line.shape(&state.cores)
-        .float("eps", eps)
-        .chain(&state.cores)
-        .answer();
+/// What the Rust makes of two neighbours.
+pub fn split(line: &mut Line, cores: Vec<TtCore<f64>>, eps: f64) {
+    let mut state = TtState { cores };
+    line.answer();
     match calls::pair(&mut state, eps) {
         Err(why) => refused(line, &why),
         Ok(passes) => {
@@ -133,6 +167,13 @@ fn pair(r: &mut Random, most: &Most, line: &mut Line) {
                 .floats("right", &state.cores[1].data);
         }
     }
+}
+
+fn pair(r: &mut Random, most: &Most, line: &mut Line) {
+    let cores = draw::pair(r, most).to_vec();
+    let eps = draw::eps(r);
+    line.shape(&cores).float("eps", eps).chain(&cores);
+    split(line, cores, eps);
 }
 
 fn root(r: &mut Random, _: &Most, line: &mut Line) {

@@ -4,6 +4,7 @@ pub mod counted;
 pub mod draw;
 pub mod error;
 pub mod float;
+pub mod given;
 pub mod kinds;
 pub mod line;
 pub mod random;

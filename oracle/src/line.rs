@@ -9,6 +9,11 @@ impl Line {
         Line(format!("{kind} {index}"))
     }
 
+    /// A case that is given by hand, as far as it is given.
+    pub fn of_text(text: &str) -> Line {
+        Line(text.to_string())
+    }
+
     /// the case's number
     pub fn index(&self) -> usize {
         self.0.split(' ').nth(1).and_then(|w| w.parse().ok()).expect("a number")

@@ -1,16 +1,24 @@
 //! Prints cases with the Rust's answers, one per line; README.md says how to read them.
 use oracle::draw::Most;
+use oracle::given;
 use oracle::kinds;
 use oracle::line::Line;
 use oracle::random::Random;
 use std::io::{BufWriter, Write};
 
-const USAGE: &str = "usage: oracle KIND SEED COUNT [CORES SIZE RANK STEPS]
-  KIND is round, inner, step, edge, evolve, pair, root, floor or weights
-  CORES SIZE RANK STEPS are the most of each that a case has: 16 64 8 200 if not given";
+const USAGE: &str = "usage: oracle KIND SEED COUNT [CORES SIZE RANK STEPS], or oracle given < LINES
+  KIND is round, inner, start, entry, step, edge, evolve, pair, root, floor or weights
+  CORES SIZE RANK STEPS are the most of each that a case has: 16 64 8 200 if not given
+  LINES are cases of round, inner and pair without an answer";
 
 fn main() {
     let words: Vec<String> = std::env::args().skip(1).collect();
+    if words == ["given"] {
+        for text in std::io::stdin().lines() {
+            println!("{}", given::answered(&text.expect("a line")).text());
+        }
+        return;
+    }
     let numbers: Option<Vec<usize>> = words.iter().skip(1).map(|w| w.parse().ok()).collect();
     let kind = kinds::KINDS
         .iter()

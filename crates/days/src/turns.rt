@@ -3,14 +3,40 @@ use super::calls;
 use drawing::asks;
 use drawing::parts;
 
-// Whether a fresh run with the new part in is to answer the same.
+// Whether a fresh run with the new part in is to answer the same, but for a shift that is made too far.
 fn as_fresh(q: asks::Ask) -> bool {
-    asks::NOT_FINITE <= q.flaw
+    (asks::NOT_FINITE <= q.flaw) & (q.flaw < asks::SPOILT) | (q.flaw == asks::OLD_TOO_FAR)
+}
+
+// Whether a replacement shifts the axis whose record others wrote to: one of a core, of a zone not behind it, as long as time goes on.
+fn is_shifted(q: asks::Ask, set: stepping::Settings) -> bool {
+    (q.kind == asks::CORE) & (q.zone <= q.spot) & (0.0 < set.tau)
+}
+
+// What is to be told of a run that others wrote to, by the flaw.
+fn expected_spoilt(q: asks::Ask, set: stepping::Settings, fresh: calls::Told) -> calls::Told {
+    if (q.flaw == asks::OLD_TOO_FAR) & !is_shifted(q, set) {
+        return fresh;
+    }
+    let mut lower = q.spot;
+    if q.zone < q.spot {
+        lower = q.zone;
+    }
+    let numbers = [6, 7, 6, 7, 6, 2, 6, 8];
+    let places = [0, 0, q.spot, q.spot, q.spot, q.spot, lower, q.spot];
+    let k = drawing::chance::below(q.flaw, asks::KINDS_SPOILT);
+    calls::Told {
+        number: numbers[k],
+        place: places[k],
+    }
 }
 
 // What is to be told: as a fresh run, where there can be one, and else by the flaw.
-fn expected(q: asks::Ask, fresh: calls::Told) -> calls::Told {
+fn expected(q: asks::Ask, set: stepping::Settings, fresh: calls::Told) -> calls::Told {
     let flaw = q.flaw;
+    if asks::SPOILT <= flaw {
+        return expected_spoilt(q, set, fresh);
+    }
     if asks::NOT_FINITE <= flaw {
         return fresh;
     }
@@ -60,9 +86,15 @@ fn renewed(q: asks::Ask, r: kept::Run, part: &[f64], held: &mut [f64; calls::HEL
 // The record as others wrote to it.
 fn spoilt(q: asks::Ask, r: kept::Run) -> kept::Run {
     let mut t = r;
-    let s = r.shape;
+    let mut s = r.shape;
+    let mut xs = r.axes;
+    let set = r.set;
     let k = q.spot;
     if k < shape::MOST_AXES {
+        xs[k] = asks::spoilt_axis(q, xs[k]);
+        if q.flaw == asks::SIZE_AND_ZONE {
+            s.n[k] = 0;
+        }
         if q.flaw == asks::RANK_ZERO {
             t.ranks[k] = 0;
         }
@@ -72,6 +104,19 @@ fn spoilt(q: asks::Ask, r: kept::Run) -> kept::Run {
     }
     if q.flaw == asks::FIGURE {
         t.figure = q.wrong;
+    }
+    t.shape = s;
+    t.axes = xs;
+    t.set = asks::spoilt_settings(q, set);
+    t
+}
+
+// The record as it was before others wrote to it, of a replacement that was made all the same.
+fn mended(q: asks::Ask, a: kept::Run, r: kept::Run) -> kept::Run {
+    let mut t = a;
+    if q.flaw == asks::OLD_TOO_FAR {
+        let xs = r.axes;
+        t.axes = xs;
     }
     t
 }
@@ -191,18 +236,19 @@ fn look(
     }
 }
 
-// Whether an answer is right: one that is no refusal has the fresh run's bits and no zone before the named one written; a refused
-// one left the run alone, and the run, where the flaw is none of its inputs', is still the fresh one.
+// Whether an answer is right: one that is no refusal has the fresh run's bits, what others wrote, and no zone before the named one
+// written; a refused one left the run alone, and the run, where the flaw is none of its inputs', is still the fresh one.
 fn right(q: asks::Ask, r: kept::Run, got: kept::Ran, want: kept::Ran, f: Found) -> bool {
     let v = got.verdict;
     let w = want.verdict;
     let a = got.run;
     let b = want.run;
+    let set = r.set;
     let told = calls::reading(v);
-    let due = expected(q, calls::reading(w));
+    let due = expected(q, set, calls::reading(w));
     let agrees = (told.number == due.number) & (told.place == due.place);
     if told.number == 0 {
-        return agrees & same_run(a, b) & f.fresh & f.apart;
+        return agrees & same_run(a, spoilt(q, b)) & f.fresh & f.apart;
     }
     let t = spoilt(q, r);
     let left = agrees & same_run(a, t) & f.still;
@@ -225,6 +271,132 @@ fn unwritten(v: answers::Verdict, held: &[f64; calls::HELD]) -> bool {
     calls::all_are(parts::window(held, calls::CHAIN, calls::KEPT), calls::MARK)
 }
 
+// ---- unused room
+// How many numbers a core has: so many stand before the next one of a chain of three.
+fn size_of(left: usize, n: usize, right: usize) -> usize {
+    let mut lefts = [1; shape::MOST_AXES];
+    let mut points = [1; shape::MOST_AXES];
+    let mut rights = [1; shape::MOST_AXES];
+    rights[0] = left;
+    lefts[1] = left;
+    points[1] = n;
+    rights[1] = right;
+    lefts[2] = right;
+    let s = shape::Shape {
+        d: 3,
+        left: lefts,
+        n: points,
+        right: rights,
+    };
+    let from = drawing::plans::starts(s, 1);
+    let to = drawing::plans::starts(s, 2);
+    std::num::wrapping_sub_usize(to.core, from.core)
+}
+
+// Whether a slot of a list, from one place to another, is +0 behind its first `used` numbers.
+fn is_clear(held: &[f64; calls::HELD], list: usize, from: usize, to: usize, used: usize) -> bool {
+    let size = std::num::wrapping_sub_usize(to, from);
+    if size < used {
+        return size == 0;
+    }
+    let at = std::num::wrapping_add_usize(list, std::num::wrapping_add_usize(from, used));
+    calls::all_are(parts::window(held, at, size - used), 0.0)
+}
+
+// Whether the slots of zone k are +0 behind what is kept of it, by the kept ranks on its sides.
+fn zone_clear(
+    s: shape::Shape,
+    k: usize,
+    left: usize,
+    n: usize,
+    right: usize,
+    kept: usize,
+    held: &[f64; calls::HELD],
+) -> bool {
+    let at = drawing::plans::starts(s, k);
+    let to = drawing::plans::starts(s, std::num::wrapping_add_usize(k, 1));
+    let core = is_clear(held, calls::CHAIN, at.core, to.core, size_of(left, n, kept));
+    let carry = is_clear(
+        held,
+        calls::CARRIES,
+        at.carry,
+        to.carry,
+        size_of(kept, right, 1),
+    );
+    core & carry & is_clear(held, calls::SUMS, at.sums, to.sums, kept)
+}
+
+// The same of all zones.
+fn room_clear(r: kept::Run, held: &[f64; calls::HELD]) -> bool {
+    let s = r.shape;
+    let ranks = r.ranks;
+    let mut left = 1;
+    let mut all = true;
+    for k in 0..shape::MOST_AXES {
+        if k < s.d {
+            let mut kept = 1;
+            if k + 1 < s.d {
+                kept = ranks[k];
+            }
+            let zone = zone_clear(s, k, left, s.n[k], s.right[k], kept, held);
+            all = all & zone;
+            left = kept;
+        }
+    }
+    all
+}
+
+// ---- fresh runs that are refused
+// The record as it is before a fresh run.
+fn blank(r: kept::Run) -> kept::Run {
+    let mut t = r;
+    t.ranks = [0; shape::MOST_AXES];
+    t.sweeps = [0; shape::MOST_AXES];
+    t.settled = [false; shape::MOST_AXES];
+    t.figure = 0.0;
+    t
+}
+
+fn same_lists(a: &[f64; calls::HELD], b: &[f64; calls::HELD]) -> bool {
+    comparing::same_numbers(a, b)
+}
+
+// Whether a fresh run is refused with what is due, and leaves its lists alone and in its record nothing but what it was given.
+fn is_refused(r: kept::Run, wrong: usize, held: [f64; calls::HELD], due: calls::Told) -> bool {
+    let s = r.shape;
+    let mut now = held;
+    let end = calls::fresh(r, calls::lengths_of(s, wrong), &mut now);
+    let got = end.ran;
+    let a = got.run;
+    let v = got.verdict;
+    let told = calls::reading(v);
+    let agrees = (told.number == due.number) & (told.place == due.place);
+    agrees & end.clean & same_run(a, blank(r)) & same_lists(&now, &held)
+}
+
+// The same of a fresh run that is lent a list of a wrong length.
+pub fn is_refused_by_length(r: kept::Run, list: usize, held: [f64; calls::HELD]) -> bool {
+    let due = calls::Told {
+        number: 5,
+        place: list,
+    };
+    is_refused(r, list, held, due)
+}
+
+// The same of the settings and the axis record that others wrote to, where they are to be refused.
+fn refused_beside(q: asks::Ask, r: kept::Run, held: [f64; calls::HELD]) -> bool {
+    if (q.flaw < asks::SPOILT) | (asks::TWO_SETTINGS < q.flaw) {
+        return true;
+    }
+    let set = r.set;
+    let none = calls::Told {
+        number: 0,
+        place: 0,
+    };
+    let due = expected_spoilt(q, set, none);
+    is_refused(spoilt(q, r), asks::NO_LIST, held, due)
+}
+
 // One turn: what is asked is done on the run that is held, and a fresh run is made beside it.
 pub fn turn(q: asks::Ask, r: kept::Run, held: [f64; calls::HELD], part: &[f64]) -> Turned {
     let s = r.shape;
@@ -239,12 +411,15 @@ pub fn turn(q: asks::Ask, r: kept::Run, held: [f64; calls::HELD], part: &[f64]) 
     let w = want.verdict;
     let alone = unwritten(w, &fresh);
     let f = look(drawing::plans::starts(s, q.zone), &now, &held, &fresh);
-    let agrees = right(q, r, got, want, f) & end.clean & beside.clean & alone;
+    let refused = refused_beside(q, r, held);
+    let mut agrees = right(q, r, got, want, f) & end.clean & beside.clean & alone & refused;
     let v = got.verdict;
     let number = calls::reading(v).number;
     let mut run = r;
     if number == 0 {
-        run = got.run;
+        let made = got.run;
+        run = mended(q, made, r);
+        agrees = agrees & room_clear(made, &now);
     }
     Turned {
         run,

@@ -57,6 +57,33 @@ const MORE_LENT: usize = 30;
 
 const MORE_HELD: usize = 32;
 
+// ---- more flaws of a run that others wrote to, drawn for turns of their own, each by the refusal that it is to bring
+pub const SPOILT: usize = 40;
+
+// 6, 7: a lone setting that isn't finite, or below zero
+pub const LONE_NOT_FINITE: usize = SPOILT;
+
+pub const LONE_BELOW_ZERO: usize = 41;
+
+// 6, 7: an axis record that isn't finite, or with an a below zero
+pub const OLD_NOT_FINITE: usize = 42;
+
+pub const OLD_BELOW_ZERO: usize = 43;
+
+// 6: a lone setting below zero, and an axis record that isn't finite
+pub const TWO_SETTINGS: usize = 44;
+
+// 2: a size of 0, and a zone number of d or more
+pub const SIZE_AND_ZONE: usize = 45;
+
+// 6, of the lower zone: in the new part, and in a list of the run
+pub const TWO_NUMBERS: usize = 46;
+
+// 8, where that axis is shifted: an axis record whose shift is too far
+pub const OLD_TOO_FAR: usize = 47;
+
+pub const KINDS_SPOILT: usize = 8;
+
 pub struct Ask {
     pub kind: usize,
     pub flaw: usize,
@@ -96,7 +123,7 @@ fn kind(x: usize, flaw: usize) -> usize {
     if (flaw == BELOW_ZERO) | (flaw == TOO_FAR) {
         return AXIS;
     }
-    if (flaw == PART) | (flaw == OVERFLOW) {
+    if (flaw == PART) | (flaw == OVERFLOW) | (flaw == OLD_TOO_FAR) {
         return drawn % 2;
     }
     drawn
@@ -145,36 +172,64 @@ fn not_finite(x: usize) -> f64 {
     wrong[k]
 }
 
-// An axis record with the flaw.
-fn axis(x: usize, flaw: usize, wrong: f64) -> axes::Axis {
-    let mut a = plans::axis(x);
-    if flaw == NOT_FINITE {
+// An axis record with one of three flaws, or as it was.
+fn flawed(
+    x: axes::Axis,
+    not_finite: bool,
+    below_zero: bool,
+    too_far: bool,
+    wrong: f64,
+) -> axes::Axis {
+    let mut a = x;
+    if not_finite {
         a.b = wrong;
     }
-    if flaw == BELOW_ZERO {
+    if below_zero {
         a.a = -0.25;
     }
-    if flaw == TOO_FAR {
+    if too_far {
         a.b = 1e12;
         a.xmax = a.xmin + 0.5;
     }
     a
 }
 
+// A new axis record with the flaw.
+fn axis(x: usize, flaw: usize, wrong: f64) -> axes::Axis {
+    let not_finite = (flaw == NOT_FINITE) | (flaw == TWO_NUMBERS);
+    flawed(
+        plans::axis(x),
+        not_finite,
+        flaw == BELOW_ZERO,
+        flaw == TOO_FAR,
+        wrong,
+    )
+}
+
 // What the next turn asks.
 pub fn drawn(seed: usize, s: shape::Shape) -> Ask {
+    asked(seed, s, flaw(chance::next(seed), s.d))
+}
+
+// What the next turn asks on a run that others wrote to.
+pub fn drawn_spoilt(seed: usize, s: shape::Shape) -> Ask {
+    let k = chance::below(chance::next(seed), KINDS_SPOILT);
+    asked(seed, s, SPOILT + k)
+}
+
+// A request with a flaw, or NONE.
+fn asked(seed: usize, s: shape::Shape, flaw: usize) -> Ask {
     let d = s.d;
     let x = chance::next(seed);
     let y = chance::next(x);
     let next = chance::next(y);
-    let flaw = flaw(x, d);
     let kind = kind(x / 64, flaw);
-    let spoilt = list(flaw == HELD, x / 256, 5, d);
+    let spoilt = list((flaw == HELD) | (flaw == TWO_NUMBERS), x / 256, 5, d);
     let bond = (flaw <= RANK_ABOVE) | (spoilt == CARRIES);
     let mut zone = chance::below(y, d);
     let length = length(s, zone, kind, flaw);
     let wrong = not_finite(y / 16);
-    if flaw == ZONE {
+    if (flaw == ZONE) | (flaw == SIZE_AND_ZONE) {
         zone = std::num::wrapping_add_usize(d, y % 3);
     }
     Ask {
@@ -215,7 +270,45 @@ pub fn write_part(q: Ask, part: &mut [f64]) {
     let x = q.seed ^ 0x5851_f42d_4c95_7f2d;
     let by = scale(x, q.flaw, q.kind);
     chance::fill(x, by, part);
-    if q.flaw == NOT_FINITE {
+    if (q.flaw == NOT_FINITE) | (q.flaw == TWO_NUMBERS) {
         super::parts::exchanged(part, chance::below(x, q.length), q.wrong);
     }
+}
+
+// ---- the record as others wrote to it
+// One lone setting: tau, eps, or c where it isn't finite.
+pub fn spoilt_settings(q: Ask, set: stepping::Settings) -> stepping::Settings {
+    let mut t = set;
+    let k = chance::below(q.seed, 3);
+    if q.flaw == LONE_NOT_FINITE {
+        if k == 0 {
+            t.tau = q.wrong;
+        }
+        if k == 1 {
+            t.c = q.wrong;
+        }
+        if k == 2 {
+            t.eps = q.wrong;
+        }
+    }
+    if (q.flaw == LONE_BELOW_ZERO) | (q.flaw == TWO_SETTINGS) {
+        if k == 0 {
+            t.tau = -0.5;
+        } else {
+            t.eps = -0.5;
+        }
+    }
+    t
+}
+
+// The axis record of the zone that others wrote to.
+pub fn spoilt_axis(q: Ask, x: axes::Axis) -> axes::Axis {
+    let not_finite = (q.flaw == OLD_NOT_FINITE) | (q.flaw == TWO_SETTINGS);
+    flawed(
+        x,
+        not_finite,
+        q.flaw == OLD_BELOW_ZERO,
+        q.flaw == OLD_TOO_FAR,
+        q.wrong,
+    )
 }

@@ -2,10 +2,8 @@
 ghost use mathlib.Core.Path.{_≡_};
 ghost use lib.ListN.{length};
 
-// What stands in an output or in scratch before a call, and its bits.
+// What stands in an output or in scratch before a call.
 const MARK: f64 = 7.5;
-
-pub const MARK_BITS: usize = 0x401e_0000_0000_0000;
 
 const ROOM: usize = 32768;
 
@@ -94,8 +92,15 @@ pub fn verdict(v: answers::Verdict) -> bool {
     }
 }
 
-// Whether the n numbers that follow, by their bits, are at the front of a list, and `rest` behind them.
-pub fn holds(list: &[f64], n: usize, rest: usize) -> bool {
+// Whether a number has the bits that follow.
+pub fn is_next(x: f64) -> bool {
+    digits::pattern(x) == word() as u64
+}
+
+// Whether a list holds what follows: how many numbers stand at its front, what stands behind them, then each by its bits.
+pub fn holds(list: &[f64]) -> bool {
+    let n = word();
+    let rest = word();
     let mut all = n <= list.len();
     let mut i = 0;
     while i < list.len() {
@@ -105,18 +110,9 @@ pub fn holds(list: &[f64], n: usize, rest: usize) -> bool {
     all
 }
 
-// Whether scratch is unwritten after a call that a check refused, and +0 after any other.
-pub fn scratch_left(v: answers::Verdict, scratch: &[f64]) -> bool {
-    if let answers::Verdict::Refused(r) = v {
-        if answers::number(r) <= 8 {
-            return holds(scratch, 0, MARK_BITS);
-        }
-    }
-    holds(scratch, 0, 0)
-}
-
-// Whether the n counts that follow are the first of an array, and 0 behind them.
-pub fn counts(list: [usize; shape::MOST_AXES], n: usize) -> bool {
+// Whether the counts that follow, how many and each, are the first of an array, and 0 behind them.
+pub fn counts(list: [usize; shape::MOST_AXES]) -> bool {
+    let n = word();
     let mut all = true;
     let mut k = 0;
     while k < shape::MOST_AXES {
@@ -126,8 +122,9 @@ pub fn counts(list: [usize; shape::MOST_AXES], n: usize) -> bool {
     all
 }
 
-// The same of flags, 1 and 0.
-pub fn flags(list: [bool; shape::MOST_AXES], n: usize) -> bool {
+// Whether the flags that follow, 1 and 0, are the first of an array, and none is set behind them.
+pub fn flags(list: [bool; shape::MOST_AXES]) -> bool {
+    let n = word();
     let mut all = true;
     let mut k = 0;
     while k < shape::MOST_AXES {
@@ -137,20 +134,23 @@ pub fn flags(list: [bool; shape::MOST_AXES], n: usize) -> bool {
     all
 }
 
-// Whether a shape is the one that follows, and 0 in the places behind.
+// Whether a shape is the one that follows: d, then the three arrays as counts.
 pub fn shape_is(s: shape::Shape) -> bool {
-    let d = word();
     let left = s.left;
     let n = s.n;
     let right = s.right;
-    let lefts = counts(left, d);
-    let points = counts(n, d);
-    let rights = counts(right, d);
+    let d = word();
+    let lefts = counts(left);
+    let points = counts(n);
+    let rights = counts(right);
     (s.d == d) & lefts & points & rights
 }
 
-// A number as a line of standard output.
-pub fn print(n: usize) {
-    io::print_decimal(libc::STDOUT_FILENO, n as u64);
-    io::write_all(libc::STDOUT_FILENO, &[b'\n']);
+// A line of standard output: words, how many cases there are, and how many agree.
+pub fn print(words: &[u8], cases: usize, good: usize) {
+    io::write_all(libc::STDOUT_FILENO, words);
+    io::print_decimal(libc::STDOUT_FILENO, cases as u64);
+    io::write_all(libc::STDOUT_FILENO, b" agree ");
+    io::print_decimal(libc::STDOUT_FILENO, good as u64);
+    io::write_all(libc::STDOUT_FILENO, b"\n");
 }

@@ -53,7 +53,7 @@ fn reads() -> bool {
     let shape = r.shape;
     let told = replay::verdict(verdict);
     let shaped = replay::shape_is(shape);
-    told & shaped & replay::holds(out, replay::word(), 0)
+    told & shaped & replay::holds(out)
 }
 
 // Writing: shape, chain, the length of the output, then the verdict, and what the output holds at the end.

@@ -1,6 +1,6 @@
 // Inner products.
 
-// One case: shape, chain, weights, then the verdict and the figure, of which a zero agrees with a zero of either sign.
+// One case: shape, chain, weights, then the verdict and the figure, down to the sign of a zero.
 pub fn agrees() -> bool {
     let mut a = replay::room();
     let mut b = replay::room();
@@ -10,5 +10,5 @@ pub fn agrees() -> bool {
     let figure = product::inner_separable(s, chain, weights);
     let verdict = figure.verdict;
     let told = replay::verdict(verdict);
-    told & (figure.value == replay::number())
+    told & replay::is_next(figure.value)
 }

@@ -7,24 +7,15 @@ fn sizes() -> pair::Sizes {
     pair::Sizes { rl, n, rr }
 }
 
-// What stands in an output behind the numbers that a case says: +0, and what was there before where the call was refused.
-fn behind(v: answers::Verdict) -> usize {
-    match v {
-        answers::Verdict::Fits => 0,
-        answers::Verdict::Refused(_) => replay::MARK_BITS,
-    }
-}
-
 // The verdict, the rank, the passes, both cores, and scratch.
 fn ended(w: splitting::Paired, lefts: &[f64], rights: &[f64], scratch: &[f64]) -> bool {
     let verdict = w.verdict;
     let told = replay::verdict(verdict);
     let rank = w.rank == replay::word();
     let passes = w.passes == replay::word();
-    let rest = behind(verdict);
-    let left = replay::holds(lefts, replay::word(), rest);
-    let right = replay::holds(rights, replay::word(), rest);
-    let clear = replay::scratch_left(verdict, scratch);
+    let left = replay::holds(lefts);
+    let right = replay::holds(rights);
+    let clear = replay::holds(scratch);
     told & rank & passes & left & right & clear
 }
 

@@ -8,10 +8,10 @@ pub fn ended(r: rounding::Rounded, chain: &[f64], scratch: &[f64]) -> bool {
     let settled = r.settled;
     let told = replay::verdict(verdict);
     let shaped = replay::shape_is(shape);
-    let made = replay::counts(sweeps, replay::word());
-    let small = replay::flags(settled, replay::word());
-    let entries = replay::holds(chain, replay::word(), 0);
-    let left = replay::scratch_left(verdict, scratch);
+    let made = replay::counts(sweeps);
+    let small = replay::flags(settled);
+    let entries = replay::holds(chain);
+    let left = replay::holds(scratch);
     told & shaped & made & small & entries & left
 }
 

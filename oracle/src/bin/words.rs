@@ -1,12 +1,13 @@
-//! Turns lines of cases into the words that the program `replays` reads: how many cases, then of each all its numbers in
-//! order, a float by its bits, and before what is answered the number and the place of its refusal, 0 and 0 where there is
-//! none. A shape is how many cores it has, then the left ranks of all, their sizes, their right ranks. A word is eight bytes,
-//! the lowest first.
+//! Turns lines of cases into the words that the program `replays` reads: how many cases, then of each what is given and what is
+//! answered, a float by its bits. `words wrong` writes, in place of each line, one case for every word that its answer has,
+//! with that word made wrong. README.md has the order of the words. A word is eight bytes, the lowest first.
 use std::io::{BufWriter, Read, Write};
 
-fn word(out: &mut Vec<u8>, w: u64) {
-    out.extend_from_slice(&w.to_le_bytes());
-}
+/// The bits of what stands in an output or in scratch before a call: 7.5.
+const MARK: u64 = 0x401e_0000_0000_0000;
+
+/// As many places as an array of a shape or of counts has.
+const PLACES: usize = 16;
 
 /// 16 hex digits are a float's bits, fewer digits a count; a name stands for nothing.
 fn number(text: &str) -> Option<u64> {
@@ -17,134 +18,272 @@ fn number(text: &str) -> Option<u64> {
     }
 }
 
-fn numbers(out: &mut Vec<u8>, words: &[&str]) {
-    words.iter().filter_map(|w| number(w)).for_each(|w| word(out, w));
+fn numbers(words: &[&str]) -> Vec<u64> {
+    words.iter().filter_map(|w| number(w)).collect()
 }
 
-/// How many cores a shape has, the three sizes of each, and the words behind it.
-fn sized<'a>(words: &'a [&'a str]) -> (u64, Vec<[u64; 3]>, &'a [&'a str]) {
-    let cores = number(words[1]).expect("a number of cores");
-    let sizes: Vec<u64> = words[2..].iter().map_while(|w| number(w)).collect();
-    let each = sizes.chunks(3).map(|c| [c[0], c[1], c[2]]).collect();
-    (cores, each, &words[2 + sizes.len()..])
+/// The numbers that follow a name, up to the next; none where the line hasn't got it.
+fn named(words: &[&str], name: &str) -> Option<Vec<u64>> {
+    let at = words.iter().position(|w| *w == name)?;
+    Some(words[at + 1..].iter().map_while(|w| number(w)).collect())
 }
 
-fn shape(out: &mut Vec<u8>, cores: u64, sizes: &[[u64; 3]]) {
-    word(out, cores);
-    for i in 0..3 {
-        sizes.iter().for_each(|s| word(out, s[i]));
+/// The same of a list, without how many it has.
+fn list(words: &[&str], name: &str) -> Option<Vec<u64>> {
+    named(words, name).map(|all| all[1..].to_vec())
+}
+
+// ---- what is given
+/// How many cores, and the left ranks, sizes and right ranks of all that the line has.
+struct Shape(u64, [Vec<u64>; 3]);
+
+fn shape(given: &[&str]) -> Shape {
+    let all = named(given, "shape").expect("a shape");
+    let side = |i: usize| all[1..].iter().skip(i).step_by(3).copied().collect();
+    Shape(all[0], [0, 1, 2].map(side))
+}
+
+impl Shape {
+    fn words(&self) -> Vec<u64> {
+        [vec![self.0], self.1.concat()].concat()
     }
 }
 
-/// The chain of a line: how many numbers, and each.
-fn chain<'a>(words: &'a [&'a str]) -> &'a [&'a str] {
-    let at = words.iter().position(|w| *w == "chain").expect("a chain") + 1;
-    &words[at..=at + number(words[at]).expect("a length") as usize]
+/// All that stands behind the shape, with its lengths; `left`, `right`, `axes` and others are names for the reader alone.
+fn rest(given: &[&str]) -> Vec<u64> {
+    let words: Vec<&str> = given[1..]
+        .iter()
+        .skip_while(|w| number(w).is_some())
+        .copied()
+        .collect();
+    numbers(&words)
 }
 
-/// A pair as it is lent: the sizes of both cores, eps, each core's numbers, and the lengths of both outputs and scratch. A line
-/// of the oracle has one chain and says nothing of the lengths, which then are those that the call asks for.
-fn pair(out: &mut Vec<u8>, words: &[&str]) {
-    let all: Vec<u64> = words.iter().filter_map(|w| number(w)).collect();
-    let (sizes, rest) = all[1..].split_at(6);
-    sizes.iter().chain(&rest[..1]).for_each(|w| word(out, *w));
-    if !words.contains(&"chain") {
-        rest[1..].iter().for_each(|w| word(out, *w));
+/// The length of scratch: as the call asks for, unless the line says it or how many numbers are too few.
+fn scratch(given: &[&str]) -> u64 {
+    let asked = 4 * list(given, "chain").expect("a chain").len() as u64 + 2048;
+    let said = |name: &str| named(given, name).map(|n| n[0]);
+    said("scratch").unwrap_or(asked - said("short").unwrap_or(0))
+}
+
+/// The lengths of a pair's outputs and scratch.
+fn rooms(given: &[&str]) -> Vec<u64> {
+    let sides = shape(given).1;
+    let asked = || {
+        vec![
+            sides[0][0] * sides[1][0] * 8,
+            8 * sides[1][1] * sides[2][1],
+            20480,
+        ]
+    };
+    named(given, "room").unwrap_or_else(asked)
+}
+
+/// A pair as it is lent: the sizes of both cores, eps, each core's numbers, and the lengths. A line of the oracle has one chain.
+fn pair(given: &[&str]) -> Vec<u64> {
+    let sizes = &named(given, "shape").expect("a shape")[1..];
+    let eps = named(given, "eps").expect("eps");
+    let cores = match list(given, "chain") {
+        Some(chain) => {
+            let (left, right) = chain.split_at((sizes[0] * sizes[1] * sizes[2]) as usize);
+            [left.to_vec(), right.to_vec()]
+        }
+        None => ["left", "right"].map(|name| list(given, name).expect("a core")),
+    };
+    let counted = cores
+        .iter()
+        .flat_map(|c| [vec![c.len() as u64], c.clone()].concat());
+    [sizes.to_vec(), eps, counted.collect(), rooms(given)].concat()
+}
+
+/// How many numbers a start's chain is lent.
+fn start_room(given: &[&str]) -> u64 {
+    let asked = || list(given, "vectors").expect("vectors").len() as u64;
+    named(given, "room").map_or_else(asked, |n| n[0])
+}
+
+fn given_words(kind: &str, given: &[&str]) -> Vec<u64> {
+    let told = |w: &&str| matches!(*w, "scratch" | "short" | "room");
+    let end = given.iter().position(told).unwrap_or(given.len());
+    let all = [shape(given).words(), rest(&given[..end])].concat();
+    match kind {
+        "pair" => pair(given),
+        "inner" => all,
+        "entry" => [shape(given).words(), entry(given)].concat(),
+        "start" => [all, vec![start_room(given)]].concat(),
+        "round" => [all, vec![scratch(given)]].concat(),
+        "evolve" => [vec![1], all, vec![scratch(given)]].concat(),
+        _ => [vec![0], all, vec![0, scratch(given)]].concat(),
+    }
+}
+
+/// The chain, and where in it: core, left index, point, right index.
+fn entry(given: &[&str]) -> Vec<u64> {
+    let chain = list(given, "chain").expect("a chain");
+    let at = list(given, "at").expect("four indices");
+    [vec![chain.len() as u64], chain, at].concat()
+}
+
+// ---- what is answered
+/// The words of an answer, and where it can be made wrong.
+#[derive(Default)]
+struct Answer {
+    words: Vec<u64>,
+    /// each word that isn't a length
+    values: Vec<usize>,
+    /// where the length of a list stands that has room for more, and where the list ends
+    lists: Vec<(usize, usize)>,
+}
+
+impl Answer {
+    fn value(&mut self, w: u64) {
+        self.values.push(self.words.len());
+        self.words.push(w);
+    }
+
+    /// The counts at the front of an array; 0 stands behind them.
+    fn counts(&mut self, each: &[u64]) {
+        let at = self.words.len();
+        self.words.push(each.len() as u64);
+        each.iter().for_each(|w| self.value(*w));
+        if each.len() < PLACES {
+            self.lists.push((at, self.words.len()));
+        }
+    }
+
+    fn shape(&mut self, s: &Shape) {
+        self.value(s.0);
+        s.1.iter().for_each(|side| self.counts(side));
+    }
+
+    /// The numbers at the front of a slice of that length, and what stands behind each.
+    fn held(&mut self, front: &[u64], length: u64, behind: u64) {
+        self.words.push(front.len() as u64);
+        if (front.len() as u64) < length {
+            self.value(behind);
+        } else {
+            self.words.push(behind);
+        }
+        front.iter().for_each(|w| self.value(*w));
+    }
+
+    /// Every value turned in its lowest bit, and every list with one number more, each in an answer of its own.
+    fn wrong(&self) -> Vec<Vec<u64>> {
+        let turned = self.values.iter().map(|at| {
+            let mut words = self.words.clone();
+            words[*at] ^= 1;
+            words
+        });
+        let longer = self.lists.iter().map(|(at, end)| {
+            let mut words = self.words.clone();
+            words[*at] += 1;
+            words.insert(*end, 1);
+            words
+        });
+        turned.chain(longer).collect()
+    }
+}
+
+/// A refusal's number and place, or 0 and 0.
+fn refusal(words: &[&str]) -> [u64; 2] {
+    let told = |i: usize| number(words[i]).expect("a number");
+    match words[0] {
+        "nonfinite" => [9, told(1)],
+        "far" => [8, told(1)],
+        "wide" => [10, 0],
+        "refused" => [told(1), told(2)],
+        _ => [0, 0],
+    }
+}
+
+/// The shape, the counts, the flags, and the chain; a refused call has no counts, and leaves shape and chain as given.
+fn rounded(a: &mut Answer, given: &[&str], words: &[&str], refused: bool) {
+    let mut s = shape(given);
+    let chain = list(given, "chain").expect("a chain");
+    let length = chain.len() as u64;
+    if refused {
+        a.shape(&s);
+        a.counts(&[]);
+        a.counts(&[]);
+        a.held(&chain, length, 0);
         return;
     }
-    let (rows, columns) = (sizes[0] * sizes[1], sizes[4] * sizes[5]);
-    let (left, right) = rest[2..].split_at((rows * sizes[2]) as usize);
-    for core in [left, right] {
-        word(out, core.len() as u64);
-        core.iter().for_each(|w| word(out, *w));
-    }
-    [rows * 8, 8 * columns, 20480].iter().for_each(|w| word(out, *w));
+    let ranks = list(words, "ranks").expect("ranks");
+    s.1[0][1..].copy_from_slice(&ranks[..ranks.len() - 1]);
+    s.1[2] = ranks;
+    a.shape(&s);
+    a.counts(&list(words, "sweeps").expect("sweeps"));
+    a.counts(&list(words, "settled").expect("flags"));
+    a.held(&list(words, "chain").expect("a chain"), length, 0);
 }
 
-/// A rounding, a step or an evolve: of the last two which it is, 0 or 1, then what is given, 0 steps for a step, and the length
-/// of scratch. It is what the call asks for, unless the line says it or how many numbers are too few.
-fn chained(out: &mut Vec<u8>, kind: &str, words: &[&str]) {
-    if kind != "round" {
-        word(out, (kind == "evolve") as u64);
+/// The shape, with every rank 1 in all places, and the chain; a refused start leaves both.
+fn started(a: &mut Answer, given: &[&str], words: &[&str], refused: bool) {
+    let mut s = shape(given);
+    let room = start_room(given);
+    if refused {
+        a.shape(&s);
+        return a.held(&[], room, MARK);
     }
-    let (cores, sizes, rest) = sized(words);
-    shape(out, cores, &sizes);
-    let told = |w: &&str| matches!(*w, "scratch" | "short");
-    let end = rest.iter().position(told).unwrap_or(rest.len());
-    numbers(out, &rest[..end]);
-    if matches!(kind, "step" | "edge") {
-        word(out, 0);
-    }
-    let asked = 4 * (chain(rest).len() as u64 - 1) + 2048;
-    let said = || number(rest[end + 1]).expect("a length");
-    let length = match rest.get(end) {
-        None => asked,
-        Some(&"scratch") => said(),
-        Some(_) => asked - said(),
-    };
-    word(out, length);
+    s.1[0] = vec![1; PLACES];
+    s.1[2] = vec![1; PLACES];
+    a.shape(&s);
+    a.held(&list(words, "chain").expect("a chain"), room, 0);
 }
 
-/// What one of the three answers: shape, counts, flags and chain. A refused one has no counts, and leaves the others as given.
-fn rounded(out: &mut Vec<u8>, given: &[&str], answered: Option<&[&str]>) {
-    let (cores, mut sizes, rest) = sized(given);
-    let Some(words) = answered else {
-        shape(out, cores, &sizes);
-        [0, 0].iter().for_each(|w| word(out, *w));
-        return numbers(out, chain(rest));
-    };
-    let ranks: Vec<u64> = words[2..].iter().map_while(|w| number(w)).collect();
-    for (k, right) in ranks.iter().enumerate() {
-        sizes[k][0] = if k == 0 { 1 } else { ranks[k - 1] };
-        sizes[k][2] = *right;
+/// Rank, passes and both outputs, which a refused pair leaves.
+fn paired(a: &mut Answer, given: &[&str], words: &[&str], refused: bool) {
+    let behind = if refused { MARK } else { 0 };
+    for name in ["rank", "passes"] {
+        a.value(named(words, name).map_or(0, |n| n[0]));
     }
-    shape(out, ranks.len() as u64, &sizes);
-    numbers(out, &words[2 + ranks.len()..]);
+    for (name, length) in ["left", "right"].iter().zip(rooms(given)) {
+        a.held(&list(words, name).unwrap_or_default(), length, behind);
+    }
 }
 
-/// What is answered: a refusal's number and place, or 0 and 0, then the values. Refused, the figure of an inner product is 0, and
-/// so are the rank, the passes and the lengths of a pair, whose outputs are unwritten.
-fn answer(out: &mut Vec<u8>, kind: &str, given: &[&str], words: &[&str]) {
-    let place = || number(words[1]).expect("a place");
-    let (number, place) = match words[0] {
-        "nonfinite" => (9, place()),
-        "far" => (8, place()),
-        "wide" => (10, 0),
-        "refused" => (place(), number(words[2]).expect("a place")),
-        _ => (0, 0),
-    };
-    word(out, number);
-    word(out, place);
-    let accepted = number == 0;
+fn answer(kind: &str, given: &[&str], words: &[&str]) -> Answer {
+    let mut a = Answer::default();
+    if kind == "entry" {
+        let value = named(words, "value");
+        a.value(value.is_some() as u64);
+        a.value(value.map_or(0, |v| v[0]));
+        return a;
+    }
+    let told = refusal(words);
+    told.iter().for_each(|w| a.value(*w));
+    let refused = told[0] != 0;
     match kind {
-        "inner" if !accepted => word(out, 0),
-        "pair" if !accepted => [0; 4].iter().for_each(|w| word(out, *w)),
-        "inner" | "pair" => numbers(out, words),
-        _ => rounded(out, given, accepted.then_some(words)),
+        "inner" => a.value(named(words, "figure").map_or(0, |f| f[0])),
+        "start" => started(&mut a, given, words, refused),
+        "pair" => paired(&mut a, given, words, refused),
+        _ => rounded(&mut a, given, words, refused),
     }
+    if !matches!(kind, "inner" | "start") {
+        let unwritten = (1..=8).contains(&told[0]);
+        a.held(&[], u64::MAX, if unwritten { MARK } else { 0 });
+    }
+    a
 }
 
 fn main() {
+    let wrong = std::env::args().any(|word| word == "wrong");
     let mut text = String::new();
-    std::io::stdin().read_to_string(&mut text).expect("lines of cases");
-    let mut out = Vec::new();
-    word(&mut out, text.lines().count() as u64);
+    std::io::stdin()
+        .read_to_string(&mut text)
+        .expect("lines of cases");
+    let mut cases = Vec::new();
     for line in text.lines() {
         let words: Vec<&str> = line.split_whitespace().collect();
         let end = words.iter().position(|w| *w == "=").expect("an answer");
-        let given = &words[2..end];
-        match words[0] {
-            "pair" => pair(&mut out, given),
-            "inner" => {
-                let (cores, sizes, rest) = sized(given);
-                shape(&mut out, cores, &sizes);
-                numbers(&mut out, rest);
-            }
-            kind => chained(&mut out, kind, given),
-        }
-        answer(&mut out, words[0], given, &words[end + 1..]);
+        let given = given_words(words[0], &words[2..end]);
+        let a = answer(words[0], &words[2..end], &words[end + 1..]);
+        let answers = if wrong { a.wrong() } else { vec![a.words] };
+        cases.extend(answers.into_iter().map(|a| [given.clone(), a].concat()));
     }
+    let all = [vec![cases.len() as u64], cases.concat()].concat();
+    let bytes: Vec<u8> = all.iter().flat_map(|w| w.to_le_bytes()).collect();
     BufWriter::new(std::io::stdout().lock())
-        .write_all(&out)
+        .write_all(&bytes)
         .expect("words written");
 }

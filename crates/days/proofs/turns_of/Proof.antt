@@ -7,10 +7,10 @@ use Rattle.days.proofs.turns_of.Statement.{statement}
 use Rattle.days.proofs.turns_of.Tie as tie
 
 abbrev Inv-loop : tie.InvT-loop
-Inv-loop seed part₀ x₀ run₀ held₀ tally₀ i₀ part x run held tally i = length part ≡ 1025
+Inv-loop seed count from part₀ x₀ run₀ held₀ tally₀ i₀ part x run held tally i = length part ≡ 1025
 
 abbrev μ-loop : tie.MeasureT-loop
-μ-loop seed part₀ x₀ run₀ held₀ tally₀ i₀ part x run held tally i = 1000 - i
+μ-loop seed count from part₀ x₀ run₀ held₀ tally₀ i₀ part x run held tally i = count - i
 
 pub turns-of-spec : {M : Type 1} → statement M
 turns-of-spec = tie.close (tie.spec

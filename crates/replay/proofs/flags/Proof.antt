@@ -6,15 +6,16 @@ use Rattle.replay.proofs.flags.Statement.{statement}
 use Rattle.replay.proofs.flags.Tie as tie
 
 abbrev Inv-loop : tie.InvT-loop
-Inv-loop n list all₀ k₀ all k = k ≤ mostAxes
+Inv-loop list n all₀ k₀ all k = k ≤ mostAxes
 
 abbrev μ-loop : tie.MeasureT-loop
-μ-loop n list all₀ k₀ all k = mostAxes - k
+μ-loop list n all₀ k₀ all k = mostAxes - k
 
 pub flags-spec : {M : Type 1} → statement M
 flags-spec = tie.close (tie.spec
     Inv-loop
     μ-loop
+    (λ c κs. search needs)
     (λ c. search needs)
     (λ c. search needs)
     (λ c κs. search needs)

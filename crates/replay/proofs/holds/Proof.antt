@@ -15,6 +15,8 @@ pub holds-spec : {M : Type 1} → statement M
 holds-spec = tie.close (tie.spec
     Inv-loop
     μ-loop
+    (λ c κs. search needs)
+    (λ c κs. search needs)
     (λ c. search needs)
     (λ c. search needs)
     (λ c. search needs)

@@ -1,0 +1,68 @@
+//! Cases that are given by hand, as lines without an answer; the Rust's own is put behind each.
+use crate::kinds;
+use crate::line::Line;
+use crate::tt_core::TtCore;
+
+/// The words of a line behind a name.
+fn behind<'a>(words: &'a [&'a str], name: &str) -> &'a [&'a str] {
+    let at = words.iter().position(|w| *w == name);
+    &words[at.expect("all names of the kind") + 1..]
+}
+
+fn count(word: &str) -> usize {
+    word.parse().expect("a count")
+}
+
+fn float(word: &str) -> f64 {
+    f64::from_bits(u64::from_str_radix(word, 16).expect("the bits of a float"))
+}
+
+/// How many, and each.
+fn floats(words: &[&str], name: &str) -> Vec<f64> {
+    let list = behind(words, name);
+    list[1..=count(list[0])].iter().map(|w| float(w)).collect()
+}
+
+fn cores(words: &[&str]) -> Vec<TtCore<f64>> {
+    let shape = behind(words, "shape");
+    let mut numbers = floats(words, "chain").into_iter();
+    shape[1..=3 * count(shape[0])]
+        .chunks(3)
+        .map(|sizes| {
+            let [r_left, n, r_right] = [0, 1, 2].map(|i| count(sizes[i]));
+            let data = numbers.by_ref().take(r_left * n * r_right).collect();
+            TtCore {
+                r_left,
+                n,
+                r_right,
+                data,
+            }
+        })
+        .collect()
+}
+
+/// One list an axis.
+fn weights(words: &[&str], cores: &[TtCore<f64>]) -> Vec<Vec<f64>> {
+    let mut numbers = floats(words, "weights").into_iter();
+    cores
+        .iter()
+        .map(|c| numbers.by_ref().take(c.n).collect())
+        .collect()
+}
+
+pub fn answered(text: &str) -> Line {
+    let words: Vec<&str> = text.split_whitespace().collect();
+    let cores = cores(&words);
+    let eps = || float(behind(&words, "eps")[0]);
+    let mut line = Line::of_text(text);
+    match words[0] {
+        "round" => kinds::rounded(&mut line, cores, eps()),
+        "pair" => kinds::split(&mut line, cores, eps()),
+        "inner" => {
+            let weights = weights(&words, &cores);
+            kinds::summed(&mut line, cores, &weights);
+        }
+        kind => panic!("no case of {kind} can be given"),
+    }
+    line
+}
