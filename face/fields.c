@@ -400,6 +400,18 @@ static void replacements(void)
     expect_replaced("answer of replace_axis");
 }
 
+/* New weights only look for numbers that aren't finite in the source and in the carries: here in zone 5 and at bond 1. */
+static void numbers_that_new_weights_look_at(void)
+{
+    const size_t lengths[] = {NUMBERS, POINTS, NUMBERS, CARRIES, SUMS, LAST_POINTS, UYAVSKER_SCRATCH(NUMBERS)};
+    give_written_run();
+    lent.source[1306] = NAN;
+    expect_refusal(new_weights(lengths), UYAVSKER_NUMBER, 5, "source of replace_weights");
+    give_written_run();
+    lent.carries[4] = NAN;
+    expect_refusal(new_weights(lengths), UYAVSKER_NUMBER, 1, "carries of replace_weights");
+}
+
 /* A run of the scope's chain D, whose source and chain, weights and sums, carries and new core are of one length. Nothing moves. */
 static void slices_of_one_length(void)
 {
@@ -549,6 +561,7 @@ int main(void)
     roundings();
     fresh_runs();
     replacements();
+    numbers_that_new_weights_look_at();
     slices_of_one_length();
     pairs();
     pairs_of_one_length();
