@@ -86,7 +86,7 @@ fn assert_rounded(rounded: &Rounded, lent: (&[f64], &[f64]), times: usize, entry
 fn a_rounding() {
     let shape = shape(source_rank);
     let (mut chain, mut scratch) = (source(), counting(shape.scratch(), 5e5));
-    let mut round = |x: &mut [f64], s: &mut [f64]| tt_round(&shape, SETTINGS.eps, x, s);
+    let round = |x: &mut [f64], s: &mut [f64]| tt_round(&shape, SETTINGS.eps, x, s);
     assert_eq!(round(&mut chain[1..], &mut scratch), refused(5, 0));
     assert_eq!(round(&mut chain, &mut scratch[1..]), refused(5, 1));
     let rounded = round(&mut chain, &mut scratch).unwrap();
@@ -98,7 +98,7 @@ fn a_step() {
     let shape = shape(source_rank);
     let (mut chain, mut scratch) = (source(), counting(shape.scratch(), 5e5));
     let records = axes();
-    let mut made = |r: &[Axis], x: &mut [f64], s: &mut [f64]| step(&shape, &SETTINGS, r, x, s);
+    let made = |r: &[Axis], x: &mut [f64], s: &mut [f64]| step(&shape, &SETTINGS, r, x, s);
     assert_eq!(made(&records[1..], &mut chain, &mut scratch), refused(5, 0));
     assert_eq!(made(&records, &mut chain[1..], &mut scratch), refused(5, 1));
     assert_eq!(made(&records, &mut chain, &mut scratch[1..]), refused(5, 2));
@@ -117,7 +117,7 @@ fn a_course() {
         c: SETTINGS.c,
         eps: SETTINGS.eps,
     };
-    let mut made = |r: &[Axis], x: &mut [f64], s: &mut [f64]| evolve(&shape, &course, r, x, s);
+    let made = |r: &[Axis], x: &mut [f64], s: &mut [f64]| evolve(&shape, &course, r, x, s);
     assert_eq!(made(&records[1..], &mut chain, &mut scratch), refused(5, 0));
     assert_eq!(made(&records, &mut chain[1..], &mut scratch), refused(5, 1));
     assert_eq!(made(&records, &mut chain, &mut scratch[1..]), refused(5, 2));
