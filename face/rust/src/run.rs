@@ -133,6 +133,16 @@ impl Run {
         &self.kept.chain
     }
 
+    /// The carry of each bond, in a slot of its source's rank times as much.
+    pub fn carries(&self) -> &[f64] {
+        &self.kept.carries
+    }
+
+    /// The partial sums of each axis, in a slot of its source's right rank.
+    pub fn sums(&self) -> &[f64] {
+        &self.kept.sums
+    }
+
     /// The rank that each bond keeps.
     pub fn ranks(&self) -> &[usize] {
         self.bonds(&self.record.ranks)

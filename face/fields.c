@@ -1,0 +1,570 @@
+/* Every field of every record and every slice of every call, told by its value. What a call is given has no two places alike, and
+ * what it answers is worked out by hand: if two fields or two slices were exchanged, in the archive or in the header, a test fails. */
+#include "ladder.h"
+
+#include <math.h>
+#include <stdio.h>
+#include <string.h>
+
+static size_t failures;
+
+static void expect(bool holds, const char *what)
+{
+    if (!holds) {
+        printf("fields: %s\n", what);
+        failures++;
+    }
+}
+
+static void expect_refusal(uyavsker_refusal told, uint8_t number, size_t place, const char *what)
+{
+    expect(told.number == number && told.place == place, what);
+}
+
+static bool same(const double *a, const double *b, size_t count)
+{
+    for (size_t i = 0; i < count; i++)
+        if (a[i] != b[i])
+            return false;
+    return true;
+}
+
+static bool same_sizes(const size_t *a, const size_t *b, size_t count)
+{
+    return memcmp(a, b, count * sizeof *a) == 0;
+}
+
+static bool same_shape(const uyavsker_shape *a, const uyavsker_shape *b)
+{
+    return a->d == b->d && same_sizes(a->left, b->left, ZONES) && same_sizes(a->n, b->n, ZONES)
+        && same_sizes(a->right, b->right, ZONES);
+}
+
+static bool same_axis(const uyavsker_axis *a, const uyavsker_axis *b)
+{
+    return a->a == b->a && a->b == b->b && a->xmin == b->xmin && a->xmax == b->xmax;
+}
+
+/* ---- what is lent: the slices of a run, of which other calls take some ---- */
+
+enum { MOST_SLICES = 7 };
+
+static struct slices {
+    double source[NUMBERS], weights[POINTS], chain[NUMBERS], carries[CARRIES], sums[SUMS], part[NUMBERS];
+    double scratch[UYAVSKER_SCRATCH(NUMBERS)];
+} lent, wanted;
+
+static uyavsker_shape source, kept;
+static uyavsker_axes axes;
+
+static bool as_wanted(void)
+{
+    return same(lent.source, wanted.source, NUMBERS) && same(lent.weights, wanted.weights, POINTS)
+        && same(lent.chain, wanted.chain, NUMBERS) && same(lent.carries, wanted.carries, CARRIES)
+        && same(lent.sums, wanted.sums, SUMS) && same(lent.part, wanted.part, NUMBERS)
+        && same(lent.scratch, wanted.scratch, UYAVSKER_SCRATCH(NUMBERS));
+}
+
+static void fill(double *numbers, size_t count, double first)
+{
+    for (size_t i = 0; i < count; i++)
+        numbers[i] = first + (double)i;
+}
+
+/* A call with these lengths refuses each that is one short, by its place, and answers once all are right. */
+static void expect_lengths(uyavsker_refusal call(const size_t *lengths), const size_t *lengths, size_t count, const char *what)
+{
+    for (size_t i = 0; i < count; i++) {
+        size_t wrong[MOST_SLICES];
+        memcpy(wrong, lengths, count * sizeof *lengths);
+        wrong[i]--;
+        expect_refusal(call(wrong), UYAVSKER_LENGTH, i, what);
+    }
+    expect_refusal(call(lengths), UYAVSKER_NONE, 0, what);
+}
+
+/* ---- single numbers, shapes, entries ---- */
+
+static void single_numbers(void)
+{
+    expect(uyavsker_root(2.25) == 1.5 && uyavsker_floor(-2.25) == -3 && uyavsker_magnitude(-2.25) == 2.25, "single numbers");
+}
+
+static void shapes(void)
+{
+    uyavsker_shape large = source;
+    large.n[9] = 65;
+    expect_refusal(uyavsker_shape_check(source), UYAVSKER_NONE, 0, "shape_check");
+    expect_refusal(uyavsker_shape_check(large), UYAVSKER_SIZE, 9, "shape_check of a size");
+}
+
+/* Zone 5 has the sizes 7, 14, 3; before it stand 18 + 100 + 440 + 384 + 364 numbers. */
+static void entries(void)
+{
+    fill(lent.chain, NUMBERS, 0);
+    uyavsker_seen seen = uyavsker_entry_of(lent.chain, NUMBERS, source, 5, 6, 4, 2);
+    uyavsker_seen outside = uyavsker_entry_of(lent.chain, NUMBERS, source, 5, 6, 4, 3);
+    expect(seen.inside && seen.value == 1306 + 6 * 42 + 4 * 3 + 2, "entry_of");
+    expect(!outside.inside && outside.value == 0, "entry_of outside");
+}
+
+static uyavsker_formed formed;
+
+static uyavsker_refusal start(const size_t *lengths)
+{
+    formed = uyavsker_rank1_separable(source, lent.part, lengths[0], lent.chain, lengths[1]);
+    return formed.refusal;
+}
+
+static void starts(void)
+{
+    uyavsker_shape one = source;
+    fill(lent.part, NUMBERS, 1);
+    fill(lent.chain, NUMBERS, -NUMBERS);
+    expect_lengths(start, (size_t[]){POINTS, POINTS}, 2, "rank1_separable");
+    for (size_t k = 0; k < ZONES; k++)
+        one.left[k] = one.right[k] = 1;
+    expect(same_shape(&formed.shape, &one), "shape of rank1_separable");
+    fill(wanted.part, NUMBERS, 1);
+    expect(same(lent.part, wanted.part, NUMBERS) && same(lent.chain, wanted.part, POINTS), "slices of rank1_separable");
+    lent.part[POINTS - 1] = NAN;
+    expect_refusal(start((size_t[]){POINTS, POINTS}), UYAVSKER_NUMBER, LAST, "rank1_separable refused");
+    expect(same_shape(&formed.shape, &source), "shape of rank1_separable refused");
+}
+
+/* ---- the figure ---- */
+
+static uyavsker_shape two_zones(size_t left, size_t rank, size_t right)
+{
+    return (uyavsker_shape){.d = 2, .left = {1, rank}, .n = {left, right}, .right = {rank, 1}};
+}
+
+static void figures(void)
+{
+    const double d[] = {3, 0, 0, 4, 1, 1}, weights[] = {1, 2, 1};
+    const double first[] = {0x1p600, 0x1p-600}, second[] = {1, 0x1p600};
+    uyavsker_figure eleven = uyavsker_inner_separable(two_zones(2, 2, 1), d, 6, weights, 3);
+    uyavsker_figure refused = uyavsker_inner_separable(two_zones(2, 2, 1), d, 6, weights, 2);
+    uyavsker_figure alike = uyavsker_inner_separable(two_zones(1, 1, 1), first, 2, second, 2);
+    uyavsker_figure exchanged = uyavsker_inner_separable(two_zones(1, 1, 1), second, 2, first, 2);
+    expect_refusal(eleven.refusal, UYAVSKER_NONE, 0, "inner_separable");
+    expect_refusal(refused.refusal, UYAVSKER_LENGTH, 1, "inner_separable refused");
+    expect(eleven.value == 11 && refused.value == 0, "the figure");
+    expect(alike.refusal.number == UYAVSKER_NONE && alike.value == 0x1p600, "slices of inner_separable");
+    expect_refusal(exchanged.refusal, UYAVSKER_STORED, 1, "slices of inner_separable exchanged");
+}
+
+/* ---- what rounds a chain ---- */
+
+static uyavsker_rounded rounded;
+
+static void expect_rounded(size_t times, double entry(size_t, size_t, size_t, size_t), const char *what)
+{
+    put_cores(wanted.chain, &kept, &kept, entry);
+    memset(wanted.scratch, 0, sizeof wanted.scratch);
+    bool counts = true;
+    for (size_t k = 0; k < LAST; k++) {
+        bool all = sweeps_all(k) && (times == 1 || kept_rank(k) > 1);
+        counts = counts && rounded.sweeps[k] == (all ? 50 : 0) && rounded.settled[k] == !all;
+    }
+    expect(same_shape(&rounded.shape, &kept) && counts, what);
+    expect(same(lent.chain, wanted.chain, NUMBERS) && same(lent.scratch, wanted.scratch, UYAVSKER_SCRATCH(NUMBERS)), what);
+}
+
+static uyavsker_refusal round_ladder(const size_t *lengths)
+{
+    rounded = uyavsker_tt_round(source, ladder_settings.eps, lent.chain, lengths[0], lent.scratch, lengths[1]);
+    return rounded.refusal;
+}
+
+static uyavsker_refusal step_ladder(const size_t *lengths)
+{
+    rounded = uyavsker_step(source, ladder_settings, axes, lengths[0], lent.chain, lengths[1], lent.scratch, lengths[2]);
+    return rounded.refusal;
+}
+
+static uyavsker_refusal evolve_ladder(const size_t *lengths)
+{
+    const uyavsker_course course = {.t_final = 8, .steps = 2, .c = -0.5, .eps = 0x1p-5};
+    rounded = uyavsker_evolve(source, course, axes, lengths[0], lent.chain, lengths[1], lent.scratch, lengths[2]);
+    return rounded.refusal;
+}
+
+static void roundings(void)
+{
+    const size_t lengths[] = {ZONES, NUMBERS, UYAVSKER_SCRATCH(NUMBERS)};
+    put_cores(lent.chain, &source, &source, source_entry);
+    expect_lengths(round_ladder, lengths + 1, 2, "tt_round");
+    expect_rounded(1, source_entry, "answer of tt_round");
+    put_cores(lent.chain, &source, &source, source_entry);
+    expect_lengths(step_ladder, lengths, 3, "step");
+    expect_rounded(1, stepped_entry, "answer of step");
+    put_cores(lent.chain, &source, &source, source_entry);
+    expect_lengths(evolve_ladder, lengths, 3, "evolve");
+    expect_rounded(2, evolved_entry, "answer of evolve");
+}
+
+/* ---- kept runs ---- */
+
+static uyavsker_ran ran;
+static uyavsker_run given;
+static size_t zone;
+
+static uyavsker_refusal fresh(const size_t *n)
+{
+    ran = uyavsker_fresh_run(given.shape, axes, given.settings, lent.source, n[0], lent.weights, n[1], lent.chain, n[2], lent.carries,
+                             n[3], lent.sums, n[4], lent.scratch, n[5]);
+    return ran.refusal;
+}
+
+static uyavsker_refusal new_core(const size_t *n)
+{
+    ran = uyavsker_replace_core(given, zone, lent.source, n[0], lent.weights, n[1], lent.chain, n[2], lent.carries, n[3], lent.sums,
+                                n[4], lent.part, n[5], lent.scratch, n[6]);
+    return ran.refusal;
+}
+
+static uyavsker_refusal new_weights(const size_t *n)
+{
+    ran = uyavsker_replace_weights(given, zone, lent.source, n[0], lent.weights, n[1], lent.chain, n[2], lent.carries, n[3], lent.sums,
+                                   n[4], lent.part, n[5], lent.scratch, n[6]);
+    return ran.refusal;
+}
+
+static uyavsker_refusal new_axis(const size_t *n)
+{
+    ran = uyavsker_replace_axis(given, zone, ladder_axis(LAST, 2), lent.source, n[0], lent.weights, n[1], lent.chain, n[2],
+                                lent.carries, n[3], lent.sums, n[4], lent.scratch, n[5]);
+    return ran.refusal;
+}
+
+/* Holds the answered record to `given`, field by field. */
+static void expect_record(const char *what)
+{
+    const uyavsker_run *run = &ran.run;
+    bool alike = true;
+    for (size_t k = 0; k < ZONES; k++)
+        alike = alike && same_axis(&run->axes[k], &given.axes[k]);
+    expect(alike && same_shape(&run->shape, &given.shape), what);
+    expect(run->settings.tau == given.settings.tau && run->settings.c == given.settings.c && run->settings.eps == given.settings.eps, what);
+    expect(same_sizes(run->ranks, given.ranks, ZONES) && same_sizes(run->sweeps, given.sweeps, ZONES), what);
+    expect(memcmp(run->settled, given.settled, sizeof run->settled) == 0 && run->figure == given.figure, what);
+}
+
+/* What is given to a fresh run, and behind it what no call has written yet. */
+static void give_ladder(void)
+{
+    given = (uyavsker_run){.shape = source, .settings = ladder_settings};
+    memcpy(given.axes, axes.axis, sizeof given.axes);
+    fill(lent.chain, NUMBERS, 1e5);
+    fill(lent.carries, CARRIES, 2e5);
+    fill(lent.sums, SUMS, 3e5);
+    fill(lent.part, NUMBERS, 4e5);
+    fill(lent.scratch, UYAVSKER_SCRATCH(NUMBERS), 5e5);
+    put_cores(lent.source, &source, &source, source_entry);
+    for (size_t point = 0; point < POINTS; point++)
+        lent.weights[point] = ladder_weight(point);
+    wanted = lent;
+    memset(wanted.scratch, 0, sizeof wanted.scratch);
+}
+
+/* Every value that is kept is 1, so a carry has 1 at (j, j), in rows as long as the source's rank. */
+static void want_carries(void)
+{
+    double *carry = wanted.carries;
+    memset(carry, 0, sizeof wanted.carries);
+    for (size_t k = 0; k < LAST; k++) {
+        size_t rank = source_rank(k);
+        for (size_t j = 0; j < kept_rank(k); j++)
+            carry[j * rank + j] = 1;
+        carry += rank * rank;
+    }
+}
+
+/* The new sum at ir adds (sum[il]*core[il,im,ir])*weight[im]. */
+static double sum_at(size_t k, size_t ir, const double *before, const double *weights)
+{
+    double sum = 0;
+    for (size_t il = 0; il < kept.left[k]; il++)
+        for (size_t im = 0; im < kept.n[k]; im++)
+            sum += before[il] * stepped_entry(k, il, im, ir) * weights[im];
+    return sum;
+}
+
+static void want_sums(void)
+{
+    const double one = 1, *before = &one, *weights = wanted.weights;
+    double *sums = wanted.sums;
+    memset(sums, 0, sizeof wanted.sums);
+    for (size_t k = 0; k < ZONES; k++) {
+        for (size_t ir = 0; ir < kept.right[k]; ir++)
+            sums[ir] = sum_at(k, ir, before, weights);
+        before = sums;
+        weights += kept.n[k];
+        sums += source.right[k];
+    }
+}
+
+static void fresh_runs(void)
+{
+    give_ladder();
+    const size_t lengths[] = {NUMBERS, POINTS, NUMBERS, CARRIES, SUMS, UYAVSKER_SCRATCH(NUMBERS)};
+    expect_lengths(fresh, lengths, 6, "fresh_run");
+    put_cores(wanted.chain, &kept, &source, stepped_entry);
+    want_carries();
+    want_sums();
+    expect(as_wanted(), "slices of fresh_run");
+    for (size_t k = 0; k < LAST; k++) {
+        given.ranks[k] = kept_rank(k);
+        given.sweeps[k] = sweeps_all(k) ? 50 : 0;
+        given.settled[k] = !sweeps_all(k);
+    }
+    given.figure = wanted.sums[SUMS - 1];
+    expect_record("record of fresh_run");
+}
+
+/* A run that others wrote to, with another value in every field and slice. What a replacement of the last zone reads of it are the
+ * carry 2, 3; 5, 7 and the sums 11, 13 left of that zone. */
+static void give_written_run(void)
+{
+    give_ladder();
+    zone = LAST;
+    for (size_t k = 0; k < ZONES; k++) {
+        given.ranks[k] = kept_rank(k);
+        given.sweeps[k] = 100 + k;
+        given.settled[k] = k % 4 == 1;
+    }
+    given.figure = -7.5;
+    memcpy(lent.carries + CARRIES - 4, (double[]){2, 3, 5, 7}, 4 * sizeof(double));
+    memcpy(lent.sums + SUMS - 3, (double[]){11, 13}, 2 * sizeof(double));
+    wanted = lent;
+    memset(wanted.scratch, 0, sizeof wanted.scratch);
+}
+
+/* The last zone of these entries moved, and what the carry left of it makes of that. */
+static void want_last(double entry(size_t, size_t), size_t by)
+{
+    double *core = wanted.chain + NUMBERS - LAST_NUMBERS;
+    for (size_t im = 0; im < LAST_POINTS; im++) {
+        double first = moved(entry, 0, im, by), second = moved(entry, 1, im, by);
+        core[im] = 2 * first + 3 * second;
+        core[LAST_POINTS + im] = 5 * first + 7 * second;
+    }
+}
+
+static void want_figure(void)
+{
+    const double *core = wanted.chain + NUMBERS - LAST_NUMBERS, *weights = wanted.weights + POINTS - LAST_POINTS;
+    double figure = 0;
+    for (size_t at = 0; at < LAST_NUMBERS; at++)
+        figure += (at < LAST_POINTS ? 11 : 13) * core[at] * weights[at % LAST_POINTS];
+    wanted.sums[SUMS - 1] = figure;
+}
+
+static void expect_replaced(const char *what)
+{
+    given.figure = wanted.sums[SUMS - 1];
+    expect(as_wanted(), what);
+    expect_record(what);
+}
+
+static double part_entry(size_t il, size_t im)
+{
+    return lent.part[il * LAST_POINTS + im];
+}
+
+static void replacements(void)
+{
+    const size_t without_part[] = {NUMBERS, POINTS, NUMBERS, CARRIES, SUMS, UYAVSKER_SCRATCH(NUMBERS)};
+    const size_t with_core[] = {NUMBERS, POINTS, NUMBERS, CARRIES, SUMS, LAST_NUMBERS, UYAVSKER_SCRATCH(NUMBERS)};
+    const size_t with_weights[] = {NUMBERS, POINTS, NUMBERS, CARRIES, SUMS, LAST_POINTS, UYAVSKER_SCRATCH(NUMBERS)};
+
+    give_written_run();
+    memcpy(wanted.source + NUMBERS - LAST_NUMBERS, lent.part, LAST_NUMBERS * sizeof(double));
+    want_last(part_entry, 1);
+    want_figure();
+    expect_lengths(new_core, with_core, 7, "replace_core");
+    expect_replaced("answer of replace_core");
+
+    give_written_run();
+    memcpy(wanted.weights + POINTS - LAST_POINTS, lent.part, LAST_POINTS * sizeof(double));
+    want_figure();
+    expect_lengths(new_weights, with_weights, 7, "replace_weights");
+    expect_replaced("answer of replace_weights");
+
+    give_written_run();
+    want_last(last_entry, 2);
+    want_figure();
+    expect_lengths(new_axis, without_part, 6, "replace_axis");
+    given.axes[LAST] = ladder_axis(LAST, 2);
+    expect_replaced("answer of replace_axis");
+}
+
+/* New weights only look for numbers that aren't finite in the source and in the carries: here in zone 5 and at bond 1. */
+static void numbers_that_new_weights_look_at(void)
+{
+    const size_t lengths[] = {NUMBERS, POINTS, NUMBERS, CARRIES, SUMS, LAST_POINTS, UYAVSKER_SCRATCH(NUMBERS)};
+    give_written_run();
+    lent.source[1306] = NAN;
+    expect_refusal(new_weights(lengths), UYAVSKER_NUMBER, 5, "source of replace_weights");
+    give_written_run();
+    lent.carries[4] = NAN;
+    expect_refusal(new_weights(lengths), UYAVSKER_NUMBER, 1, "carries of replace_weights");
+}
+
+/* A run of the scope's chain D, whose source and chain, weights and sums, carries and new core are of one length. Nothing moves. */
+static void slices_of_one_length(void)
+{
+    const size_t lengths[] = {6, 3, 6, 4, 3, UYAVSKER_SCRATCH(6)};
+    const size_t with_part[] = {6, 3, 6, 4, 3, 4, UYAVSKER_SCRATCH(6)};
+    give_ladder();
+    given = (uyavsker_run){.shape = two_zones(2, 2, 1), .ranks = {2}, .settled = {true}, .figure = 11};
+    memset(&axes, 0, sizeof axes);
+    memcpy(lent.source, (double[]){3, 0, 0, 4, 1, 1}, 6 * sizeof(double));
+    memcpy(lent.weights, (double[]){1, 2, 1}, 3 * sizeof(double));
+    wanted = lent;
+    memset(wanted.scratch, 0, UYAVSKER_SCRATCH(6) * sizeof(double));
+    memcpy(wanted.chain, (double[]){0, 1, 1, 0, 4, 3}, 6 * sizeof(double));
+    memcpy(wanted.carries, (double[]){0, 4, 3, 0}, 4 * sizeof(double));
+    memcpy(wanted.sums, (double[]){2, 1, 11}, 3 * sizeof(double));
+    expect_refusal(fresh(lengths), UYAVSKER_NONE, 0, "a run of D");
+    expect_record("record of a run of D");
+    expect(as_wanted(), "slices of a run of D");
+
+    zone = 0;
+    memcpy(lent.part, (double[]){0, 6, 5, 0}, 4 * sizeof(double));
+    wanted = lent;
+    memcpy(wanted.source, (double[]){0, 6, 5, 0}, 4 * sizeof(double));
+    memcpy(wanted.chain, (double[]){1, 0, 0, 1, 6, 5}, 6 * sizeof(double));
+    memcpy(wanted.carries, (double[]){0, 6, 5, 0}, 4 * sizeof(double));
+    memcpy(wanted.sums, (double[]){1, 2, 16}, 3 * sizeof(double));
+    expect_refusal(new_core(with_part), UYAVSKER_NONE, 0, "a new core in D");
+    given.figure = 16;
+    expect_record("record of a new core in D");
+    expect(as_wanted(), "slices of a new core in D");
+}
+
+/* ---- pairs ---- */
+
+static uyavsker_paired paired;
+
+/* The slab has 32 at row 14, column 31, then 16 at row 1, column 9, then 2, which is not above 2^-4 of the largest. */
+static uyavsker_refusal split(const size_t *n)
+{
+    const uyavsker_sizes left = {.left = 2, .n = 9, .right = 3}, right = {.left = 3, .n = 10, .right = 4};
+    paired = uyavsker_contract_and_split(left, right, 0x1p-4, lent.source, n[0], lent.weights, n[1], lent.chain, n[2], lent.part, n[3],
+                                         lent.scratch, n[4]);
+    return paired.refusal;
+}
+
+static void pairs(void)
+{
+    give_ladder();
+    memset(lent.source, 0, 54 * sizeof(double));
+    memset(lent.weights, 0, 120 * sizeof(double));
+    lent.source[1 * 3 + 0] = 4;
+    lent.weights[0 * 40 + 9] = 4;
+    lent.source[14 * 3 + 1] = 2;
+    lent.weights[1 * 40 + 31] = 16;
+    lent.source[17 * 3 + 2] = 1;
+    lent.weights[2 * 40 + 36] = 2;
+    wanted = lent;
+    memset(wanted.scratch, 0, UYAVSKER_PAIR_SCRATCH * sizeof(double));
+    memset(wanted.chain, 0, 144 * sizeof(double));
+    memset(wanted.part, 0, 320 * sizeof(double));
+    wanted.chain[14 * 2 + 0] = 32;
+    wanted.part[0 * 40 + 31] = 1;
+    wanted.chain[1 * 2 + 1] = 16;
+    wanted.part[1 * 40 + 9] = 1;
+    expect_lengths(split, (size_t[]){54, 120, 144, 320, UYAVSKER_PAIR_SCRATCH}, 5, "contract_and_split");
+    expect(paired.rank == 2 && paired.passes == 1, "answer of contract_and_split");
+    expect(as_wanted(), "slices of contract_and_split");
+}
+
+/* 0, 4; 4, 0 before 1, 0; 0, 2 is 0, 8; 4, 0. The left core has the values, the right one what they stand at. */
+static void pairs_of_one_length(void)
+{
+    const uyavsker_sizes left = {.left = 1, .n = 2, .right = 2}, right = {.left = 2, .n = 2, .right = 1};
+    const double first[] = {0, 4, 4, 0}, second[] = {1, 0, 0, 2}, lefts[16] = {8, 0, 0, 4}, rights[16] = {0, 1, 1, 0};
+    paired = uyavsker_contract_and_split(left, right, 0, first, 4, second, 4, lent.chain, 16, lent.part, 16, lent.scratch,
+                                         UYAVSKER_PAIR_SCRATCH);
+    expect_refusal(paired.refusal, UYAVSKER_NONE, 0, "a pair of one length");
+    expect(same(lent.chain, lefts, 16) && same(lent.part, rights, 16), "slices of a pair of one length");
+}
+
+/* ---- chain files ---- */
+
+enum { BODIES = 8 + 12 * ZONES, FILE_BYTES = BODIES + 8 * NUMBERS };
+
+static uint8_t file[FILE_BYTES], written[FILE_BYTES];
+
+static uint8_t *put_bytes(uint8_t *at, size_t value, size_t count)
+{
+    for (size_t i = 0; i < count; i++)
+        *at++ = (uint8_t)(value >> 8 * i);
+    return at;
+}
+
+/* The file of the ladder by the scope's text; the number at place p is p. */
+static void make_file(void)
+{
+    uint8_t *at = put_bytes(file, 0x31435454, 4);
+    size_t begins = BODIES;
+    at = put_bytes(at, ZONES, 4);
+    for (size_t k = 0; k < ZONES; k++) {
+        at = put_bytes(at, source.left[k], 2);
+        at = put_bytes(at, source.n[k], 2);
+        at = put_bytes(at, source.right[k], 4);
+        at = put_bytes(at, begins, 4);
+        begins += 8 * source.left[k] * source.n[k] * source.right[k];
+    }
+    fill(wanted.chain, NUMBERS, 0);
+    memcpy(at, wanted.chain, 8 * NUMBERS);
+}
+
+static uyavsker_refusal read_ladder(const size_t *lengths)
+{
+    formed = uyavsker_read_chain(file, FILE_BYTES, lent.chain, lengths[0]);
+    return formed.refusal;
+}
+
+static uyavsker_refusal write_ladder(const size_t *lengths)
+{
+    return uyavsker_write_chain(source, lent.source, lengths[0], written, lengths[1]);
+}
+
+static void files(void)
+{
+    const char *listed = "axes 1 entries 4\n0 1 4 1 20\n";
+    const uint8_t small[52] = "TTC1\1\0\0\0\1\0\4\0\1\0\0\0\24\0\0\0\0\0\0\0\0\0\20\100\0\0\0\0\0\0\40\100\0\0\0\0\0\0\60\100";
+    uint8_t text[UYAVSKER_TEXT];
+    make_file();
+    fill(lent.source, NUMBERS, 0);
+    expect_lengths(write_ladder, (size_t[]){NUMBERS, FILE_BYTES}, 2, "write_chain");
+    expect(memcmp(written, file, FILE_BYTES) == 0, "file of write_chain");
+    expect_refusal(read_ladder((size_t[]){NUMBERS - 1}), UYAVSKER_LENGTH, 1, "read_chain of less room");
+    expect_refusal(read_ladder((size_t[]){NUMBERS}), UYAVSKER_NONE, 0, "read_chain");
+    expect(same_shape(&formed.shape, &source) && same(lent.chain, wanted.chain, NUMBERS), "answer of read_chain");
+    expect(uyavsker_text_of(small, 52, text) == strlen(listed) && memcmp(text, listed, strlen(listed)) == 0, "text_of");
+}
+
+int main(void)
+{
+    source = ladder_shape(source_rank);
+    kept = ladder_shape(kept_rank);
+    axes = ladder_axes();
+    single_numbers();
+    shapes();
+    entries();
+    starts();
+    figures();
+    roundings();
+    fresh_runs();
+    replacements();
+    numbers_that_new_weights_look_at();
+    slices_of_one_length();
+    pairs();
+    pairs_of_one_length();
+    files();
+    return failures == 0 ? 0 : 1;
+}

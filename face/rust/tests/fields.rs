@@ -1,0 +1,394 @@
+//! Every field of every record and every slice of every call, told by its value, as face/fields.c does it from C: if two were
+//! exchanged, in the archive or in the package, a test fails.
+mod ladder;
+
+use ladder::*;
+use uyavsker::*;
+
+fn refused<T>(number: u8, place: usize) -> Result<T, Refusal> {
+    Err(Refusal { number, place })
+}
+
+fn counting(count: usize, first: f64) -> Vec<f64> {
+    (0..count).map(|i| first + i as f64).collect()
+}
+
+fn source() -> Vec<f64> {
+    let sizes = cores(source_rank);
+    numbers(&sizes, &sizes, source_entry)
+}
+
+#[test]
+fn a_shape_and_its_refusal() {
+    let mut sizes = cores(source_rank);
+    assert!(shape(source_rank).cores().eq(sizes.clone()));
+    sizes[9].1 = 65;
+    assert_eq!(Shape::new(&sizes), refused(2, 9));
+}
+
+#[test]
+fn an_entry() {
+    let shape = shape(source_rank);
+    let chain = counting(shape.entries(), 0.0);
+    assert_eq!(entry_of(&shape, &chain, 5, (6, 4, 2)), Some(1572.0));
+    assert_eq!(entry_of(&shape, &chain, 5, (6, 4, 3)), None);
+}
+
+#[test]
+fn a_start() {
+    let sizes: Vec<usize> = (0..ZONES).map(points).collect();
+    let (vectors, mut chain) = (counting(264, 1.0), counting(264, -264.0));
+    assert_eq!(
+        rank1_separable(&sizes, &vectors[1..], &mut chain),
+        refused(5, 0)
+    );
+    assert_eq!(
+        rank1_separable(&sizes, &vectors, &mut chain[1..]),
+        refused(5, 1)
+    );
+    let started = rank1_separable(&sizes, &vectors, &mut chain).unwrap();
+    assert!(started.cores().eq(sizes.iter().map(|n| (1, *n, 1))));
+    assert_eq!((&chain, vectors), (&counting(264, 1.0), counting(264, 1.0)));
+}
+
+#[test]
+fn a_figure_of_slices_of_one_length() {
+    let shape = Shape::new(&[(1, 1, 1); 2]).unwrap();
+    let (large, small) = (2f64.powi(600), 2f64.powi(-600));
+    assert_eq!(
+        inner_separable(&shape, &[large, small], &[1.0, large]),
+        Ok(large)
+    );
+    assert_eq!(
+        inner_separable(&shape, &[1.0, large], &[large, small]),
+        refused(9, 1)
+    );
+}
+
+// Holds what a call answers, and the slices it was lent, to the ladder after so many roundings.
+fn assert_rounded(rounded: &Rounded, lent: (&[f64], &[f64]), times: usize, entry: Entry) {
+    let kept = cores(kept_rank);
+    let all = |k: usize| sweeps_all(k) && (times == 1 || kept_rank(k) > 1);
+    let sweeps: Vec<usize> = (0..LAST).map(|k| if all(k) { 50 } else { 0 }).collect();
+    let settled: Vec<bool> = (0..LAST).map(|k| !all(k)).collect();
+    assert_eq!(
+        (rounded.sweeps(), rounded.settled()),
+        (&sweeps[..], &settled[..])
+    );
+    assert!(rounded.shape.cores().eq(kept.clone()));
+    let mut chain = numbers(&kept, &kept, entry);
+    chain.resize(lent.0.len(), 0.0);
+    assert_eq!(lent.0, chain);
+    assert!(lent.1.iter().all(|x| *x == 0.0));
+}
+
+#[test]
+fn a_rounding() {
+    let shape = shape(source_rank);
+    let (mut chain, mut scratch) = (source(), counting(shape.scratch(), 5e5));
+    let round = |x: &mut [f64], s: &mut [f64]| tt_round(&shape, SETTINGS.eps, x, s);
+    assert_eq!(round(&mut chain[1..], &mut scratch), refused(5, 0));
+    assert_eq!(round(&mut chain, &mut scratch[1..]), refused(5, 1));
+    let rounded = round(&mut chain, &mut scratch).unwrap();
+    assert_rounded(&rounded, (&chain, &scratch), 1, source_entry);
+}
+
+#[test]
+fn a_step() {
+    let shape = shape(source_rank);
+    let (mut chain, mut scratch) = (source(), counting(shape.scratch(), 5e5));
+    let records = axes();
+    let made = |r: &[Axis], x: &mut [f64], s: &mut [f64]| step(&shape, &SETTINGS, r, x, s);
+    assert_eq!(made(&records[1..], &mut chain, &mut scratch), refused(5, 0));
+    assert_eq!(made(&records, &mut chain[1..], &mut scratch), refused(5, 1));
+    assert_eq!(made(&records, &mut chain, &mut scratch[1..]), refused(5, 2));
+    let rounded = made(&records, &mut chain, &mut scratch).unwrap();
+    assert_rounded(&rounded, (&chain, &scratch), 1, stepped_entry);
+}
+
+#[test]
+fn a_course() {
+    let shape = shape(source_rank);
+    let (mut chain, mut scratch) = (source(), counting(shape.scratch(), 5e5));
+    let records = axes();
+    let course = Course {
+        t_final: 8.0,
+        steps: 2,
+        c: SETTINGS.c,
+        eps: SETTINGS.eps,
+    };
+    let made = |r: &[Axis], x: &mut [f64], s: &mut [f64]| evolve(&shape, &course, r, x, s);
+    assert_eq!(made(&records[1..], &mut chain, &mut scratch), refused(5, 0));
+    assert_eq!(made(&records, &mut chain[1..], &mut scratch), refused(5, 1));
+    assert_eq!(made(&records, &mut chain, &mut scratch[1..]), refused(5, 2));
+    let rounded = made(&records, &mut chain, &mut scratch).unwrap();
+    assert_rounded(&rounded, (&chain, &scratch), 2, evolved_entry);
+}
+
+fn ladder_run() -> Run {
+    Run::fresh(&shape(source_rank), &axes(), &SETTINGS, source(), weights()).unwrap()
+}
+
+// What a run of the ladder keeps, worked out by hand.
+struct Wanted {
+    axes: Vec<Axis>,
+    source: Vec<f64>,
+    weights: Vec<f64>,
+    chain: Vec<f64>,
+    sums: Vec<f64>,
+}
+
+// The sums of an axis: at ir those of (sum[il]*core[il,im,ir])*weight[im].
+fn next_sums(before: &[f64], core: &[f64], right: usize, weights: &[f64]) -> Vec<f64> {
+    let n = weights.len();
+    let term = |at: usize, ir: usize| before[at / n] * core[at * right + ir] * weights[at % n];
+    let sum = |ir: usize| (0..before.len() * n).fold(0.0, |sum, at| sum + term(at, ir));
+    (0..right).map(sum).collect()
+}
+
+impl Wanted {
+    fn fresh() -> Wanted {
+        let mut wanted = Wanted {
+            axes: axes(),
+            source: source(),
+            weights: weights(),
+            chain: numbers(&cores(kept_rank), &cores(source_rank), stepped_entry),
+            sums: Vec::new(),
+        };
+        wanted.sum_up();
+        wanted
+    }
+
+    // The sums from zone 0 on, each axis' in its slot, over the cores where they stand.
+    fn sum_up(&mut self) {
+        let (mut chain, mut weights, mut before) = (&self.chain[..], &self.weights[..], vec![1.0]);
+        self.sums.clear();
+        for (k, (left, n, right)) in cores(source_rank).into_iter().enumerate() {
+            before = next_sums(&before, chain, kept_rank(k), &weights[..n]);
+            self.sums.extend(&before);
+            self.sums
+                .resize(self.sums.len() + right - before.len(), 0.0);
+            (chain, weights) = (&chain[left * n * right..], &weights[n..]);
+        }
+    }
+
+    fn last_core(&mut self) -> &mut [f64] {
+        let start = self.chain.len() - 2 * LAST_POINTS;
+        &mut self.chain[start..]
+    }
+
+    // The last zone of these entries, moved; the carry left of it has 1 at (j, j).
+    fn put_last(&mut self, entry: impl Fn(usize, usize) -> f64, by: usize) {
+        for (at, number) in self.last_core().iter_mut().enumerate() {
+            *number = moved(&entry, at / LAST_POINTS, at % LAST_POINTS, by);
+        }
+    }
+
+    fn assert_is(&self, run: &Run) {
+        let ranks: Vec<usize> = (0..LAST).map(kept_rank).collect();
+        let sweeps: Vec<usize> = (0..LAST)
+            .map(|k| if sweeps_all(k) { 50 } else { 0 })
+            .collect();
+        let settled: Vec<bool> = (0..LAST).map(|k| !sweeps_all(k)).collect();
+        assert_eq!((run.ranks(), run.sweeps()), (&ranks[..], &sweeps[..]));
+        assert_eq!(
+            (run.settled(), run.shape()),
+            (&settled[..], shape(source_rank))
+        );
+        assert_eq!((run.axes(), run.settings()), (&self.axes[..], &SETTINGS));
+        assert_eq!(
+            (run.source(), run.weights()),
+            (&self.source[..], &self.weights[..])
+        );
+        assert_eq!(
+            (run.stepped(), run.sums()),
+            (&self.chain[..], &self.sums[..])
+        );
+        assert_eq!(run.carries(), carries());
+        assert_eq!(Some(&run.figure()), self.sums.last());
+    }
+}
+
+// A carry has 1 at (j, j), in rows as long as the source's rank.
+fn carries() -> Vec<f64> {
+    let slot = |k: usize| {
+        let rank = source_rank(k);
+        (0..rank * rank)
+            .map(move |at| f64::from(at / rank == at % rank && at % rank < kept_rank(k)))
+    };
+    (0..LAST).flat_map(slot).collect()
+}
+
+#[test]
+fn a_fresh_run() {
+    Wanted::fresh().assert_is(&ladder_run());
+}
+
+#[test]
+fn a_new_core() {
+    let (mut run, mut wanted) = (ladder_run(), Wanted::fresh());
+    let part = counting(2 * LAST_POINTS, 4e5);
+    let start = wanted.source.len() - part.len();
+    wanted.source[start..].copy_from_slice(&part);
+    wanted.put_last(|il, im| part[il * LAST_POINTS + im], 1);
+    wanted.sum_up();
+    assert_eq!(run.replace_core(LAST, &part[1..]), refused(5, 5));
+    assert_eq!(
+        run.replace_core(LAST, &part).as_ref().ok(),
+        wanted.sums.last()
+    );
+    wanted.assert_is(&run);
+}
+
+#[test]
+fn new_weights() {
+    let (mut run, mut wanted) = (ladder_run(), Wanted::fresh());
+    let part = counting(LAST_POINTS, 4e5);
+    let start = wanted.weights.len() - part.len();
+    wanted.weights[start..].copy_from_slice(&part);
+    wanted.sum_up();
+    assert_eq!(run.replace_weights(LAST, &part[1..]), refused(5, 5));
+    assert_eq!(
+        run.replace_weights(LAST, &part).as_ref().ok(),
+        wanted.sums.last()
+    );
+    wanted.assert_is(&run);
+}
+
+#[test]
+fn a_new_axis() {
+    let (mut run, mut wanted) = (ladder_run(), Wanted::fresh());
+    wanted.axes[LAST] = axis(LAST, 2);
+    wanted.put_last(last_entry, 2);
+    wanted.sum_up();
+    assert_eq!(
+        run.replace_axis(LAST, &axis(LAST, 2)).as_ref().ok(),
+        wanted.sums.last()
+    );
+    wanted.assert_is(&run);
+}
+
+// The scope's chain D: source and chain, weights and sums, carries and new core are of one length. Nothing moves.
+#[test]
+fn a_run_of_slices_of_one_length() {
+    let shape = Shape::new(&[(1, 2, 2), (2, 1, 1)]).unwrap();
+    let settings = Settings {
+        tau: 0.0,
+        c: 0.0,
+        eps: 0.0,
+    };
+    let source = vec![3.0, 0.0, 0.0, 4.0, 1.0, 1.0];
+    let mut run = Run::fresh(
+        &shape,
+        &[Axis::default(); 2],
+        &settings,
+        source,
+        vec![1.0, 2.0, 1.0],
+    )
+    .unwrap();
+    assert_eq!(run.stepped(), [0.0, 1.0, 1.0, 0.0, 4.0, 3.0]);
+    assert_eq!(
+        (run.carries(), run.sums()),
+        (&[0.0, 4.0, 3.0, 0.0][..], &[2.0, 1.0, 11.0][..])
+    );
+    assert_eq!(run.replace_core(0, &[0.0, 6.0, 5.0, 0.0]), Ok(16.0));
+    assert_eq!(run.source(), [0.0, 6.0, 5.0, 0.0, 1.0, 1.0]);
+    assert_eq!(run.stepped(), [1.0, 0.0, 0.0, 1.0, 6.0, 5.0]);
+    assert_eq!(
+        (run.carries(), run.sums()),
+        (&[0.0, 6.0, 5.0, 0.0][..], &[1.0, 2.0, 16.0][..])
+    );
+    assert_eq!(run.weights(), [1.0, 2.0, 1.0]);
+}
+
+// Numbers with a few of them set, the others 0.
+fn set(count: usize, places: &[(usize, f64)]) -> Vec<f64> {
+    let mut numbers = vec![0.0; count];
+    for (place, number) in places {
+        numbers[*place] = *number;
+    }
+    numbers
+}
+
+// The slab has 32 at row 14, column 31, then 16 at row 1, column 9, then 2, which is not above 2^-4 of the largest.
+#[test]
+fn a_pair() {
+    let cores = [
+        set(54, &[(3, 4.0), (43, 2.0), (53, 1.0)]),
+        set(120, &[(9, 4.0), (71, 16.0), (116, 2.0)]),
+    ];
+    let lengths = [54, 120, 144, 320, PAIR_SCRATCH];
+    let mut lent = [
+        counting(144, 1e5),
+        counting(320, 2e5),
+        counting(PAIR_SCRATCH, 3e5),
+    ];
+    let mut split = |n: [usize; 5]| {
+        let [lefts, rights, scratch] = &mut lent;
+        let outputs = [&mut lefts[..n[2]], &mut rights[..n[3]]];
+        let given = [&cores[0][..n[0]], &cores[1][..n[1]]];
+        contract_and_split(
+            [(2, 9, 3), (3, 10, 4)],
+            0.0625,
+            given,
+            outputs,
+            &mut scratch[..n[4]],
+        )
+    };
+    for place in 0..5 {
+        let mut wrong = lengths;
+        wrong[place] -= 1;
+        assert_eq!(split(wrong), refused(5, place));
+    }
+    assert_eq!(split(lengths), Ok(Paired { rank: 2, passes: 1 }));
+    assert_eq!(lent[0], set(144, &[(28, 32.0), (3, 16.0)]));
+    assert_eq!(lent[1], set(320, &[(31, 1.0), (49, 1.0)]));
+    assert!(lent[2].iter().all(|x| *x == 0.0));
+}
+
+// 0, 4; 4, 0 before 1, 0; 0, 2 is 0, 8; 4, 0. The left core has the values, the right one what they stand at.
+#[test]
+fn a_pair_of_slices_of_one_length() {
+    let (first, second) = ([0.0, 4.0, 4.0, 0.0], [1.0, 0.0, 0.0, 2.0]);
+    let (mut lefts, mut rights, mut scratch) = ([7.5; 16], [7.5; 16], vec![7.5; PAIR_SCRATCH]);
+    let outputs = [&mut lefts[..], &mut rights[..]];
+    let paired = contract_and_split(
+        [(1, 2, 2), (2, 2, 1)],
+        0.0,
+        [&first, &second],
+        outputs,
+        &mut scratch,
+    );
+    assert_eq!(paired, Ok(Paired { rank: 2, passes: 1 }));
+    assert_eq!(lefts.to_vec(), set(16, &[(0, 8.0), (3, 4.0)]));
+    assert_eq!(rights.to_vec(), set(16, &[(1, 1.0), (2, 1.0)]));
+}
+
+// The file of the ladder by the scope's text.
+fn file_of(chain: &[f64]) -> Vec<u8> {
+    let mut bytes = b"TTC1\x10\0\0\0".to_vec();
+    let mut begins = 8 + 12 * ZONES;
+    for (left, n, right) in cores(source_rank) {
+        for size in [left, n, right, 0] {
+            bytes.extend((size as u16).to_le_bytes());
+        }
+        bytes.extend((begins as u32).to_le_bytes());
+        begins += 8 * left * n * right;
+    }
+    bytes.extend(chain.iter().flat_map(|x| x.to_le_bytes()));
+    bytes
+}
+
+#[test]
+fn a_file() {
+    let shape = shape(source_rank);
+    let chain = counting(shape.entries(), 0.0);
+    let (mut bytes, mut read) = (vec![7; shape.file()], counting(shape.entries(), 1e5));
+    assert_eq!(write_chain(&shape, &chain[1..], &mut bytes), refused(5, 0));
+    assert_eq!(write_chain(&shape, &chain, &mut bytes[1..]), refused(5, 1));
+    assert_eq!(write_chain(&shape, &chain, &mut bytes), Ok(()));
+    assert_eq!(bytes, file_of(&chain));
+    assert_eq!(read_chain(&bytes, &mut read[1..]), refused(5, 1));
+    assert_eq!(read_chain(&bytes, &mut read), Ok(shape));
+    assert_eq!(read, chain);
+}

@@ -1,0 +1,137 @@
+//! A chain of 16 zones whose rounding and step can be done by hand, and in which no two zones, and no two places of a record, are
+//! alike; face/ladder.h has the same and says why.
+use uyavsker::{Axis, Settings, Shape};
+
+pub const ZONES: usize = 16;
+pub const LAST: usize = ZONES - 1;
+pub const LAST_POINTS: usize = 24;
+
+/// 1 + tau*c is -1.
+pub const SETTINGS: Settings = Settings {
+    tau: 4.0,
+    c: -0.5,
+    eps: 1.0 / 32.0,
+};
+
+pub type Entry = fn(usize, (usize, usize, usize)) -> f64;
+
+/// The rank right of zone k in the source.
+pub fn source_rank(k: usize) -> usize {
+    match k {
+        LAST => 1,
+        _ => 2 + 3 * k % 7,
+    }
+}
+
+/// What a rounding with `SETTINGS` keeps of it.
+pub fn kept_rank(k: usize) -> usize {
+    match k {
+        LAST => 1,
+        _ => source_rank(k) - k % 2,
+    }
+}
+
+pub fn points(k: usize) -> usize {
+    9 + k
+}
+
+/// The sizes of each core with these ranks.
+pub fn cores(rank: fn(usize) -> usize) -> Vec<(usize, usize, usize)> {
+    let left = |k: usize| k.checked_sub(1).map_or(1, rank);
+    (0..ZONES).map(|k| (left(k), points(k), rank(k))).collect()
+}
+
+pub fn shape(rank: fn(usize) -> usize) -> Shape {
+    Shape::new(&cores(rank)).unwrap()
+}
+
+/// Whether a rounding of the ladder makes all 50 sweeps at bond k.
+pub fn sweeps_all(k: usize) -> bool {
+    k % 3 == 1
+}
+
+pub fn last_entry(il: usize, im: usize) -> f64 {
+    (1 + 1000 * il + im * im) as f64
+}
+
+/// What a shift by so many points makes of an entry of the last zone.
+pub fn moved(entry: impl Fn(usize, usize) -> f64, il: usize, im: usize, by: usize) -> f64 {
+    let away = |points: usize| 0.25 * entry(il, (im + points) % LAST_POINTS);
+    0.5 * entry(il, im) + away(by) + away(LAST_POINTS - by)
+}
+
+pub fn source_entry(k: usize, (il, im, ir): (usize, usize, usize)) -> f64 {
+    let row = k.checked_sub(1).map_or(0, |before| ir % kept_rank(before));
+    if k == LAST {
+        return last_entry(il, im);
+    }
+    if sweeps_all(k) && (il, im, ir) == (0, 0, 1) {
+        return 2f64.powi(-50);
+    }
+    if (il, im) != (row, ir) {
+        return 0.0;
+    }
+    if ir < kept_rank(k) {
+        1.0
+    } else {
+        2f64.powi(-10)
+    }
+}
+
+fn moved_once(il: usize, im: usize) -> f64 {
+    moved(last_entry, il, im, 1)
+}
+
+pub fn stepped_entry(k: usize, at: (usize, usize, usize)) -> f64 {
+    match k {
+        0 => -source_entry(k, at),
+        LAST => moved_once(at.0, at.1),
+        _ => source_entry(k, at),
+    }
+}
+
+pub fn evolved_entry(k: usize, at: (usize, usize, usize)) -> f64 {
+    match k {
+        LAST => moved(moved_once, at.0, at.1, 1),
+        _ => source_entry(k, at),
+    }
+}
+
+/// The record that moves zone k by so many points.
+pub fn axis(k: usize, by: usize) -> Axis {
+    let root = (k + 1) as f64 / 8.0;
+    let xmin = 0.5 - 2.0 * k as f64;
+    Axis {
+        a: root * root,
+        b: by as f64 / 4.0 - root,
+        xmin,
+        xmax: xmin + 8.0 + k as f64,
+    }
+}
+
+/// Every zone once around, which leaves its core; the last by one point.
+pub fn axes() -> Vec<Axis> {
+    let by = |k: usize| if k == LAST { 1 } else { points(k) };
+    (0..ZONES).map(|k| axis(k, by(k))).collect()
+}
+
+pub fn weights() -> Vec<f64> {
+    let count: usize = (0..ZONES).map(points).sum();
+    (0..count).map(|p| 1.0 + (p % 5) as f64 / 4.0).collect()
+}
+
+/// The numbers of the cores of these sizes, each in room for one of `room`'s, and 0 behind.
+pub fn numbers(
+    sizes: &[(usize, usize, usize)],
+    room: &[(usize, usize, usize)],
+    entry: Entry,
+) -> Vec<f64> {
+    let core = |k: usize, (left, n, right): (usize, usize, usize)| {
+        (0..left * n * right).map(move |at| entry(k, (at / right / n, at / right % n, at % right)))
+    };
+    let slot = |k: usize| {
+        let length = room[k].0 * room[k].1 * room[k].2;
+        core(k, sizes[k]).chain(std::iter::repeat(0.0)).take(length)
+    };
+    (0..ZONES).flat_map(slot).collect()
+}
