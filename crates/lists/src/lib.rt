@@ -82,10 +82,16 @@ fn eight_sums(s: &[f64], k: usize) -> Eight
     }
 }
 
+// Below this many numbers, a look at each costs less than eight sums.
+const FEW: usize = 32;
+
 // How many of the first numbers are finite by their sums alone: a finite sum has finite terms.
 fn settled(s: &[f64]) -> usize
     ensures { λ r. ⌜ (r ≤ length (now (s .entry))) × ((j : ℕ) → j < r → finite (at (now (s .entry)) j) ≡ true) ⌝ }
 {
+    if s.len() < FEW {
+        return 0;
+    }
     let k = s.len() / 8;
     let t = eight_sums(s, k);
     let aa = numbers::is_finite(t.a);

@@ -86,9 +86,9 @@ fn slow_root(m: u64) -> Rooted
 }
 
 // A guess at the 53 digits of the root of what a pattern stands for. The inverse of the root is had from
-// the pattern, mended by three steps of Newton's method. Of the root that it gives 26 digits are kept,
-// whose square is exact, and what they leave gives the others, with a second step for what the first
-// leaves. What the guess is worth its square tells.
+// the pattern, mended by three steps of Newton's method. Of the root that it gives 26 digits are kept, by
+// a product with 2^27 + 1, whose square is exact, and what they leave gives the others, with a second step
+// for what the first leaves. What the guess is worth its square tells.
 fn guess(bits: u64) -> u64
     requires { ⌜ bits < 0x7ff0_0000_0000_0000 ⌝ }
     ensures { λ g. ⌜ (2 ^ 52 ≤ g) × (g < 2 ^ 53) ⌝ }
@@ -100,14 +100,8 @@ fn guess(bits: u64) -> u64
     let c = b * 1.5 - h * b * (b * b);
     let d = c * 1.5 - h * c * (c * c);
     let w = x * d;
-    if w != w {
-        return 0x10_0000_0000_0000;
-    }
-    let whole = f64::to_bits(w);
-    if whole >= 0x7ff0_0000_0000_0000 {
-        return 0x10_0000_0000_0000;
-    }
-    let s = f64::from_bits(whole / 0x800_0000 * 0x800_0000);
+    let t = w * 134217729.0;
+    let s = t - (t - w);
     let e = d * 0.5;
     let k = (x - s * s) * e;
     let g = s + (k + k * (k * e));

@@ -11,14 +11,8 @@ float-from-bits-x c = no-nan-bits _ (omega arith)
 float-from-bits-a : tie.Need-float-from-bits-a
 float-from-bits-a c = no-nan-bits _ (omega arith)
 
-float-to-bits-whole : tie.Need-float-to-bits-whole
-float-to-bits-whole c = no-nan _ (c .if1 .left)
-
-float-from-bits-s : tie.Need-float-from-bits-s
-float-from-bits-s c = no-nan-bits _ (omega arith)
-
 float-to-bits-result : tie.Need-float-to-bits-result
-float-to-bits-result c = no-nan _ (c .if3 .left)
+float-to-bits-result c = no-nan _ (c .if1 .left)
 
 pub guess-spec : {M : Type 1} → statement M
 guess-spec =
@@ -27,11 +21,6 @@ guess-spec =
     float-from-bits-x
     (λ c. search needs)
     float-from-bits-a
-    (λ c. search needs)
-    float-to-bits-whole
-    (λ c. search needs)
-    (λ c. search needs)
-    float-from-bits-s
     (λ c. search needs)
     float-to-bits-result
     (λ c. search needs)
