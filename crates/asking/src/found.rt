@@ -149,7 +149,8 @@ pub fn numbers_ok(
     setting: usize,
     d: usize,
 ) -> answers::Verdict
-    ensures { λ r. ⌜ ((p q : ℕ → Bool) → number ≡ firstNot p d → setting ≡ firstNot q d → r ≡ verdictOf (demand lone (Number 0) then demandEach Number p d 0 then demand mild (Setting 0) then demandEach Setting q d 0)) ⌝ }
+    ensures { λ r. ⌜ ((p q : ℕ → Bool) → number ≡ firstNot p d → setting ≡ firstNot q d → r
+        ≡ verdictOf (demand lone (Number 0) then demandEach Number p d 0 then demand mild (Setting 0) then demandEach Setting q d 0)) ⌝ }
 {
     if !lone {
         return answers::Verdict::Refused(answers::Refusal::Number(0));

@@ -18,7 +18,7 @@ axisFinite x = finite (x .a) && (finite (x .b) && (finite (x .xmin) && finite (x
 unfoldable pub axisOk : Axis → Bool
 axisOk x = not (lt (x .a) zero64)
 
--- ---- a list of records, one an axis
+-- ---- a list of records, one per axis
 abbrev pub blank : Axis
 blank = record { a = zero64; b = zero64; xmin = zero64; xmax = zero64 }
 

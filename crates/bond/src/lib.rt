@@ -31,7 +31,8 @@ fn swept_gram(
     v: &mut [f64],
 ) -> sweeps::Sweeps
     requires { ⌜ (length (now core) ≡ rl * n * rr) × (1 ≤ rl) × (1 ≤ n) × (1 ≤ rr) × (length (now g) ≡ rr * rr) × (length (now v) ≡ rr * rr) ⌝ }
-    ensures { λ r. ⌜ sweptOf (coreWith rl n rr (now (core .entry))) ≡ staged (r .stage) (swept (r .count) (r .settles) (eig (now (g .exit)) (now (v .exit)))) ⌝ }
+    ensures { λ r. ⌜ sweptOf (coreWith rl n rr (now (core .entry)))
+        ≡ staged (r .stage) (swept (r .count) (r .settles) (eig (now (g .exit)) (now (v .exit)))) ⌝ }
 {
     gram(core, rl, n, rr, g);
     let made = lists::stored(g);
@@ -52,7 +53,8 @@ fn swept_within(
     v: &mut [f64],
 ) -> sweeps::Sweeps
     requires { ⌜ (length (now core) ≡ rl * n * rr) × (1 ≤ rl) × (1 ≤ n) × (1 ≤ rr) × (rr * rr ≤ length (now g)) × (rr * rr ≤ length (now v)) ⌝ }
-    ensures { λ r. ⌜ sweptOf (coreWith rl n rr (now (core .entry))) ≡ staged (r .stage) (swept (r .count) (r .settles) (eig (take (rr * rr) (now (g .exit))) (take (rr * rr) (now (v .exit))))) ⌝ }
+    ensures { λ r. ⌜ sweptOf (coreWith rl n rr (now (core .entry)))
+        ≡ staged (r .stage) (swept (r .count) (r .settles) (eig (take (rr * rr) (now (g .exit))) (take (rr * rr) (now (v .exit))))) ⌝ }
 {
     let e = rr * rr;
     swept_gram(core, rl, n, rr, &mut g[0..e], &mut v[0..e])
@@ -103,7 +105,8 @@ fn finish(
     carry: &mut [f64],
     room: &mut [f64],
 ) -> BondCut
-    requires { ⌜ (length (now core) ≡ rl * n * rr) × (1 ≤ rr) × (rr ≤ mostRank) × (rr * rr ≤ length (now v)) × (rr * rr ≤ length (now g)) × (rr * rr ≤ length (now carry)) × (length (now core) ≤ length (now room)) ⌝ }
+    requires { ⌜ (length (now core) ≡ rl * n * rr) × (1 ≤ rr) × (rr ≤ mostRank) × (rr * rr ≤ length (now v)) × (rr * rr ≤ length (now g))
+        × (rr * rr ≤ length (now carry)) × (length (now core) ≤ length (now room)) ⌝ }
     ensures { λ r. ⌜ restOf k eps (coreWith rl n rr (now (core .entry))) (swept count settles (eig (take (rr * rr) (now (g .entry))) (take (rr * rr) (now (v .entry))))) ≡ answered (r .verdict) (record { core = coreWith rl n (r .rank) (take (rl * n * r .rank) (now (core .exit))); sweeps = r .sweeps; settles = r .settles; carry = take (r .rank * rr) (now (carry .exit)) }) ⌝ }
 {
     let mut ss = [0.0; shape::MOST_RANK];
@@ -134,8 +137,10 @@ fn cut(
     g: &mut [f64],
     v: &mut [f64],
 ) -> BondCut
-    requires { ⌜ (length (now core) ≡ rl * n * rr) × (1 ≤ rl) × (1 ≤ n) × (1 ≤ rr) × (rr ≤ mostRank) × (rr * rr ≤ length (now g)) × (rr * rr ≤ length (now v)) × (rr * rr ≤ length (now carry)) × (length (now core) ≤ length (now room)) ⌝ }
-    ensures { λ r. ⌜ cutBond k eps (coreWith rl n rr (now (core .entry))) ≡ answered (r .verdict) (record { core = coreWith rl n (r .rank) (take (rl * n * r .rank) (now (core .exit))); sweeps = r .sweeps; settles = r .settles; carry = take (r .rank * rr) (now (carry .exit)) }) ⌝ }
+    requires { ⌜ (length (now core) ≡ rl * n * rr) × (1 ≤ rl) × (1 ≤ n) × (1 ≤ rr) × (rr ≤ mostRank) × (rr * rr ≤ length (now g))
+        × (rr * rr ≤ length (now v)) × (rr * rr ≤ length (now carry)) × (length (now core) ≤ length (now room)) ⌝ }
+    ensures { λ r. ⌜ cutBond k eps (coreWith rl n rr (now (core .entry)))
+        ≡ answered (r .verdict) (record { core = coreWith rl n (r .rank) (take (rl * n * r .rank) (now (core .exit))); sweeps = r .sweeps; settles = r .settles; carry = take (r .rank * rr) (now (carry .exit)) }) ⌝ }
 {
     let s = swept_within(core, rl, n, rr, g, v);
     let stage = s.stage;
@@ -170,8 +175,10 @@ pub fn cut_bond(
     carry: &mut [f64],
     room: &mut [f64],
 ) -> BondCut
-    requires { ⌜ (length (now core) ≡ rl * n * rr) × (1 ≤ rl) × (1 ≤ n) × (1 ≤ rr) × (rr ≤ mostRank) × (rr * rr ≤ length (now carry)) × (length (now core) ≤ length (now room)) ⌝ }
-    ensures { λ r. ⌜ cutBond k eps (coreWith rl n rr (now (core .entry))) ≡ answered (r .verdict) (record { core = coreWith rl n (r .rank) (take (rl * n * r .rank) (now (core .exit))); sweeps = r .sweeps; settles = r .settles; carry = take (r .rank * rr) (now (carry .exit)) }) ⌝ }
+    requires { ⌜ (length (now core) ≡ rl * n * rr) × (1 ≤ rl) × (1 ≤ n) × (1 ≤ rr) × (rr ≤ mostRank) × (rr * rr ≤ length (now carry))
+        × (length (now core) ≤ length (now room)) ⌝ }
+    ensures { λ r. ⌜ cutBond k eps (coreWith rl n rr (now (core .entry)))
+        ≡ answered (r .verdict) (record { core = coreWith rl n (r .rank) (take (rl * n * r .rank) (now (core .exit))); sweeps = r .sweeps; settles = r .settles; carry = take (r .rank * rr) (now (carry .exit)) }) ⌝ }
 {
     let mut g = [0.0; shape::MOST_RANK * shape::MOST_RANK];
     let mut v = [0.0; shape::MOST_RANK * shape::MOST_RANK];
@@ -189,7 +196,8 @@ pub fn absorb(
     out: &mut [f64],
 )
     requires { ⌜ (length (now core) ≡ rl * n * rr) × (1 ≤ rl) × (r * rl ≤ length (now carry)) × (r * n * rr ≤ length (now out)) ⌝ }
-    ensures { λ _. ⌜ now (out .exit) ≡ absorb r (take (r * rl) (now (carry .entry))) (coreWith rl n rr (now (core .entry))) ++ drop (r * n * rr) (now (out .entry)) ⌝ }
+    ensures { λ _. ⌜ now (out .exit)
+        ≡ absorb r (take (r * rl) (now (carry .entry))) (coreWith rl n rr (now (core .entry))) ++ drop (r * n * rr) (now (out .entry)) ⌝ }
 {
     strips::product(carry, rl, 1, core, n * rr, rl, r, out);
 }

@@ -54,7 +54,8 @@ pub fn read_ok(bytes: &[u8], room: usize) -> Read
 
 // Reading a chain file: the shape that its table gives, and its numbers at the front of out, +0 behind them.
 pub fn read_chain(bytes: &[u8], out: &mut [f64]) -> Read
-    ensures { λ r. ⌜ (r ≡ readCall (now (bytes .entry)) (now (out .entry)) .result) × (now (out .exit) ≡ readCall (now (bytes .entry)) (now (out .entry)) .out) ⌝ }
+    ensures { λ r. ⌜ (r ≡ readCall (now (bytes .entry)) (now (out .entry)) .result)
+        × (now (out .exit) ≡ readCall (now (bytes .entry)) (now (out .entry)) .out) ⌝ }
 {
     let found = read_ok(bytes, out.len());
     let told = found.verdict;
@@ -112,7 +113,8 @@ fn write_ok(s: Shape, chain: &[f64], out: usize) -> Verdict
 
 // Writing the one file of a chain, into an output of exactly its length.
 pub fn write_chain(s: Shape, chain: &[f64], out: &mut [u8]) -> Verdict
-    ensures { λ r. ⌜ (r ≡ writeCall s (now (chain .entry)) (now (out .entry)) .result) × (now (out .exit) ≡ writeCall s (now (chain .entry)) (now (out .entry)) .out) ⌝ }
+    ensures { λ r. ⌜ (r ≡ writeCall s (now (chain .entry)) (now (out .entry)) .result)
+        × (now (out .exit) ≡ writeCall s (now (chain .entry)) (now (out .entry)) .out) ⌝ }
 {
     let ok = write_ok(s, chain, out.len());
     if let Verdict::Refused(r) = ok {

@@ -55,7 +55,8 @@ fn squares_of(a: &[f64], m: usize, n: usize, p: usize, q: usize) -> Sums
 
 // Those of columns p and q; the others stand.
 pub fn square_again(a: &[f64], m: usize, n: usize, p: usize, q: usize, ss: &mut [f64])
-    requires { ⌜ (length (now a) ≡ n * m) × (length (now ss) ≡ n) × (p < n) × (q < n) × ((k : ℕ) → k < n → ¬ (k ≡ p) → ¬ (k ≡ q) → at (now ss) k ≡ dot m (now a) k k) ⌝ }
+    requires { ⌜ (length (now a) ≡ n * m) × (length (now ss) ≡ n) × (p < n) × (q < n)
+        × ((k : ℕ) → k < n → ¬ (k ≡ p) → ¬ (k ≡ q) → at (now ss) k ≡ dot m (now a) k k) ⌝ }
     ensures { λ _. ⌜ now (ss .exit) ≡ squares m n (now (a .entry)) ⌝ }
 {
     let both = squares_of(a, m, n, p, q);

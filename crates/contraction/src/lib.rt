@@ -48,8 +48,10 @@ fn add_points(
 
 // The new sums at the right indices j to j + h.
 fn strip(core: &[f64], rr: usize, f: &[f64], eta: &[f64], j: usize, h: usize, out: &mut [f64])
-    requires { ⌜ (h ≤ stripWidth) × (j + h ≤ rr) × (length (now eta) * (length (now f) * rr) ≤ length (now core)) × (j + h ≤ length (now out)) × (1 ≤ length (now eta)) × (1 ≤ length (now f)) ⌝ }
-    ensures { λ _. ⌜ now (out .exit) ≡ storedFrom j h (λ (t : ℕ). newSum (now (core .entry)) rr (now (f .entry)) (now (eta .entry)) (j + t)) (now (out .entry)) ⌝ }
+    requires { ⌜ (h ≤ stripWidth) × (j + h ≤ rr) × (length (now eta) * (length (now f) * rr) ≤ length (now core)) × (j + h ≤ length (now out))
+        × (1 ≤ length (now eta)) × (1 ≤ length (now f)) ⌝ }
+    ensures { λ _. ⌜ now (out .exit)
+        ≡ storedFrom j h (λ (t : ℕ). newSum (now (core .entry)) rr (now (f .entry)) (now (eta .entry)) (j + t)) (now (out .entry)) ⌝ }
 {
     let mut sums = [0.0; STRIP];
     let width = f.len() * rr;
@@ -64,7 +66,8 @@ fn strip(core: &[f64], rr: usize, f: &[f64], eta: &[f64], j: usize, h: usize, ou
 // All new sums, at the front of out: strips of eight right indices, of four, then single ones.
 pub fn contract_step(core: &[f64], rr: usize, f: &[f64], eta: &[f64], out: &mut [f64])
     requires { ⌜ (length (now eta) * (length (now f) * rr) ≤ length (now core)) × (rr ≤ length (now out)) × (1 ≤ length (now eta)) × (1 ≤ length (now f)) ⌝ }
-    ensures { λ _. ⌜ now (out .exit) ≡ contract (coreWith (length (now (eta .entry))) (length (now (f .entry))) rr (now (core .entry))) (now (f .entry)) (now (eta .entry)) ++ drop rr (now (out .entry)) ⌝ }
+    ensures { λ _. ⌜ now (out .exit)
+        ≡ contract (coreWith (length (now (eta .entry))) (length (now (f .entry))) rr (now (core .entry))) (now (f .entry)) (now (eta .entry)) ++ drop rr (now (out .entry)) ⌝ }
 {
     let mut j = 0;
     while j + 8 <= rr {
@@ -83,8 +86,10 @@ pub fn contract_step(core: &[f64], rr: usize, f: &[f64], eta: &[f64], out: &mut 
 
 // One axis: the sums in the first rl places of eta become the new sums in its first rr, if these are all finite.
 pub fn sum_axis(core: &[f64], rl: usize, rr: usize, f: &[f64], eta: &mut [f64]) -> answers::Stage
-    requires { ⌜ (rl * (length (now f) * rr) ≤ length (now core)) × (rl ≤ length (now eta)) × (rr ≤ length (now eta)) × (rr ≤ mostRank) × (1 ≤ rl) × (1 ≤ length (now f)) ⌝ }
-    ensures { λ r. ⌜ stored (contract (coreWith rl (length (now (f .entry))) rr (now (core .entry))) (now (f .entry)) (take rl (now (eta .entry)))) ≡ staged r (take rr (now (eta .exit))) ⌝ }
+    requires { ⌜ (rl * (length (now f) * rr) ≤ length (now core)) × (rl ≤ length (now eta)) × (rr ≤ length (now eta)) × (rr ≤ mostRank) × (1 ≤ rl)
+        × (1 ≤ length (now f)) ⌝ }
+    ensures { λ r. ⌜ stored (contract (coreWith rl (length (now (f .entry))) rr (now (core .entry))) (now (f .entry)) (take rl (now (eta .entry))))
+        ≡ staged r (take rr (now (eta .exit))) ⌝ }
 {
     let mut next = [0.0; shape::MOST_RANK];
     contract_step(core, rr, f, &eta[..rl], &mut next);

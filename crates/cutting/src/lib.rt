@@ -50,8 +50,10 @@ fn take_in(
     r: usize,
     room: &mut [f64],
 ) -> answers::Stage
-    requires { ⌜ (rl * n * rr ≤ length (now slot)) × (r * n * rr ≤ rl * n * rr) × (r * n * rr ≤ length (now slot)) × (r * n * rr ≤ length (now room)) × (1 ≤ rl) × (1 ≤ rr) × (r * rl ≤ length (now carry)) ⌝ }
-    ensures { λ s. ⌜ stored (absorb r (take (r * rl) (now (carry .entry))) (coreWith rl n rr (take (rl * n * rr) (now (slot .entry))))) ≡ staged s (take (r * n * rr) (now (slot .exit))) ⌝ }
+    requires { ⌜ (rl * n * rr ≤ length (now slot)) × (r * n * rr ≤ rl * n * rr) × (r * n * rr ≤ length (now slot)) × (r * n * rr ≤ length (now room))
+        × (1 ≤ rl) × (1 ≤ rr) × (r * rl ≤ length (now carry)) ⌝ }
+    ensures { λ s. ⌜ stored (absorb r (take (r * rl) (now (carry .entry))) (coreWith rl n rr (take (rl * n * rr) (now (slot .entry)))))
+        ≡ staged s (take (r * n * rr) (now (slot .exit))) ⌝ }
 {
     let size = rl * n * rr;
     let end = r * n * rr;
@@ -71,8 +73,10 @@ fn taken(
     r: usize,
     room: &mut [f64],
 ) -> answers::Verdict
-    requires { ⌜ (rl * n * rr ≤ length (now slot)) × (r * n * rr ≤ rl * n * rr) × (r * n * rr ≤ length (now slot)) × (r * n * rr ≤ length (now room)) × (1 ≤ rl) × (1 ≤ rr) × (k ≡ 0 → r ≡ rl) × (1 ≤ k → r * rl ≤ length (now carry)) ⌝ }
-    ensures { λ v. ⌜ takenIn k (carryFrom k r (take (r * rl) (now (carry .entry)))) (coreWith rl n rr (take (rl * n * rr) (now (slot .entry)))) ≡ answered v (coreWith r n rr (take (r * n * rr) (now (slot .exit)))) ⌝ }
+    requires { ⌜ (rl * n * rr ≤ length (now slot)) × (r * n * rr ≤ rl * n * rr) × (r * n * rr ≤ length (now slot)) × (r * n * rr ≤ length (now room))
+        × (1 ≤ rl) × (1 ≤ rr) × (k ≡ 0 → r ≡ rl) × (1 ≤ k → r * rl ≤ length (now carry)) ⌝ }
+    ensures { λ v. ⌜ takenIn k (carryFrom k r (take (r * rl) (now (carry .entry)))) (coreWith rl n rr (take (rl * n * rr) (now (slot .entry))))
+        ≡ answered v (coreWith r n rr (take (r * n * rr) (now (slot .exit)))) ⌝ }
 {
     if k < 1 {
         return answers::Verdict::Fits;
@@ -95,8 +99,10 @@ fn cut_front(
     carry: &mut [f64],
     room: &mut [f64],
 ) -> bond::BondCut
-    requires { ⌜ (rl * n * rr ≤ length (now slot)) × (rl * n * rr ≤ length (now room)) × (1 ≤ rl) × (1 ≤ n) × (1 ≤ rr) × (rr ≤ mostRank) × (rr * rr ≤ length (now carry)) ⌝ }
-    ensures { λ r. ⌜ (cutBond k eps (coreWith rl n rr (take (rl * n * rr) (now (slot .entry)))) ≡ answered (r .verdict) (record { core = coreWith rl n (r .rank) (take (rl * n * r .rank) (now (slot .exit))); sweeps = r .sweeps; settles = r .settles; carry = take (r .rank * rr) (now (carry .exit)) })) × (r .verdict ≡ Fits → r .rank ≤ rr) ⌝ }
+    requires { ⌜ (rl * n * rr ≤ length (now slot)) × (rl * n * rr ≤ length (now room)) × (1 ≤ rl) × (1 ≤ n) × (1 ≤ rr) × (rr ≤ mostRank)
+        × (rr * rr ≤ length (now carry)) ⌝ }
+    ensures { λ r. ⌜ (cutBond k eps (coreWith rl n rr (take (rl * n * rr) (now (slot .entry))))
+        ≡ answered (r .verdict) (record { core = coreWith rl n (r .rank) (take (rl * n * r .rank) (now (slot .exit))); sweeps = r .sweeps; settles = r .settles; carry = take (r .rank * rr) (now (carry .exit)) })) × (r .verdict ≡ Fits → r .rank ≤ rr) ⌝ }
 {
     let size = rl * n * rr;
     bond::cut_bond(&mut slot[0..size], k, rl, n, rr, eps, carry, room)
@@ -113,7 +119,8 @@ fn cut_in(
     carry: &mut [f64],
     room: &mut [f64],
 ) -> bond::BondCut
-    requires { ⌜ (rl * n * rr ≤ length (now slot)) × (rl * n * rr ≤ length (now room)) × (1 ≤ rl) × (1 ≤ n) × (1 ≤ rr) × (rr ≤ mostRank) × (rr * rr ≤ length (now carry)) ⌝ }
+    requires { ⌜ (rl * n * rr ≤ length (now slot)) × (rl * n * rr ≤ length (now room)) × (1 ≤ rl) × (1 ≤ n) × (1 ≤ rr) × (rr ≤ mostRank)
+        × (rr * rr ≤ length (now carry)) ⌝ }
     ensures { λ r. ⌜ bind (cutIf true k eps (coreWith rl n rr (take (rl * n * rr) (now (slot .entry))))) (λ x. done (laidCut (length (now (slot .entry))) (length (now (carry .entry))) x)) ≡ answered (r .verdict) (laidAs true rl (r .rank) (r .sweeps) (r .settles) (now (slot .exit)) (now (carry .exit))) ⌝ }
 {
     let cut = cut_front(slot, k, rl, n, rr, eps, carry, room);
@@ -130,7 +137,8 @@ fn cut_in(
 // The last core is not cut.
 fn last_in(slot: &mut [f64], rl: usize, n: usize, rr: usize) -> bond::BondCut
     requires { ⌜ (rl * n * rr ≤ length (now slot)) × (1 ≤ rr) ⌝ }
-    ensures { λ r. ⌜ (r ≡ record { verdict = Fits; rank = rr; sweeps = 0; settles = false }) × (now (slot .exit) ≡ fit zero64 (length (now (slot .entry))) (take (rl * n * rr) (now (slot .entry)))) ⌝ }
+    ensures { λ r. ⌜ (r ≡ record { verdict = Fits; rank = rr; sweeps = 0; settles = false })
+        × (now (slot .exit) ≡ fit zero64 (length (now (slot .entry))) (take (rl * n * rr) (now (slot .entry)))) ⌝ }
 {
     clear_behind(slot, rl * n * rr);
     bond::BondCut {
@@ -153,7 +161,8 @@ fn cut_if(
     carry: &mut [f64],
     room: &mut [f64],
 ) -> bond::BondCut
-    requires { ⌜ (rl * n * rr ≤ length (now slot)) × (rl * n * rr ≤ length (now room)) × (1 ≤ rl) × (1 ≤ n) × (1 ≤ rr) × (rr ≤ mostRank) × (more ≡ true → rr * rr ≤ length (now carry)) × (more ≡ false → length (now carry) ≡ 0) ⌝ }
+    requires { ⌜ (rl * n * rr ≤ length (now slot)) × (rl * n * rr ≤ length (now room)) × (1 ≤ rl) × (1 ≤ n) × (1 ≤ rr) × (rr ≤ mostRank)
+        × (more ≡ true → rr * rr ≤ length (now carry)) × (more ≡ false → length (now carry) ≡ 0) ⌝ }
     ensures { λ r. ⌜ bind (cutIf more k eps (coreWith rl n rr (take (rl * n * rr) (now (slot .entry))))) (λ x. done (laidCut (length (now (slot .entry))) (length (now (carry .entry))) x)) ≡ answered (r .verdict) (laidAs more rl (r .rank) (r .sweeps) (r .settles) (now (slot .exit)) (now (carry .exit))) ⌝ }
 {
     if more {

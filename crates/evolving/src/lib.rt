@@ -146,7 +146,9 @@ pub fn step(
     chain: &mut [f64],
     scratch: &mut [f64],
 ) -> rounding::Rounded
-    ensures { λ r. ⌜ (r ≡ stepCall set s (now (xs .entry)) (now (chain .entry)) (now (scratch .entry)) .result) × (now (chain .exit) ≡ stepCall set s (now (xs .entry)) (now (chain .entry)) (now (scratch .entry)) .chain) × (now (scratch .exit) ≡ stepCall set s (now (xs .entry)) (now (chain .entry)) (now (scratch .entry)) .scratch) ⌝ }
+    ensures { λ r. ⌜ (r ≡ stepCall set s (now (xs .entry)) (now (chain .entry)) (now (scratch .entry)) .result)
+        × (now (chain .exit) ≡ stepCall set s (now (xs .entry)) (now (chain .entry)) (now (scratch .entry)) .chain)
+        × (now (scratch .exit) ≡ stepCall set s (now (xs .entry)) (now (chain .entry)) (now (scratch .entry)) .scratch) ⌝ }
 {
     step_over(s, set, axes::gather(xs), xs.len(), chain, scratch)
 }

@@ -60,7 +60,7 @@ fn clear_column(u: &mut [f64], m: usize, r: usize, j: usize)
     }
 }
 
-// The test is made once a column.
+// The test is made once per column.
 fn finish_column(u: &mut [f64], m: usize, r: usize, j: usize, value: f64)
     requires { ⌜ (length (now u) ≡ m * r) × (j < r) ⌝ }
     ensures { λ _. ⌜ now (u .exit) ≡ finishColumn m r j value (now (u .entry)) ⌝ }
@@ -145,8 +145,10 @@ pub fn left_and_carry(
     carry: &mut [f64],
     room: &mut [f64],
 ) -> answers::Stage
-    requires { ⌜ (length (now core) ≡ rl * n * rr) × (1 ≤ rr) × (length (now v) ≡ rr * rr) × (r ≤ length (now js)) × Columns rr (now js) r × (r ≤ length (now ss)) × (r ≤ rr) × (length (now columns) ≡ rr * r) × (length (now carry) ≡ r * rr) × (length (now core) ≤ length (now room)) ⌝ }
-    ensures { λ s. ⌜ factorsOf (coreWith rl n rr (now (core .entry))) r (now (ss .entry)) (now (js .entry)) (now (v .entry)) ≡ staged s (record { left = take (rl * n * r) (now (core .exit)); carry = now (carry .exit) }) ⌝ }
+    requires { ⌜ (length (now core) ≡ rl * n * rr) × (1 ≤ rr) × (length (now v) ≡ rr * rr) × (r ≤ length (now js)) × Columns rr (now js) r
+        × (r ≤ length (now ss)) × (r ≤ rr) × (length (now columns) ≡ rr * r) × (length (now carry) ≡ r * rr) × (length (now core) ≤ length (now room)) ⌝ }
+    ensures { λ s. ⌜ factorsOf (coreWith rl n rr (now (core .entry))) r (now (ss .entry)) (now (js .entry)) (now (v .entry))
+        ≡ staged s (record { left = take (rl * n * r) (now (core .exit)); carry = now (carry .exit) }) ⌝ }
 {
     gather(v, rr, js, r, columns);
     let made = left_factor(core, rl * n, rr, columns, r, ss, room);
@@ -172,7 +174,8 @@ pub fn factor(
     carry: &mut [f64],
     room: &mut [f64],
 ) -> answers::Stage
-    requires { ⌜ (length (now core) ≡ rl * n * rr) × (1 ≤ rr) × (rr * rr ≤ length (now v)) × (rr ≤ length (now js)) × Columns rr (take rr (now js)) r × (rr ≤ length (now ss)) × (r ≤ rr) × (rr * rr ≤ length (now g)) × (rr * rr ≤ length (now carry)) × (length (now core) ≤ length (now room)) ⌝ }
+    requires { ⌜ (length (now core) ≡ rl * n * rr) × (1 ≤ rr) × (rr * rr ≤ length (now v)) × (rr ≤ length (now js)) × Columns rr (take rr (now js)) r
+        × (rr ≤ length (now ss)) × (r ≤ rr) × (rr * rr ≤ length (now g)) × (rr * rr ≤ length (now carry)) × (length (now core) ≤ length (now room)) ⌝ }
     ensures { λ s. ⌜ factorsOf (coreWith rl n rr (now (core .entry))) r (take rr (now (ss .entry))) (take rr (now (js .entry))) (take (rr * rr) (now (v .entry))) ≡ staged s (record { left = take (rl * n * r) (now (core .exit)); carry = take (r * rr) (now (carry .exit)) }) ⌝ }
 {
     let e = rr * rr;

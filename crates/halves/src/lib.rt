@@ -22,7 +22,8 @@ fn left_row(
     out: &mut [f64],
 )
     requires { ⌜ (length (now a) ≡ n * m) × (r ≤ length (now js)) × Columns n (now js) r × (r ≤ length (now ss)) × (row < m) × (m * r ≤ length (now out)) ⌝ }
-    ensures { λ _. ⌜ now (out .exit) ≡ storedFrom (row * r) r (λ (k : ℕ). times (times (cell m (now (a .entry)) (getD (now (js .entry)) k 0) row) (inverse (at (now (ss .entry)) k))) (at (now (ss .entry)) k)) (now (out .entry)) ⌝ }
+    ensures { λ _. ⌜ now (out .exit)
+        ≡ storedFrom (row * r) r (λ (k : ℕ). times (times (cell m (now (a .entry)) (getD (now (js .entry)) k 0) row) (inverse (at (now (ss .entry)) k))) (at (now (ss .entry)) k)) (now (out .entry)) ⌝ }
 {
     for k in 0..r {
         let col = js[k];
@@ -84,8 +85,10 @@ pub fn form(
     x: &mut [f64],
     y: &mut [f64],
 ) -> answers::Verdict
-    requires { ⌜ (length (now a) ≡ n * m) × (length (now v) ≡ n * n) × (r ≤ length (now js)) × Columns n (now js) r × (r ≤ length (now ss)) × (m * r ≤ length (now x)) × (r * n ≤ length (now y)) ⌝ }
-    ensures { λ w. ⌜ formedFrom m n r (now (ss .entry)) (now (js .entry)) (now (a .entry)) (now (v .entry)) ≡ answered w (record { left = take (m * r) (now (x .exit)); right = take (r * n) (now (y .exit)) }) ⌝ }
+    requires { ⌜ (length (now a) ≡ n * m) × (length (now v) ≡ n * n) × (r ≤ length (now js)) × Columns n (now js) r × (r ≤ length (now ss))
+        × (m * r ≤ length (now x)) × (r * n ≤ length (now y)) ⌝ }
+    ensures { λ w. ⌜ formedFrom m n r (now (ss .entry)) (now (js .entry)) (now (a .entry)) (now (v .entry))
+        ≡ answered w (record { left = take (m * r) (now (x .exit)); right = take (r * n) (now (y .exit)) }) ⌝ }
 {
     let lefts = left_core(a, m, n, js, ss, r, x);
     if let answers::Stage::Spilt(i) = lefts {

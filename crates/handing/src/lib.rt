@@ -52,7 +52,10 @@ pub fn commit(
     requires { ⌜ (SizesWithin s) × (z < s .d) ⌝ }
     requires { ⌜ (length (now chain) ≡ entriesOf s) × (length (now carries) ≡ offset (carrySize s) (s .d)) × (length (now sums) ≡ offset (sumSize s) (s .d)) ⌝ }
     requires { ⌜ (length (now chain) ≤ length (now work)) × (length (now carries) ≤ length (now held)) × (length (now sums) ≤ length (now summed)) ⌝ }
-    ensures { λ f. ⌜ (f ≡ at (now (summed .entry)) (offset (sumSize s) (s .d - 1))) × (now (chain .exit) ≡ over (offset (coreSize s) z) (now (chain .entry)) (now (work .entry))) × (now (carries .exit) ≡ over (offset (carrySize s) z) (now (carries .entry)) (now (held .entry))) × (now (sums .exit) ≡ over (offset (sumSize s) z) (now (sums .entry)) (now (summed .entry))) ⌝ }
+    ensures { λ f. ⌜ (f ≡ at (now (summed .entry)) (offset (sumSize s) (s .d - 1)))
+        × (now (chain .exit) ≡ over (offset (coreSize s) z) (now (chain .entry)) (now (work .entry)))
+        × (now (carries .exit) ≡ over (offset (carrySize s) z) (now (carries .entry)) (now (held .entry)))
+        × (now (sums .exit) ≡ over (offset (sumSize s) z) (now (sums .entry)) (now (summed .entry))) ⌝ }
 {
     let core = s.offset(z);
     let carry = walking::carry_offset(s, z);

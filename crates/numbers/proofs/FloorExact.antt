@@ -122,7 +122,10 @@ is-floor (fin t m e) r s u c f g v w h =
     whole-unique binary64 r (floorOf (fin t m e)) t c g (b .held) (subst (λ (y : Bool). HasValue r y c 1) (sym (v .0)) w) (subst (λ (y : ℕ). HasValue (floorOf (fin t m e)) t y 1) i (b .whole))
 
 pub kept-zero : (s : Bool) (e : ℤ) → T (fits binary64 (fin s zero e)) → floorOf (fin s zero e) ≡ fin s zero e
-kept-zero s e h = sym (is-floor (fin s zero e) (fin s zero e) s 0 0 h h (refl, ap (λ (x : ℕ). x * 2 ^ 1074) (zero-mul (up e)) ∙ zero-mul (2 ^ 1074) ∙ sym (zero-mul (down e))) (refl, mul-one (0 * up e) ∙ zero-mul (up e) ∙ sym (zero-mul (down e))) (none s))
+kept-zero s e h =
+    sym
+    (is-floor (fin s zero e) (fin s zero e) s 0 0 h h (refl, ap (λ (x : ℕ). x * 2 ^ 1074) (zero-mul (up e)) ∙ zero-mul (2 ^ 1074) ∙ sym (zero-mul (down e)))
+    (refl, mul-one (0 * up e) ∙ zero-mul (up e) ∙ sym (zero-mul (down e))) (none s))
   where
     none : (s : Bool) → Within s 0 0
     none false = (zero-le, pow-pos 1074)

@@ -17,7 +17,8 @@ fn pack(s: shape::Shape, t: shape::Shape, work: &[f64], chain: &mut [f64])
     requires { ⌜ (SizesWithin s) × (SizesWithin t) × (t .d ≡ s .d) ⌝ }
     requires { ⌜ ((k : ℕ) → k < s .d → coreSize t k ≤ coreSize s k) ⌝ }
     requires { ⌜ (entriesOf s ≤ length (now work)) × (entriesOf t ≤ length (now chain)) ⌝ }
-    ensures { λ _. ⌜ now (chain .exit) ≡ fit zero64 (length (now (chain .entry))) (joined (s .d) (λ (k : ℕ). take (coreSize t k) (slot (coreSize s) k (now (work .entry))))) ⌝ }
+    ensures { λ _. ⌜ now (chain .exit)
+        ≡ fit zero64 (length (now (chain .entry))) (joined (s .d) (λ (k : ℕ). take (coreSize t k) (slot (coreSize s) k (now (work .entry))))) ⌝ }
 {
     let mut from = 0;
     let mut at = 0;

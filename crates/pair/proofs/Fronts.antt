@@ -18,4 +18,7 @@ put-is e n x y u h g eu ey =
     rw (ey, eu, z, d) (sym (fit-whole zero64 n (take e x) (omega arith)))
   where
     drop-zeros : (e n : ℕ) → e ≤ n → drop e (replicate n zero64) ≡ replicate (n - e) zero64
-    drop-zeros e n g = let m : n ≡ e + (n - e) = omega arith in ap (λ (k : ℕ). drop e (replicate k zero64)) m ∙ ap (drop e) (sym (replicate-append-replicate e (n - e) zero64)) ∙ drop-at (replicate e zero64) (replicate (n - e) zero64) e (length-replicate e zero64)
+    drop-zeros e n g =
+        let m : n ≡ e + (n - e) = omega arith in
+        ap (λ (k : ℕ). drop e (replicate k zero64)) m ∙ ap (drop e) (sym (replicate-append-replicate e (n - e) zero64)) ∙ drop-at (replicate e zero64)
+        (replicate (n - e) zero64) e (length-replicate e zero64)

@@ -33,8 +33,10 @@ fn pair_of(
     x: &mut [f64],
     y: &mut [f64],
 ) -> splitting::Paired
-    requires { ⌜ Lines (l .rl * l .n) (r .n * r .rr) × (length (now left) ≡ l .rl * l .n * l .rr) × (length (now right) ≡ l .rr * (r .n * r .rr)) × (length (now a) ≡ r .n * r .rr * (l .rl * l .n)) × (mostLines * mostRank ≤ length (now x)) × (mostRank * mostLines ≤ length (now y)) ⌝ }
-    ensures { λ w. ⌜ pairOf eps (coreOf l (now (left .entry))) (coreOf r (now (right .entry))) ≡ answered (w .verdict) (record { left = coreWith (l .rl) (l .n) (w .rank) (take (l .rl * l .n * w .rank) (now (x .exit))); right = coreWith (w .rank) (r .n) (r .rr) (take (w .rank * (r .n * r .rr)) (now (y .exit))); passes = w .passes }) ⌝ }
+    requires { ⌜ Lines (l .rl * l .n) (r .n * r .rr) × (length (now left) ≡ l .rl * l .n * l .rr) × (length (now right) ≡ l .rr * (r .n * r .rr))
+        × (length (now a) ≡ r .n * r .rr * (l .rl * l .n)) × (mostLines * mostRank ≤ length (now x)) × (mostRank * mostLines ≤ length (now y)) ⌝ }
+    ensures { λ w. ⌜ pairOf eps (coreOf l (now (left .entry))) (coreOf r (now (right .entry)))
+        ≡ answered (w .verdict) (record { left = coreWith (l .rl) (l .n) (w .rank) (take (l .rl * l .n * w .rank) (now (x .exit))); right = coreWith (w .rank) (r .n) (r .rr) (take (w .rank * (r .n * r .rr)) (now (y .exit))); passes = w .passes }) ⌝ }
 {
     let m = l.rl * l.n;
     let n = r.n * r.rr;
@@ -95,7 +97,8 @@ pub fn contract_and_split(
     rights: &mut [f64],
     scratch: &mut [f64],
 ) -> splitting::Paired
-    ensures { λ w. ⌜ record { result = w; left = now (lefts .exit); right = now (rights .exit); scratch = now (scratch .exit) } ≡ pairCall (coreOf l (now (left .entry))) (coreOf r (now (right .entry))) eps (now (lefts .entry)) (now (rights .entry)) (now (scratch .entry)) ⌝ }
+    ensures { λ w. ⌜ record { result = w; left = now (lefts .exit); right = now (rights .exit); scratch = now (scratch .exit) }
+        ≡ pairCall (coreOf l (now (left .entry))) (coreOf r (now (right .entry))) eps (now (lefts .entry)) (now (rights .entry)) (now (scratch .entry)) ⌝ }
 {
     let ok = checks::pair_ok(
         l,

@@ -34,7 +34,8 @@ fn valued(
     n: usize,
 ) -> passes::Passes
     requires { ⌜ (length (now a) ≡ n * m) × (allFinite (now a) ≡ true) × (length (now v) ≡ n * n) × (length (now sv) ≡ n) × (length (now b) ≡ n * m) ⌝ }
-    ensures { λ r. ⌜ valuedFrom m n (now (a .entry)) ≡ staged (r .stage) (record { passes = made (r .count) (svd (now (a .exit)) (now (v .exit))); values = now (sv .exit) }) ⌝ }
+    ensures { λ r. ⌜ valuedFrom m n (now (a .entry))
+        ≡ staged (r .stage) (record { passes = made (r .count) (svd (now (a .exit)) (now (v .exit))); values = now (sv .exit) }) ⌝ }
 {
     rotation::eye(v, n);
     columns::square(a, m, n, sv);
@@ -70,8 +71,10 @@ fn cut(
     x: &mut [f64],
     y: &mut [f64],
 ) -> splitting::Paired
-    requires { ⌜ Lines m n × (length (now a) ≡ n * m) × (length (now v) ≡ n * n) × (length (now sv) ≡ n) × (allFinite (now sv) ≡ true) × (mostLines * mostRank ≤ length (now x)) × (mostRank * mostLines ≤ length (now y)) ⌝ }
-    ensures { λ w. ⌜ cutFrom eps m n (made count (svd (now (a .entry)) (now (v .entry)))) (now (sv .entry)) ≡ answered (w .verdict) (record { rank = w .rank; left = take (m * w .rank) (now (x .exit)); right = take (w .rank * n) (now (y .exit)); passes = w .passes }) ⌝ }
+    requires { ⌜ Lines m n × (length (now a) ≡ n * m) × (length (now v) ≡ n * n) × (length (now sv) ≡ n) × (allFinite (now sv) ≡ true)
+        × (mostLines * mostRank ≤ length (now x)) × (mostRank * mostLines ≤ length (now y)) ⌝ }
+    ensures { λ w. ⌜ cutFrom eps m n (made count (svd (now (a .entry)) (now (v .entry)))) (now (sv .entry))
+        ≡ answered (w .verdict) (record { rank = w .rank; left = take (m * w .rank) (now (x .exit)); right = take (w .rank * n) (now (y .exit)); passes = w .passes }) ⌝ }
 {
     let mut js = [0; slabs::MOST_LINES];
     let mut ss = [0.0; slabs::MOST_LINES];
@@ -92,8 +95,10 @@ pub fn split(
     x: &mut [f64],
     y: &mut [f64],
 ) -> splitting::Paired
-    requires { ⌜ Lines m n × (length (now a) ≡ n * m) × (allFinite (now a) ≡ true) × (mostLines * mostRank ≤ length (now x)) × (mostRank * mostLines ≤ length (now y)) ⌝ }
-    ensures { λ w. ⌜ splitFrom eps m n (now (a .entry)) ≡ answered (w .verdict) (record { rank = w .rank; left = take (m * w .rank) (now (x .exit)); right = take (w .rank * n) (now (y .exit)); passes = w .passes }) ⌝ }
+    requires { ⌜ Lines m n × (length (now a) ≡ n * m) × (allFinite (now a) ≡ true) × (mostLines * mostRank ≤ length (now x))
+        × (mostRank * mostLines ≤ length (now y)) ⌝ }
+    ensures { λ w. ⌜ splitFrom eps m n (now (a .entry))
+        ≡ answered (w .verdict) (record { rank = w .rank; left = take (m * w .rank) (now (x .exit)); right = take (w .rank * n) (now (y .exit)); passes = w .passes }) ⌝ }
 {
     let mut v = [0.0; slabs::MOST_LINES * slabs::MOST_LINES];
     let mut sv = [0.0; slabs::MOST_LINES];

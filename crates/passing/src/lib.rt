@@ -31,7 +31,8 @@ fn apply_jacobi_rotation(
     s: f64,
 ) -> answers::Stage
     requires { ⌜ Held m n (now a) (now v) (now ss) × (p < q) × (q < n) ⌝ }
-    ensures { λ r. ⌜ (turned m n p q c s (svd (now (a .entry)) (now (v .entry))) ≡ staged r (svd (now (a .exit)) (now (v .exit)))) × (now (ss .exit) ≡ squares m n (now (a .exit))) ⌝ }
+    ensures { λ r. ⌜ (turned m n p q c s (svd (now (a .entry)) (now (v .entry))) ≡ staged r (svd (now (a .exit)) (now (v .exit))))
+        × (now (ss .exit) ≡ squares m n (now (a .exit))) ⌝ }
 {
     columns::turn(a, m, n, p, q, c, s);
     columns::turn(v, n, n, p, q, c, s);
@@ -55,7 +56,8 @@ fn rotate(
     quiet: bool,
 ) -> Turn
     requires { ⌜ Held m n (now a) (now v) (now ss) × (p < q) × (q < n) ⌝ }
-    ensures { λ r. ⌜ (rotate m n p q (passed (svd (now (a .entry)) (now (v .entry))) quiet) ≡ staged (r .stage) (passed (svd (now (a .exit)) (now (v .exit))) (r .quiet))) × (now (ss .exit) ≡ squares m n (now (a .exit))) ⌝ }
+    ensures { λ r. ⌜ (rotate m n p q (passed (svd (now (a .entry)) (now (v .entry))) quiet)
+        ≡ staged (r .stage) (passed (svd (now (a .exit)) (now (v .exit))) (r .quiet))) × (now (ss .exit) ≡ squares m n (now (a .exit))) ⌝ }
 {
     let alpha = columns::dot(a, m, n, p, q);
     let low = ss[p];
@@ -80,7 +82,8 @@ fn pass_row(
     still: bool,
 ) -> Turn
     requires { ⌜ Held m n (now a) (now v) (now ss) × (p < n) ⌝ }
-    ensures { λ r. ⌜ (passRow m n p (passed (svd (now (a .entry)) (now (v .entry))) still) ≡ staged (r .stage) (passed (svd (now (a .exit)) (now (v .exit))) (r .quiet))) × (now (ss .exit) ≡ squares m n (now (a .exit))) ⌝ }
+    ensures { λ r. ⌜ (passRow m n p (passed (svd (now (a .entry)) (now (v .entry))) still)
+        ≡ staged (r .stage) (passed (svd (now (a .exit)) (now (v .exit))) (r .quiet))) × (now (ss .exit) ≡ squares m n (now (a .exit))) ⌝ }
 {
     let mut quiet = still;
     for q in p + 1..n {
@@ -97,7 +100,8 @@ fn pass_row(
 // One pass.
 fn pass(a: &mut [f64], v: &mut [f64], ss: &mut [f64], m: usize, n: usize) -> Turn
     requires { ⌜ Held m n (now a) (now v) (now ss) ⌝ }
-    ensures { λ r. ⌜ (pass m n (svd (now (a .entry)) (now (v .entry))) ≡ staged (r .stage) (passed (svd (now (a .exit)) (now (v .exit))) (r .quiet))) × (now (ss .exit) ≡ squares m n (now (a .exit))) ⌝ }
+    ensures { λ r. ⌜ (pass m n (svd (now (a .entry)) (now (v .entry))) ≡ staged (r .stage) (passed (svd (now (a .exit)) (now (v .exit))) (r .quiet)))
+        × (now (ss .exit) ≡ squares m n (now (a .exit))) ⌝ }
 {
     let mut quiet = true;
     for p in 0..n {
@@ -122,7 +126,8 @@ pub fn orthogonalize(
     n: usize,
 ) -> passes::Passes
     requires { ⌜ Held m n (now a) (now v) (now ss) ⌝ }
-    ensures { λ r. ⌜ (orthogonalized m n (svd (now (a .entry)) (now (v .entry))) ≡ staged (r .stage) (made (r .count) (svd (now (a .exit)) (now (v .exit))))) × (now (ss .exit) ≡ squares m n (now (a .exit))) ⌝ }
+    ensures { λ r. ⌜ (orthogonalized m n (svd (now (a .entry)) (now (v .entry)))
+        ≡ staged (r .stage) (made (r .count) (svd (now (a .exit)) (now (v .exit))))) × (now (ss .exit) ≡ squares m n (now (a .exit))) ⌝ }
 {
     let mut count: usize = 0;
     let mut quiet = false;

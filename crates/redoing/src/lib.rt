@@ -19,7 +19,9 @@ fn step_again(
     carries: &mut [f64],
 ) -> walking::Walked
     requires { ⌜ Steps z w set xs (now work) (now carries) ⌝ }
-    ensures { λ r. ⌜ ((weights : List Float) → restep rules (inPlace (w .shape) xs set (now (work .entry)) weights) (heldBy w (now (work .entry)) (now (carries .entry))) z ≡ answered (r .verdict) (heldBy r (now (work .exit)) (now (carries .exit)))) × (r .verdict ≡ Fits → RanksWithin (w .shape) (r .ranks) (w .shape .d)) ⌝ }
+    ensures { λ r. ⌜ ((weights : List Float) →
+        restep rules (inPlace (w .shape) xs set (now (work .entry)) weights) (heldBy w (now (work .entry)) (now (carries .entry))) z
+        ≡ answered (r .verdict) (heldBy r (now (work .exit)) (now (carries .exit)))) × (r .verdict ≡ Fits → RanksWithin (w .shape) (r .ranks) (w .shape .d)) ⌝ }
 {
     let s = w.shape;
     let mut room = [0.0; rounding::MOST_CORE];

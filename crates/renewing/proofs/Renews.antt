@@ -76,7 +76,10 @@ module _ (r : Run) (z : ℕ) (weights chain carries sums scratch : List Float) (
       s = r .shape
 
       own : workFrom rules (heldIn (inPlace (r .shape) (r .axes) (r .set) scratch weights) (walkedOf r) scratch held summed) z ≡ answered (x .verdict) (heldIn (inPlace (r .shape) (r .axes) (r .set) scratch weights) x work held' summed')
-      own = subst (λ (y : Walked). workFrom rules (heldIn (inPlace (y .shape) (r .axes) (r .set) scratch weights) y scratch held summed) z ≡ answered (x .verdict) (heldIn (inPlace (y .shape) (r .axes) (r .set) scratch weights) x work held' summed')) e o
+      own =
+          subst
+          (λ (y : Walked). workFrom rules (heldIn (inPlace (y .shape) (r .axes) (r .set) scratch weights) y scratch held summed) z ≡ answered (x .verdict)
+          (heldIn (inPlace (y .shape) (r .axes) (r .set) scratch weights) x work held' summed')) e o
 
       abbrev figure : Float
       figure = at summed' (offset (sumSize (r .shape)) (r .shape .d - 1))
@@ -94,7 +97,11 @@ module _ (r : Run) (z : ℕ) (weights chain carries sums scratch : List Float) (
       pub renew-stops : (q : Refusal) → x .verdict ≡ Refused q → (a : Ran) → a ≡ record { verdict = Refused q; run = r } → Renewed r z weights chain carries sums scratch a chain carries sums
       unfolding answered
       renew-stops q f a g = subst (λ (y : Ran). Renewed r z weights chain carries sums scratch y chain carries sums) (sym g) (record {
-        work = λ source h. came source h ∙ ap (λ (v : Verdict). answered v (keptOf (runWith r x figure) source weights (over (offset (coreSize s) z) chain work) (over (offset (carrySize s) z) carries held') (over (offset (sumSize s) z) sums summed'))) f;
+        work =
+            λ source h. came source h ∙ ap
+            (λ (v : Verdict). answered v
+            (keptOf (runWith r x figure) source weights (over (offset (coreSize s) z) chain work) (over (offset (carrySize s) z) carries held')
+            (over (offset (sumSize s) z) sums summed'))) f;
         left = λ p h. (refl, refl, refl, refl);
       })
 

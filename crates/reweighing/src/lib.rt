@@ -44,7 +44,8 @@ fn sums_anew(
     requires { ⌜ (SizesWithin s) × (Inside s t) × (entriesOf s ≤ length (now chain)) ⌝ }
     requires { ⌜ (z < s .d) × (length (now part) ≡ pointSize s z) × (length (now weights) ≡ allPoints s) ⌝ }
     requires { ⌜ (length (now sums) ≡ offset (sumSize s) (s .d)) × (length (now sums) ≤ length (now held)) ⌝ }
-    ensures { λ v. ⌜ sumsFrom s t (now (chain .entry)) (put (pointSize s) z (now (part .entry)) (now (weights .entry))) z (now (sums .entry)) ≡ answered v (take (length (now (sums .entry))) (now (held .exit))) ⌝ }
+    ensures { λ v. ⌜ sumsFrom s t (now (chain .entry)) (put (pointSize s) z (now (part .entry)) (now (weights .entry))) z (now (sums .entry))
+        ≡ answered v (take (length (now (sums .entry))) (now (held .exit))) ⌝ }
 {
     let mut anew = [0.0; WEIGHTS];
     with_part(s, z, weights, part, &mut anew);
@@ -65,7 +66,10 @@ fn commit(
 ) -> f64
     requires { ⌜ (SizesWithin s) × (length (now sums) ≤ length (now held)) ⌝ }
     requires { ⌜ (z < s .d) × (length (now part) ≡ pointSize s z) × (length (now weights) ≡ allPoints s) × (length (now sums) ≡ offset (sumSize s) (s .d)) ⌝ }
-    ensures { λ f. ⌜ (now (weights .exit) ≡ put (pointSize s) z (now (part .entry)) (now (weights .entry))) × (now (sums .exit) ≡ take (offset (sumSize s) z) (now (sums .entry)) ++ drop (offset (sumSize s) z) (take (length (now (sums .entry))) (now (held .entry)))) × (f ≡ at (now (sums .exit)) (offset (sumSize s) (s .d - 1))) ⌝ }
+    ensures { λ f. ⌜ (now (weights .exit) ≡ put (pointSize s) z (now (part .entry)) (now (weights .entry)))
+        × (now (sums .exit)
+        ≡ take (offset (sumSize s) z) (now (sums .entry)) ++ drop (offset (sumSize s) z) (take (length (now (sums .entry))) (now (held .entry))))
+        × (f ≡ at (now (sums .exit)) (offset (sumSize s) (s .d - 1))) ⌝ }
 {
     let point = s.points_offset(z);
     let from = summing::sum_offset(s, z);
@@ -96,7 +100,8 @@ pub fn resummed(
 ) -> kept::Ran
     requires { ⌜ shapeOk (r .shape) (rankHeld (r .shape) (r .ranks)) ≡ done tt ⌝ }
     requires { ⌜ Lent (r .shape) z (now part) (now weights) (now chain) (now sums) ⌝ }
-    ensures { λ a. ⌜ ((source carries scratch : List Float) → record { result = a; source = source; weights = now (weights .exit); chain = now (chain .entry); carries = carries; sums = now (sums .exit); scratch = zeros (length scratch) } ≡ weightsEnd r z source (now (weights .entry)) (now (chain .entry)) carries (now (sums .entry)) (now (part .entry)) scratch) ⌝ }
+    ensures { λ a. ⌜ ((source carries scratch : List Float) →
+        record { result = a; source = source; weights = now (weights .exit); chain = now (chain .entry); carries = carries; sums = now (sums .exit); scratch = zeros (length scratch) } ≡ weightsEnd r z source (now (weights .entry)) (now (chain .entry)) carries (now (sums .entry)) (now (part .entry)) scratch) ⌝ }
 {
     let s = r.shape;
     let ranks = r.ranks;

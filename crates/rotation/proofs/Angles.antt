@@ -48,5 +48,7 @@ eye-is n k m z v ez em ev p q =
     zero-there i j a b = ap (λ (l : List Float). at l (i * n + j)) ez ∙ getD-replicate m (i * n + j) zero64 nan (cell-lt i n n j m a b (le-of-eq (sym em)))
 
     go : (i j : ℕ) → i < n → j < n → (b : Bool) → eqb i j ≡ b → at (altered nan x f z n) (i * n + j) ≡ pick b one64 zero64
-    go i j a b true e = ap (λ (y : ℕ). at (altered nan x f z n) (i * n + y)) (sym (eqb-is i j e)) ∙ altered-at nan x f z n (λ i' j' a' b' e'. cell-row i' j' n i' j' a' b' e') (λ i' a'. cell-lt i' n n i' (length z) a' a' (le-of-eq (sym long))) n i (le-refl n) a
+    go i j a b true e =
+        ap (λ (y : ℕ). at (altered nan x f z n) (i * n + y)) (sym (eqb-is i j e)) ∙ altered-at nan x f z n (λ i' j' a' b' e'. cell-row i' j' n i' j' a' b' e')
+        (λ i' a'. cell-lt i' n n i' (length z) a' a' (le-of-eq (sym long))) n i (le-refl n) a
     go i j a b false e = altered-other nan x f z n (i * n + j) (λ r h d. eqb-not i j e (cell-row i r n j r b h d ∙ sym (cell-column i r n j r b h d))) ∙ zero-there i j a b

@@ -69,7 +69,8 @@ pub fn finish(
 ) -> Rounded
     requires { ⌜ SizesWithin s ⌝ }
     requires { ⌜ (w .verdict ≡ Fits → Inside s (w .shape)) × (entriesOf s ≤ length (now chain)) × (entriesOf s ≤ length (now scratch)) ⌝ }
-    ensures { λ r. ⌜ record { result = r; chain = now (chain .exit); scratch = now (scratch .exit) } ≡ finished s w (now (chain .entry)) (now (scratch .entry)) ⌝ }
+    ensures { λ r. ⌜ record { result = r; chain = now (chain .exit); scratch = now (scratch .exit) }
+        ≡ finished s w (now (chain .entry)) (now (scratch .entry)) ⌝ }
 {
     let verdict = w.verdict;
     let t = w.shape;
@@ -98,7 +99,8 @@ pub const MOST_CARRIES: usize = shape::MOST_AXES * (shape::MOST_RANK * shape::MO
 fn round_all(s: shape::Shape, eps: f64, chain: &mut [f64], scratch: &mut [f64]) -> Rounded
     requires { ⌜ chainOk s ≡ done tt ⌝ }
     requires { ⌜ (length (now chain) ≡ entriesOf s) × (entriesOf s ≤ length (now scratch)) ⌝ }
-    ensures { λ r. ⌜ record { result = r; chain = now (chain .exit); scratch = now (scratch .exit) } ≡ endedBy s (now (chain .entry)) (now (scratch .entry)) (rounding eps (coresOf s (now (chain .entry)))) ⌝ }
+    ensures { λ r. ⌜ record { result = r; chain = now (chain .exit); scratch = now (scratch .exit) }
+        ≡ endedBy s (now (chain .entry)) (now (scratch .entry)) (rounding eps (coresOf s (now (chain .entry)))) ⌝ }
 {
     let mut carries = [0.0; MOST_CARRIES];
     let mut room = [0.0; MOST_CORE];
@@ -109,7 +111,8 @@ fn round_all(s: shape::Shape, eps: f64, chain: &mut [f64], scratch: &mut [f64]) 
 
 // Rounds a chain: bond by bond from the left.
 pub fn tt_round(s: shape::Shape, eps: f64, chain: &mut [f64], scratch: &mut [f64]) -> Rounded
-    ensures { λ r. ⌜ record { result = r; chain = now (chain .exit); scratch = now (scratch .exit) } ≡ roundCall s eps (now (chain .entry)) (now (scratch .entry)) ⌝ }
+    ensures { λ r. ⌜ record { result = r; chain = now (chain .exit); scratch = now (scratch .exit) }
+        ≡ roundCall s eps (now (chain .entry)) (now (scratch .entry)) ⌝ }
 {
     let ok = measuring::round_ok(s, eps, chain, scratch.len());
     if let answers::Verdict::Refused(r) = ok {

@@ -109,7 +109,9 @@ module _ (s : Shape) (xs : List Axis) (set : Settings) (source weights chain car
 
   rooms : roomOk s m ≡ roomOf s (length chain) (length carries) (length sums) (length scratch)
   unfolding roomOk keptLent scratchLent roomOf scratchOf
-  rooms = grouped (demand (eqb (length chain) (entriesOf s)) (Length 2)) (demand (eqb (length carries) (allCarries s)) (Length 3)) (demand (eqb (length sums) (allSums s)) (Length 4)) (demand (eqb (length scratch) (scratchFor (entriesOf s))) (Length 5))
+  rooms =
+      grouped (demand (eqb (length chain) (entriesOf s)) (Length 2)) (demand (eqb (length carries) (allCarries s)) (Length 3))
+      (demand (eqb (length sums) (allSums s)) (Length 4)) (demand (eqb (length scratch) (scratchFor (entriesOf s))) (Length 5))
     where
       grouped : (a b c d : Check) → (a then b then c) then d ≡ a then b then c then d
       grouped (refused r) b c d = refl

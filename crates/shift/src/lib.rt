@@ -76,8 +76,10 @@ fn shift_block(
     behind: &[usize; 4],
     out: &mut [f64],
 )
-    requires { ⌜ (length (now out) ≤ length (now t)) × Room (now ahead) (length (now out)) (length (now t)) × Room (now behind) (length (now out)) (length (now t)) ⌝ }
-    ensures { λ _. ⌜ now (out .exit) ≡ tab (length (now (out .entry))) (entryIn (now (t .entry)) (now (forward .entry)) (now (ahead .entry)) (now (backward .entry)) (now (behind .entry))) ⌝ }
+    requires { ⌜ (length (now out) ≤ length (now t)) × Room (now ahead) (length (now out)) (length (now t))
+        × Room (now behind) (length (now out)) (length (now t)) ⌝ }
+    ensures { λ _. ⌜ now (out .exit)
+        ≡ tab (length (now (out .entry))) (entryIn (now (t .entry)) (now (forward .entry)) (now (ahead .entry)) (now (backward .entry)) (now (behind .entry))) ⌝ }
 {
     for j in 0..out.len() {
         let x = bands::entry_at(t, j, forward, ahead, backward, behind);
@@ -107,8 +109,10 @@ fn shift_blocks(
     out: &mut [f64],
     t: &mut [f64],
 )
-    requires { ⌜ (length (now core) ≡ rl * h) × (length (now out) ≡ rl * h) × (length (now t) ≡ h + h) × Room (now ahead) h (h + h) × Room (now behind) h (h + h) ⌝ }
-    ensures { λ _. ⌜ now (out .exit) ≡ blocksOf (now (core .entry)) rl h (now (forward .entry)) (now (ahead .entry)) (now (backward .entry)) (now (behind .entry)) ⌝ }
+    requires { ⌜ (length (now core) ≡ rl * h) × (length (now out) ≡ rl * h) × (length (now t) ≡ h + h) × Room (now ahead) h (h + h)
+        × Room (now behind) h (h + h) ⌝ }
+    ensures { λ _. ⌜ now (out .exit)
+        ≡ blocksOf (now (core .entry)) rl h (now (forward .entry)) (now (ahead .entry)) (now (backward .entry)) (now (behind .entry)) ⌝ }
 {
     for k in 0..rl {
         let b = k * h;

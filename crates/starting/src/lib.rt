@@ -92,7 +92,8 @@ fn start_of(s: shape::Shape) -> Started
 
 // The separable start: a chain of rank one whose core k holds vector k.
 pub fn rank1_separable(s: shape::Shape, vectors: &[f64], chain: &mut [f64]) -> Started
-    ensures { λ r. ⌜ (r ≡ startCall s (now (vectors .entry)) (now (chain .entry)) .result) × (now (chain .exit) ≡ startCall s (now (vectors .entry)) (now (chain .entry)) .chain) ⌝ }
+    ensures { λ r. ⌜ (r ≡ startCall s (now (vectors .entry)) (now (chain .entry)) .result)
+        × (now (chain .exit) ≡ startCall s (now (vectors .entry)) (now (chain .entry)) .chain) ⌝ }
 {
     let ok = start_ok(s, vectors, chain.len());
     if let answers::Verdict::Refused(r) = ok {

@@ -46,7 +46,7 @@ module _ {E P Q R S Y : Type 0} (f : ℕ → P → Outcome E Q) (g : ℕ → Q �
 
 -- ---- shifts, scaling, bonds
 module _ (R : Rules) (t : Settings) (d : ℕ) where
-  -- a step leaves one carry and one core a zone
+  -- a step leaves one carry and one core per zone
   pub step-length : (k : ℕ) (s : Carry) (zs : List Zone) (tr : List (Carry × Cut)) → stepFrom R t d k s zs ≡ done tr → length tr ≡ length zs
   unfolding stepFrom
   step-length k s zs tr e = passes-length (shiftZone R t) (scaleZone R t) (roundZone R t d) k s zs tr e

@@ -45,7 +45,8 @@ pub fn step_from(
     requires { ⌜ (Stands s (w .shape) (now work)) × (Rooms (now room) (now block)) ⌝ }
     requires { ⌜ (z ≤ s .d) × ((k : ℕ) → z ≤ k → k < s .d → axisReaches set s xs k ≡ true) ⌝ }
     requires { ⌜ (w .verdict ≡ Fits) × AtZone s z z (w .shape) (heldBy w (now work) (now carries)) ⌝ }
-    ensures { λ r. ⌜ (stepHeld set s z xs (w .shape) (heldBy w (now (work .entry)) (now (carries .entry))) ≡ answered (r .verdict) (r .shape, heldBy r (now (work .exit)) (now (carries .exit)))) × (z ≡ 0 → r .verdict ≡ Fits → Inside s (r .shape)) ⌝ }
+    ensures { λ r. ⌜ (stepHeld set s z xs (w .shape) (heldBy w (now (work .entry)) (now (carries .entry)))
+        ≡ answered (r .verdict) (r .shape, heldBy r (now (work .exit)) (now (carries .exit)))) × (z ≡ 0 → r .verdict ≡ Fits → Inside s (r .shape)) ⌝ }
 {
     let t = w.shape;
     let moved = moving::move_from(z, s, t, set, xs, work, room, block);

@@ -21,7 +21,9 @@ sumsTo h b p q a w j k s = iter k (λ (i : ℕ). addedIn h (λ (t : ℕ). times 
 
 module _ (h : ℕ) (b : List Float) (p q : ℕ) (a : List Float) (w j : ℕ) (s : List Float) (g : h ≤ length s) where
   sums-length : (c : ℕ) → length (sumsTo h b p q a w j c s) ≡ length s
-  sums-length c = iter-keeps (λ (l : List Float). length l ≡ length s) (λ (k : ℕ). addedIn h (λ (t : ℕ). times (at b (k * q + p)) (at a (k * w + j + t)))) s refl (λ k l e. added-length (λ (t : ℕ). times (at b (k * q + p)) (at a (k * w + j + t))) l h ∙ e) c
+  sums-length c =
+      iter-keeps (λ (l : List Float). length l ≡ length s) (λ (k : ℕ). addedIn h (λ (t : ℕ). times (at b (k * q + p)) (at a (k * w + j + t)))) s refl
+      (λ k l e. added-length (λ (t : ℕ). times (at b (k * q + p)) (at a (k * w + j + t))) l h ∙ e) c
 
   sums-at : (c t : ℕ) → t < h → at s t ≡ zero64 → at (sumsTo h b p q a w j c s) t ≡ dotAt b p q a w c (j + t)
   unfolding dotAt sumTo sumOn

@@ -30,7 +30,8 @@ pub fn sum_offset(s: shape::Shape, k: usize) -> usize
 // The r sums that are held left of axis k, to the front of eta; left of axis 0 that is 1.
 fn left_sums(k: usize, s: shape::Shape, r: usize, sums: &[f64], eta: &mut [f64])
     requires { ⌜ SizesWithin s ⌝ }
-    requires { ⌜ (k < s .d) × (offset (sumSize s) (s .d) ≤ length (now sums)) × (1 ≤ r) × (r ≤ length (now eta)) × (k ≡ 0 → r ≡ 1) × (1 ≤ k → r ≤ rightOf s (k - 1)) ⌝ }
+    requires { ⌜ (k < s .d) × (offset (sumSize s) (s .d) ≤ length (now sums)) × (1 ≤ r) × (r ≤ length (now eta)) × (k ≡ 0 → r ≡ 1)
+        × (1 ≤ k → r ≤ rightOf s (k - 1)) ⌝ }
     ensures { λ _. ⌜ take r (now (eta .exit)) ≡ sumsLeft s r (now (sums .entry)) k ⌝ }
 {
     if k < 1 {

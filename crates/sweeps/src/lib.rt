@@ -217,7 +217,8 @@ pub fn sweeps_are(stage: answers::Stage, count: usize, settles: bool) -> Sweeps
 // are counted and not made.
 pub fn diagonalize(g: &mut [f64], v: &mut [f64], n: usize) -> Sweeps
     requires { ⌜ (length (now g) ≡ n * n) × (length (now v) ≡ n * n) ⌝ }
-    ensures { λ r. ⌜ diagonalized n (eig (now (g .entry)) (now (v .entry))) ≡ staged (r .stage) (swept (r .count) (r .settles) (eig (now (g .exit)) (now (v .exit)))) ⌝ }
+    ensures { λ r. ⌜ diagonalized n (eig (now (g .entry)) (now (v .entry)))
+        ≡ staged (r .stage) (swept (r .count) (r .settles) (eig (now (g .exit)) (now (v .exit)))) ⌝ }
 {
     let mut count: usize = 0;
     let mut settles = settled(g, n);

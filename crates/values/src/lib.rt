@@ -153,7 +153,8 @@ fn keep_within(
     js: &mut [usize],
 ) -> Kept
     requires { ⌜ (n * n ≤ length (now g)) × (1 ≤ n) × (n ≤ length (now sv)) × (n ≤ length (now ss)) × (n ≤ length (now js)) ⌝ }
-    ensures { λ r. ⌜ chosenOf eps n (take (n * n) (now (g .entry))) ≡ staged (r .stage) (record { rank = r .rank; order = take n (now (js .exit)); values = take n (now (ss .exit)) }) ⌝ }
+    ensures { λ r. ⌜ chosenOf eps n (take (n * n) (now (g .entry)))
+        ≡ staged (r .stage) (record { rank = r .rank; order = take n (now (js .exit)); values = take n (now (ss .exit)) }) ⌝ }
 {
     let e = n * n;
     keep_all(
@@ -169,7 +170,8 @@ fn keep_within(
 // Of the matrix at the front of g: its values, sorted, to the front of ss, their order to the front of js.
 pub fn keep(g: &[f64], n: usize, eps: f64, ss: &mut [f64], js: &mut [usize]) -> Kept
     requires { ⌜ (n * n ≤ length (now g)) × (1 ≤ n) × (n ≤ mostRank) × (n ≤ length (now ss)) × (n ≤ length (now js)) ⌝ }
-    ensures { λ r. ⌜ chosenOf eps n (take (n * n) (now (g .entry))) ≡ staged (r .stage) (record { rank = r .rank; order = take n (now (js .exit)); values = take n (now (ss .exit)) }) ⌝ }
+    ensures { λ r. ⌜ chosenOf eps n (take (n * n) (now (g .entry)))
+        ≡ staged (r .stage) (record { rank = r .rank; order = take n (now (js .exit)); values = take n (now (ss .exit)) }) ⌝ }
 {
     let mut sv = [0.0; shape::MOST_RANK];
     keep_within(g, n, eps, &mut sv, ss, js)

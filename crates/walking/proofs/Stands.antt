@@ -116,7 +116,10 @@ module _ (s : Shape) (z k : ℕ) (t : Shape) (h : Stepped) (w : SizesWithin s) (
 
     room : p .end - p .at ≡ coreSize s k → length (take (p .end - p .at) (drop (p .at) (h .chain))) ≡ coreSize s k
     unfolding slot
-    room f = ap (λ (p : Places). length (take (p .end - p .at) (drop (p .at) (h .chain)))) e ∙ ap (λ (n : ℕ). length (take n (drop (offset (coreSize s) k) (h .chain)))) (sym (ap (λ (p : Places). p .end - p .at) e) ∙ f) ∙ slot-length (coreSize s) k (h .chain) (chain-room zero64 s z k t h A lt)
+    room f =
+        ap (λ (p : Places). length (take (p .end - p .at) (drop (p .at) (h .chain)))) e ∙ ap
+        (λ (n : ℕ). length (take n (drop (offset (coreSize s) k) (h .chain)))) (sym (ap (λ (p : Places). p .end - p .at) e) ∙ f) ∙ slot-length (coreSize s) k
+        (h .chain) (chain-room zero64 s z k t h A lt)
 
     pub slot-lent : length (take (p .end - p .at) (drop (p .at) (h .chain))) ≡ coreSize s k
     slot-lent = room span

@@ -192,7 +192,8 @@ fn round_zone(
 ) -> Walked
     requires { ⌜ SizesWithin s ⌝ }
     requires { ⌜ (k < s .d) × (mostCore ≤ length (now room)) × AtZone s 1 k (w .shape) (heldBy w (now work) (now carries)) ⌝ }
-    ensures { λ r. ⌜ zoneTurn eps s k (w .shape, heldBy w (now (work .entry)) (now (carries .entry))) ≡ answered (r .verdict) (r .shape, heldBy r (now (work .exit)) (now (carries .exit))) ⌝ }
+    ensures { λ r. ⌜ zoneTurn eps s k (w .shape, heldBy w (now (work .entry)) (now (carries .entry)))
+        ≡ answered (r .verdict) (r .shape, heldBy r (now (work .exit)) (now (carries .exit))) ⌝ }
 {
     let cut = zone_cut(k, s, w, eps, work, carries, room);
     let r = left_rank(k, w);
@@ -214,7 +215,8 @@ pub fn round_from(
 ) -> Walked
     requires { ⌜ SizesWithin s ⌝ }
     requires { ⌜ (z ≤ s .d) × (mostCore ≤ length (now room)) × (w .verdict ≡ Fits) × AtZone s z z (w .shape) (heldBy w (now work) (now carries)) ⌝ }
-    ensures { λ r. ⌜ (roundFrom eps s z (w .shape) (heldBy w (now (work .entry)) (now (carries .entry))) ≡ answered (r .verdict) (r .shape, heldBy r (now (work .exit)) (now (carries .exit)))) × (z ≡ 0 → r .verdict ≡ Fits → Inside s (r .shape)) ⌝ }
+    ensures { λ r. ⌜ (roundFrom eps s z (w .shape) (heldBy w (now (work .entry)) (now (carries .entry)))
+        ≡ answered (r .verdict) (r .shape, heldBy r (now (work .exit)) (now (carries .exit)))) × (z ≡ 0 → r .verdict ≡ Fits → Inside s (r .shape)) ⌝ }
 {
     let mut x = w;
     let mut k = z;

@@ -101,7 +101,10 @@ filled-all ys = refl
 
 -- what a turn does where there is one more
 abbrev more : Body
-more = seq (call #axes·axis-at (copy (place 1 []) ∷ copy (place 3 []) ∷ []) (place 4 [])) (seq (call #axes·put (copy (place 2 []) ∷ copy (place 3 []) ∷ copy (place 4 []) ∷ []) (place 2 [])) (assign (place 3 []) (op2 (add unsigned) (copy (place 3 [])) (int w64 1))))
+more =
+    seq (call #axes·axis-at (copy (place 1 []) ∷ copy (place 3 []) ∷ []) (place 4 []))
+    (seq (call #axes·put (copy (place 2 []) ∷ copy (place 3 []) ∷ copy (place 4 []) ∷ []) (place 2 []))
+    (assign (place 3 []) (op2 (add unsigned) (copy (place 3 [])) (int w64 1))))
 
 module _ {M : Type 1} (𝓤 : URA M) (H : Heap 𝓤) (A : Atoms 𝓤) (mem : Memory → SProp 𝓤) (run : Routine → Fun 𝓤) where
   abbrev Blanks : Contract 𝓤

@@ -16,4 +16,7 @@ abbrev μ-loop : tie.MeasureT-loop
 
 pub band-spec : {M : Type 1} → statement M
 unfolding bandIn sumOn
-band-spec = tie.close (tie.spec Inv-loop μ-loop (λ c. search turns) (λ c. search turns) (λ c. search turns) (λ c. search turns) (λ c. search turns) (λ c. search (turns, rooms)) (λ c. search (turns, rooms)) (λ c. search (turns, rooms)) (λ c. search turns) (λ c. search turns) (λ c. search turns) (λ c. search turns))
+band-spec =
+    tie.close
+    (tie.spec Inv-loop μ-loop (λ c. search turns) (λ c. search turns) (λ c. search turns) (λ c. search turns) (λ c. search turns) (λ c. search (turns, rooms))
+    (λ c. search (turns, rooms)) (λ c. search (turns, rooms)) (λ c. search turns) (λ c. search turns) (λ c. search turns) (λ c. search turns))

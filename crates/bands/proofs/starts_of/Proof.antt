@@ -6,4 +6,8 @@ use Rattle.bands.proofs.starts_of.Statement.{statement}
 use Rattle.bands.proofs.starts_of.Tie as tie
 
 pub starts-of-spec : {M : Type 1} → statement M
-starts-of-spec = tie.close (tie.spec (λ c κs. search needs) (λ c. search needs) (λ c κs. search (needs, size-fits)) (λ c. search (needs, start-fits)) (λ c κs. search (needs, size-fits)) (λ c. search (needs, start-fits)) (λ c κs. search (needs, size-fits)) (λ c. search (needs, start-fits)) (λ c κs. search (needs, size-fits)) (λ c. search (needs, start-fits)) (λ c. search (needs, parts-whole, starts-are)))
+starts-of-spec =
+    tie.close
+    (tie.spec (λ c κs. search needs) (λ c. search needs) (λ c κs. search (needs, size-fits)) (λ c. search (needs, start-fits))
+    (λ c κs. search (needs, size-fits)) (λ c. search (needs, start-fits)) (λ c κs. search (needs, size-fits)) (λ c. search (needs, start-fits))
+    (λ c κs. search (needs, size-fits)) (λ c. search (needs, start-fits)) (λ c. search (needs, parts-whole, starts-are)))

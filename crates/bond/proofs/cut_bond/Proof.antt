@@ -5,7 +5,18 @@ use Rattle.bond.proofs.cut_bond.Statement.{statement}
 use Rattle.bond.proofs.cut_bond.Tie as tie
 
 cut-requires : tie.Need-cut-requires
-cut-requires c κs = (c .before .before .before .before .before .before .before .before .pre .0, c .before .before .before .before .before .before .before .before .pre .1, c .before .before .before .before .before .before .before .before .pre .2, c .before .before .before .before .before .before .before .before .pre .3, c .before .before .before .before .before .before .before .before .pre .4, mul-le-mul (c .before .before .before .before .before .before .before .before .pre .4) (c .before .before .before .before .before .before .before .before .pre .4), mul-le-mul (c .before .before .before .before .before .before .before .before .pre .4) (c .before .before .before .before .before .before .before .before .pre .4), c .before .before .before .before .before .before .before .before .pre .5, c .before .before .before .before .before .before .before .before .pre .6)
+cut-requires c κs =
+    let at-8 = c .before .before .before .before .before .before .before .before in (
+      at-8 .pre .0,
+      at-8 .pre .1,
+      at-8 .pre .2,
+      at-8 .pre .3,
+      at-8 .pre .4,
+      mul-le-mul (at-8 .pre .4) (at-8 .pre .4),
+      mul-le-mul (at-8 .pre .4) (at-8 .pre .4),
+      at-8 .pre .5,
+      at-8 .pre .6,
+    )
 
 pub cut-bond-spec : {M : Type 1} → statement M
 cut-bond-spec = tie.close (tie.spec (λ c. search needs) (λ c. search needs) cut-requires (λ c. search needs) (λ c. search needs) (λ c. search needs) (λ c. search needs))

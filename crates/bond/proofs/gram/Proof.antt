@@ -10,7 +10,9 @@ mul-product : tie.Need-mul-product
 mul-product c = record { fits = omega (arith, rows-most _ _ _ (c .before .before .pre .0) (c .before .before .pre .3)) }
 
 product-requires : tie.Need-product-requires
-product-requires c κs = omega (arith, row-most _ _ _ _ (c .before .before .before .pre .0) (c .before .before .before .pre .1) (c .before .before .before .pre .2))
+product-requires c κs =
+    let at-3 = c .before .before .before in
+    omega (arith, row-most _ _ _ _ (at-3 .pre .0) (at-3 .pre .1) (at-3 .pre .2))
 
 returns : tie.Need-returns
 returns c = gram-is _ _ _ _ _ _ (c .before .before .product .ensures) (c .before .before .before .before .before .before .pre .4)

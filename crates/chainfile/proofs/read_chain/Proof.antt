@@ -11,7 +11,9 @@ take-numbers-requires : tie.Need-take-numbers-requires
 take-numbers-requires c κs = call-asks _ (c .before .before .before .before .before .before .before .args .out .now) _ (c .before .before .before .before .read-ok .ensures) (c .before .before .enum-told .given .1)
 
 returns-2 : tie.Need-returns-2
-returns-2 c = call-reads _ _ _ (c .before .before .before .before .before .before .before .before .read-ok .ensures) (c .before .before .before .before .before .before .enum-told .given .1) _ _ (c .read-as .ensures) (c .before .before .before .take-numbers .ensures)
+returns-2 c =
+    call-reads _ _ _ (c .before .before .before .before .before .before .before .before .read-ok .ensures)
+    (c .before .before .before .before .before .before .enum-told .given .1) _ _ (c .read-as .ensures) (c .before .before .before .take-numbers .ensures)
 
 pub read-chain-spec : {M : Type 1} → statement M
 read-chain-spec = tie.close (tie.spec

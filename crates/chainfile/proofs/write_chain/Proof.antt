@@ -11,7 +11,10 @@ put-file-requires : tie.Need-put-file-requires
 put-file-requires c κs = write-asks _ _ (c .before .before .before .before .before .before .args .out .now) _ (c .before .before .before .write-ok .ensures) (c .before .enum-told .given .1)
 
 returns-2 : tie.Need-returns-2
-returns-2 c = write-made _ _ (c .before .before .before .before .before .before .before .before .before .args .out .now) _ (c .before .before .before .before .before .before .write-ok .ensures) (c .before .before .before .before .enum-told .given .1) _ (c .before .before .put-file .ensures)
+returns-2 c =
+    write-made _ _ (c .before .before .before .before .before .before .before .before .before .args .out .now) _
+    (c .before .before .before .before .before .before .write-ok .ensures) (c .before .before .before .before .enum-told .given .1) _
+    (c .before .before .put-file .ensures)
 
 pub write-chain-spec : {M : Type 1} → statement M
 write-chain-spec = tie.close (tie.spec

@@ -6,7 +6,11 @@ use Rattle.columns.proofs.square_again.Statement.{statement}
 use Rattle.columns.proofs.square_again.Tie as tie
 
 returns : tie.Need-returns
-returns c = squared-again _ _ (c .before .before .before .args .a .now) (c .before .before .before .args .ss .now) _ _ _ _ (c .before .before .before .pre .1) (c .before .before .before .pre .2) (c .before .before .before .pre .3) (c .before .before .before .pre .4) (c .squares-of .ensures .0) (c .squares-of .ensures .1)
+returns c =
+    let at-3 = c .before .before .before in
+    let start = c .before .before .before .args in
+    squared-again _ _ (start .a .now) (start .ss .now) _ _ _ _ (at-3 .pre .1) (at-3 .pre .2) (at-3 .pre .3) (at-3 .pre .4) (c .squares-of .ensures .0)
+    (c .squares-of .ensures .1)
 
 pub square-again-spec : {M : Type 1} → statement M
 square-again-spec = tie.close (tie.spec

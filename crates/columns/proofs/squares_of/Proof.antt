@@ -14,7 +14,9 @@ use Rattle.columns.proofs.squares_of.Tie as tie
 ruleset ways = (turns, exacts)
 
 abbrev Inv-loop : tie.InvT-loop
-Inv-loop a m n p q first₀ second₀ row₀ first second row = (row ≤ m) × (first ≡ iter row (λ (i : ℕ) (s : Float). plus s (times (cell m a p i) (cell m a p i))) first₀) × (second ≡ iter row (λ (i : ℕ) (s : Float). plus s (times (cell m a q i) (cell m a q i))) second₀)
+Inv-loop a m n p q first₀ second₀ row₀ first second row =
+    (row ≤ m) × (first ≡ iter row (λ (i : ℕ) (s : Float). plus s (times (cell m a p i) (cell m a p i))) first₀) ×
+    (second ≡ iter row (λ (i : ℕ) (s : Float). plus s (times (cell m a q i) (cell m a q i))) second₀)
 
 abbrev μ-loop : tie.MeasureT-loop
 μ-loop a m n p q first₀ second₀ row₀ first second row = m - row

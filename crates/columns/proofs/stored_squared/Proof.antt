@@ -6,7 +6,10 @@ use Rattle.columns.proofs.stored_squared.Statement.{statement}
 use Rattle.columns.proofs.stored_squared.Tie as tie
 
 returns : tie.Need-returns
-returns c = two-squared _ _ _ _ _ (c .before .before .before .before .before .before .before .pre .0) (c .before .before .before .before .before .before .before .pre .1) (c .before .before .before .before .before .before .before .pre .2) (c .before .before .before .before .before .before .before .pre .3) _ (c .before .before .before .before .before .before .before .pre .4) _ _ (c .before .before .before .is-finite .ensures) (c .before .is-finite2 .ensures) (c .if1 .taken)
+returns c =
+    let at-7 = c .before .before .before .before .before .before .before in
+    two-squared _ _ _ _ _ (at-7 .pre .0) (at-7 .pre .1) (at-7 .pre .2) (at-7 .pre .3) _ (at-7 .pre .4) _ _ (c .before .before .before .is-finite .ensures)
+    (c .before .is-finite2 .ensures) (c .if1 .taken)
 
 pub stored-squared-spec : {M : Type 1} → statement M
 stored-squared-spec = tie.close (tie.spec

@@ -14,7 +14,10 @@ abbrev μ-loop : tie.MeasureT-loop
 μ-loop bytes s start₀ k₀ start k = s .d - k
 
 returns : tie.Need-returns Inv-loop μ-loop
-returns c = entries-stop _ _ _ _ (c .before .before .before .before .before .before .loop .inv) (c .before .before .before .before .if1 .taken) (c .before .before .before .entry-ok .result) (c .before .before .before .entry-ok .ensures) _ (c .before .ok .given .1)
+returns c =
+    let at-3 = c .before .before .before in
+    entries-stop _ _ _ _ (c .before .before .before .before .before .before .loop .inv) (c .before .before .before .before .if1 .taken) (at-3 .entry-ok .result)
+    (at-3 .entry-ok .ensures) _ (c .before .ok .given .1)
 
 returns-2 : tie.Need-returns-2 Inv-loop μ-loop
 returns-2 c = entries-done _ _ _ _ (c .before .before .loop .inv) (c .if1 .left)

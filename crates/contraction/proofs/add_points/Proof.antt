@@ -16,4 +16,8 @@ abbrev μ-loop : tie.MeasureT-loop
 
 pub add-points-spec : {M : Type 1} → statement M
 unfolding pointsIn
-add-points-spec = tie.close (tie.spec Inv-loop μ-loop (λ c. search (turns, points)) (λ c. search (turns, points)) (λ c. search (turns, points)) (λ c. search (turns, points)) (λ c. search (turns, points)) (λ c κs. search (turns, points)) (λ c. search (turns, points)) (λ c. search (turns, points)) (λ c. search (turns, points)) (λ c. search (turns, points)))
+add-points-spec =
+    tie.close
+    (tie.spec Inv-loop μ-loop (λ c. search (turns, points)) (λ c. search (turns, points)) (λ c. search (turns, points)) (λ c. search (turns, points))
+    (λ c. search (turns, points)) (λ c κs. search (turns, points)) (λ c. search (turns, points)) (λ c. search (turns, points)) (λ c. search (turns, points))
+    (λ c. search (turns, points)))

@@ -29,4 +29,35 @@ abbrev μ-loop3 : tie.MeasureT-loop3
 μ-loop3 core rr f eta out₀ j₀ out j = rr - j
 
 pub contract-step-spec : {M : Type 1} → statement M
-contract-step-spec = tie.close (tie.spec Inv-loop μ-loop Inv-loop2 μ-loop2 Inv-loop3 μ-loop3 (λ c. search turns) (λ c. search turns) (λ c κs. search turns) (λ c. search turns) (λ c. search turns) (λ c. (search turns, search turns, search turns, front-more _ _ _ 8 _ _ _ (c .before .before .before .before .before .loop .inv .3) (c .before .before .before .before .before .loop .inv .0) (c .before .before .strip .ensures))) (λ c. search turns) (λ c. search turns) (λ c κs. search turns) (λ c. search turns) (λ c. search turns) (λ c. (search turns, search turns, search turns, front-more _ _ _ 4 _ _ _ (c .before .before .before .before .before .loop2 .inv .3) (c .before .before .before .before .before .loop2 .inv .0) (c .before .before .strip2 .ensures))) (λ c. search turns) (λ c κs. search turns) (λ c. search turns) (λ c. search turns) (λ c. (search turns, search turns, search turns, front-more _ _ _ 1 _ _ _ (c .before .before .before .before .before .loop3 .inv .3) (c .before .before .before .before .before .loop3 .inv .0) (c .before .before .strip3 .ensures))) (λ c. search turns) (λ c. contract-end _ _ _ _ _ _ _ (row-on _ _ _ _ _ _ _ _ (row-on _ _ _ _ _ _ _ _ (c .before .before .before .before .before .loop .inv .3) (c .before .before .before .before .before .loop .inv .0) (c .before .before .before .loop2 .inv .3) (c .before .before .before .loop2 .inv .0)) (omega arith) (c .before .loop3 .inv .3) (c .before .loop3 .inv .0)) (c .before .loop3 .inv .1) (c .loop3-test .left) (omega arith)))
+contract-step-spec =
+    tie.close
+    (tie.spec Inv-loop μ-loop Inv-loop2 μ-loop2 Inv-loop3 μ-loop3 (λ c. search turns) (λ c. search turns) (λ c κs. search turns) (λ c. search turns)
+    (λ c. search turns)
+    (λ c. (
+      search turns,
+      search turns,
+      search turns,
+      front-more _ _ _ 8 _ _ _ (c .before .before .before .before .before .loop .inv .3)
+          (c .before .before .before .before .before .loop .inv .0) (c .before .before .strip .ensures),
+    )) (λ c. search turns) (λ c. search turns)
+    (λ c κs. search turns) (λ c. search turns) (λ c. search turns)
+    (λ c. (
+      search turns,
+      search turns,
+      search turns,
+      front-more _ _ _ 4 _ _ _ (c .before .before .before .before .before .loop2 .inv .3)
+          (c .before .before .before .before .before .loop2 .inv .0) (c .before .before .strip2 .ensures),
+    )) (λ c. search turns) (λ c κs. search turns)
+    (λ c. search turns) (λ c. search turns)
+    (λ c. (
+      search turns,
+      search turns,
+      search turns,
+      front-more _ _ _ 1 _ _ _ (c .before .before .before .before .before .loop3 .inv .3)
+          (c .before .before .before .before .before .loop3 .inv .0) (c .before .before .strip3 .ensures),
+    )) (λ c. search turns)
+    (λ c. contract-end _ _ _ _ _ _ _
+    (row-on _ _ _ _ _ _ _ _
+    (row-on _ _ _ _ _ _ _ _ (c .before .before .before .before .before .loop .inv .3) (c .before .before .before .before .before .loop .inv .0)
+    (c .before .before .before .loop2 .inv .3) (c .before .before .before .loop2 .inv .0)) (omega arith) (c .before .loop3 .inv .3)
+    (c .before .loop3 .inv .0)) (c .before .loop3 .inv .1) (c .loop3-test .left) (omega arith)))

@@ -14,4 +14,11 @@ abbrev μ-loop : tie.MeasureT-loop
 μ-loop core rr f eta j h out sums₀ width a₀ sums a = length eta - a
 
 pub strip-spec : {M : Type 1} → statement M
-strip-spec = tie.close (tie.spec Inv-loop μ-loop (λ c. search (turns, blocks)) (λ c. search (turns, blocks)) (λ c. search (turns, blocks)) (λ c. search (turns, blocks)) (λ c. search (turns, blocks)) (λ c. search (turns, blocks)) (λ c κs. search (turns, blocks)) (λ c. search (turns, blocks)) (λ c. search (turns, blocks)) (λ c. search (turns, blocks)) (λ c κs. search (turns, blocks)) (λ c. search (turns, blocks)) (λ c. strip-end _ _ _ _ _ _ _ _ _ _ (c .before .before .before .before .before .before .loop .inv .2) (c .before .before .store-sums .ensures) (c .before .before .before .before .before .before .loop .inv .0) (c .before .before .before .before .before .loop-test .left) (c .before .before .before .before .before .before .before .before .before .before .before .pre .0)))
+strip-spec =
+    tie.close
+    (tie.spec Inv-loop μ-loop (λ c. search (turns, blocks)) (λ c. search (turns, blocks)) (λ c. search (turns, blocks)) (λ c. search (turns, blocks))
+    (λ c. search (turns, blocks)) (λ c. search (turns, blocks)) (λ c κs. search (turns, blocks)) (λ c. search (turns, blocks)) (λ c. search (turns, blocks))
+    (λ c. search (turns, blocks)) (λ c κs. search (turns, blocks)) (λ c. search (turns, blocks))
+    (λ c. strip-end _ _ _ _ _ _ _ _ _ _ (c .before .before .before .before .before .before .loop .inv .2) (c .before .before .store-sums .ensures)
+    (c .before .before .before .before .before .before .loop .inv .0) (c .before .before .before .before .before .loop-test .left)
+    (c .before .before .before .before .before .before .before .before .before .before .before .pre .0)))

@@ -9,7 +9,13 @@ use Rattle.cutting.proofs.cut_front.Tie as tie
 ruleset ways = (needs, sizes)
 
 returns : tie.Need-returns
-returns c = let i = c .before .before .before .before .before .before .before .before .before .before .before .before .before in let b = c .before .before .before .before .before .before .cut-bond in (front-cut _ _ _ _ _ _ _ _ _ _ _ _ (b .ensures) (i .pre .4) (b .kept .0 ∙ span-length _ _ (i .pre .0)) _, front-rank _ _ _ _ _ _ _ _ _ _ _ _ (b .ensures) (i .pre .4))
+returns c =
+    let i = c .before .before .before .before .before .before .before .before .before .before .before .before .before in
+    let b = c .before .before .before .before .before .before .cut-bond in (
+      front-cut _ _ _ _ _ _ _ _ _ _ _ _ (b .ensures) (i .pre .4) (b .kept .0 ∙ span-length _ _ (i .pre .0)) _,
+      front-rank _ _ _ _ _ _ _ _ _ _ _ _ (b .ensures)
+          (i .pre .4),
+    )
 
 pub cut-front-spec : {M : Type 1} → statement M
 cut-front-spec = tie.close (tie.spec

@@ -9,7 +9,11 @@ use Rattle.cutting.proofs.take_in.Tie as tie
 ruleset ways = (needs, sizes)
 
 returns : tie.Need-returns
-returns c = let a = c .before .before .before .before .before .before .before .before in let i = a .before .before .before .before .before .before .before in taken-is _ _ _ _ _ _ _ _ _ _ _ (a .absorbed .ensures) (a .absorbed .kept .1 .1 .1 .1 .1 .1 .0 ∙ span-length _ _ (i .pre .3)) (c .before .before .copy .ensures)
+returns c =
+    let a = c .before .before .before .before .before .before .before .before in
+    let i = a .before .before .before .before .before .before .before in
+    taken-is _ _ _ _ _ _ _ _ _ _ _ (a .absorbed .ensures) (a .absorbed .kept .1 .1 .1 .1 .1 .1 .0 ∙ span-length _ _ (i .pre .3))
+    (c .before .before .copy .ensures)
 
 pub take-in-spec : {M : Type 1} → statement M
 take-in-spec = tie.close (tie.spec

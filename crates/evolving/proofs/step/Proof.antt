@@ -167,7 +167,31 @@ module _ {M : Type 1} (𝓤 : URA M) (H : Heap 𝓤) (A : Atoms 𝓤) (W : Given
     walk ph px ps pc pw =
         qed W ((‵ (flft κ₀ q₀) ⊛ (‵ (flft κ₁ q₁) ⊛ (‵ (flft κ₂ q₂) ⊛ ‵ ftrue))) ∷ ‵ (owns (S.the-row ∷ P.the-row ∷ ShrSlice (named 0) κ₀ R ∷ MutSlice (named 1) κ₁ f64 ∷ MutSlice (named 2) κ₂ f64 ∷ []) (h, (x, (s, (c, (w, tt))))) vals) ∷ []) ∵ enter ! C Λ code.function (hv ∷ xv ∷ sv ∷ cv ∷ wv ∷ []) _ $
         alloc1 ! (λ l0. alloc1 ! (λ l1. alloc1 ! (λ l2. alloc1 ! (λ l3. alloc1 ! (λ l4. alloc1 ! (λ l5. alloc1 ! (λ l6. alloc1 ! (λ l7. alloc1 ! (λ l8. alloc1 ! (λ l9. alloc1 ! (λ l10. alloc1 ! (λ l11. alloc0 ! $ params1 ! $
-        pass1 ! (init ! 20 refl (LL.lawful S.the-type S′.the-laws 𝓤 H A W .typed h _ ph .0)) $ pass1 ! (init ! 18 refl (LL.lawful P.the-type P′.the-laws 𝓤 H A W .typed x _ px .0)) $ pass1 ! (init ! 16 refl (tt, (tt, (record { fits = ps .0 .1 .0 }, tt)))) $ pass1 ! (init ! 14 refl (tt, (tt, (record { fits = pc .0 .1 .0 }, tt)))) $ pass1 ! (init ! 12 refl (tt, (tt, (record { fits = pw .0 .1 .0 }, tt)))) $ pass0 ! $
+        pass1 ! (init ! 20 refl (LL.lawful S.the-type S′.the-laws 𝓤 H A W .typed h _ ph .0)) $ pass1 ! (init ! 18 refl (LL.lawful P.the-type P′.the-laws 𝓤 H A W .typed x _ px .0)) $ pass1 ! (init ! 16 refl (
+          tt,
+          (
+            tt,
+            (
+              record {
+                fits =
+                    ps .0 .1 .0;
+              },
+              tt,
+            ),
+          ),
+        )) $ pass1 ! (init ! 14 refl (tt, (tt, (record { fits = pc .0 .1 .0 }, tt)))) $ pass1 ! (init ! 12 refl (
+          tt,
+          (
+            tt,
+            (
+              record {
+                fits
+                    = pw .0 .1 .0;
+              },
+              tt,
+            ),
+          ),
+        )) $ pass0 ! $
         -- the tokens and what the parameters own, apart
         move ! (24 ∷ []) $ split ! $ move ! (1 ∷ []) $ split ! $ move ! (1 ∷ []) $ split ! $ move ! (1 ∷ []) $ drop ! $
         -- [κ₂; κ₁; κ₀; the locals; what the parameters own]
@@ -185,9 +209,33 @@ module _ {M : Type 1} (𝓤 : URA M) (H : Heap 𝓤) (A : Atoms 𝓤) (W : Given
         land ! (from ! (stop !)) (init ! 20 refl (array-lawful 𝓤 H A W R (LL.lawful T.the-type T′.the-laws 𝓤 H A W) mostAxes .typed l _ is .0)) $
         assigns ! (of-opd ! (load ! (from ! (fld ! refl (stop !))) (look-in ! 26 (sub ! 1 refl (whole !))))) (from ! (stop !)) (init ! 18 refl (tt, record { fits = ps .0 .1 .0 })) $
         assigns ! (addr ! (from ! (fld ! refl (hop ! (look-in ! 24 (sub ! 0 refl (whole !))) (stop !))))) (from ! (stop !)) (init ! 16 refl (tt, tt)) $
-        assigns ! (agg ! (and-then ! (load ! (from ! (stop !)) (look ! 16 refl)) (and-then ! (load ! (from ! (fld ! refl (stop !))) (look-in ! 24 (sub ! 1 refl (whole !)))) (no-more !)))) (from ! (stop !)) (init ! 14 refl (tt, (tt, (record { fits = pc .0 .1 .0 }, tt)))) $
+        assigns ! (agg ! (and-then ! (load ! (from ! (stop !)) (look ! 16 refl)) (and-then ! (load ! (from ! (fld ! refl (stop !))) (look-in ! 24 (sub ! 1 refl (whole !)))) (no-more !)))) (from ! (stop !)) (init ! 14 refl (
+          tt,
+          (
+            tt,
+            (
+              record {
+                fits =
+                    pc .0 .1 .0;
+              },
+              tt,
+            ),
+          ),
+        )) $
         assigns ! (addr ! (from ! (fld ! refl (hop ! (look-in ! 22 (sub ! 0 refl (whole !))) (stop !))))) (from ! (stop !)) (init ! 12 refl (tt, tt)) $
-        assigns ! (agg ! (and-then ! (load ! (from ! (stop !)) (look ! 12 refl)) (and-then ! (load ! (from ! (fld ! refl (stop !))) (look-in ! 22 (sub ! 1 refl (whole !)))) (no-more !)))) (from ! (stop !)) (init ! 10 refl (tt, (tt, (record { fits = pw .0 .1 .0 }, tt)))) $
+        assigns ! (agg ! (and-then ! (load ! (from ! (stop !)) (look ! 12 refl)) (and-then ! (load ! (from ! (fld ! refl (stop !))) (look-in ! 22 (sub ! 1 refl (whole !)))) (no-more !)))) (from ! (stop !)) (init ! 10 refl (
+          tt,
+          (
+            tt,
+            (
+              record {
+                fits =
+                    pw .0 .1 .0;
+              },
+              tt,
+            ),
+          ),
+        )) $
         move ! (9 ∷ 8 ∷ 0 ∷ 5 ∷ 4 ∷ []) $ group ! 5 $ use1 W (raw (Work 𝓤 H A mem run .pre (to-work l u))) (goes-work ph px (ps .0 .1 .0) l u) $
         -- [pre; κ₀; true; OwnS; OwnX; OwnH; the locals]
         calls-at ! fm (Work 𝓤 H A mem run) known-work (to-work l u) (and-then ! (load ! (from ! (stop !)) (look ! 26 refl)) (and-then ! (load ! (from ! (stop !)) (look ! 24 refl)) (and-then ! (load ! (from ! (stop !)) (look ! 16 refl)) (and-then ! (load ! (from ! (stop !)) (look ! 14 refl)) (and-then ! (load ! (from ! (stop !)) (look ! 10 refl)) (and-then ! (load ! (from ! (stop !)) (look ! 6 refl)) (no-more !))))))) (λ v.

@@ -18,4 +18,8 @@ abbrev μ-loop : tie.MeasureT-loop
 
 pub carry-row-spec : {M : Type 1} → statement M
 unfolding storedFrom
-carry-row-spec = tie.close (tie.spec Inv-loop μ-loop (λ c. search (turns, exacts)) (λ c. search (turns, exacts)) (λ c. search (turns, exacts)) (λ c. search (turns, exacts)) (λ c. search (turns, exacts)) (λ c. search (turns, exacts)) (λ c. search (turns, exacts)) (λ c. search (turns, exacts)) (λ c. search (turns, exacts)) (λ c. search (turns, exacts)) (λ c. search (turns, exacts)) (λ c. search (turns, exacts)) (λ c. search (turns, exacts)) (λ c. search (turns, exacts)))
+carry-row-spec =
+    tie.close
+    (tie.spec Inv-loop μ-loop (λ c. search (turns, exacts)) (λ c. search (turns, exacts)) (λ c. search (turns, exacts)) (λ c. search (turns, exacts))
+    (λ c. search (turns, exacts)) (λ c. search (turns, exacts)) (λ c. search (turns, exacts)) (λ c. search (turns, exacts)) (λ c. search (turns, exacts))
+    (λ c. search (turns, exacts)) (λ c. search (turns, exacts)) (λ c. search (turns, exacts)) (λ c. search (turns, exacts)) (λ c. search (turns, exacts)))

@@ -18,4 +18,8 @@ abbrev μ-loop : tie.MeasureT-loop
 μ-loop u₀ m r j i₀ u i = m - i
 
 pub clear-column-spec : {M : Type 1} → statement M
-clear-column-spec = tie.close (tie.spec Inv-loop μ-loop (λ c. search (turns, exacts)) (λ c. search (turns, exacts)) (λ c. search (turns, exacts)) (λ c. search (turns, exacts)) (λ c. search (turns, exacts)) (λ c. search (turns, exacts)) (λ c. search (turns, exacts)) (λ c. search (turns, exacts)) (λ c. search (turns, exacts)) (λ c. search (turns, exacts)))
+clear-column-spec =
+    tie.close
+    (tie.spec Inv-loop μ-loop (λ c. search (turns, exacts)) (λ c. search (turns, exacts)) (λ c. search (turns, exacts)) (λ c. search (turns, exacts))
+    (λ c. search (turns, exacts)) (λ c. search (turns, exacts)) (λ c. search (turns, exacts)) (λ c. search (turns, exacts)) (λ c. search (turns, exacts))
+    (λ c. search (turns, exacts)))

@@ -17,16 +17,27 @@ abbrev μ-loop : tie.MeasureT-loop
 
 add-columns : tie.Need-add-columns Inv-loop μ-loop
 unfolding storedFrom
-add-columns c = exact-fits _ _ _ _ _ (c .before .before .before .pre .0) (c .before .before .before .pre .4) (c .before .before .before .pre .2 _ (c .before .loop-test .taken)) (c .before .before .before .good .0 .0)
+add-columns c =
+    let at-3 = c .before .before .before in
+    exact-fits _ _ _ _ _ (at-3 .pre .0) (at-3 .pre .4) (at-3 .pre .2 _ (c .before .loop-test .taken)) (at-3 .good .0 .0)
 
 mul-columns-2 : tie.Need-mul-columns-2 Inv-loop μ-loop
 unfolding storedFrom
-mul-columns-2 c = exact-scaled _ _ _ _ _ (c .before .before .before .pre .0) (c .before .before .before .pre .4) (c .before .before .before .pre .2 _ (c .before .loop-test .taken)) (c .before .before .before .good .0 .1)
+mul-columns-2 c =
+    let at-3 = c .before .before .before in
+    exact-scaled _ _ _ _ _ (at-3 .pre .0) (at-3 .pre .4) (at-3 .pre .2 _ (c .before .loop-test .taken)) (at-3 .good .0 .1)
 
 shared-slice-read-columns : tie.Need-shared-slice-read-columns Inv-loop μ-loop
 unfolding storedFrom
-shared-slice-read-columns c = exact-lt _ _ _ _ _ (c .before .before .before .before .pre .0) (c .before .before .before .before .pre .4) (c .before .before .before .before .pre .2 _ (c .before .before .loop-test .taken))
+shared-slice-read-columns c =
+    let at-4 = c .before .before .before .before in
+    exact-lt _ _ _ _ _ (at-4 .pre .0) (at-4 .pre .4) (at-4 .pre .2 _ (c .before .before .loop-test .taken))
 
 pub gather-row-spec : {M : Type 1} → statement M
 unfolding storedFrom
-gather-row-spec = tie.close (tie.spec Inv-loop μ-loop (λ c. search (turns, exacts)) (λ c. search (turns, exacts)) (λ c. search (turns, exacts)) (λ c. search (turns, exacts)) add-columns mul-columns-2 shared-slice-read-columns (λ c. search (turns, exacts)) (λ c. search (turns, exacts)) (λ c. search (turns, exacts)) (λ c. search (turns, exacts)) (λ c. search (turns, exacts)) (λ c. search (turns, exacts)) (λ c. search (turns, exacts)) (λ c. search (turns, exacts)) (λ c. search (turns, exacts)))
+gather-row-spec =
+    tie.close
+    (tie.spec Inv-loop μ-loop (λ c. search (turns, exacts)) (λ c. search (turns, exacts)) (λ c. search (turns, exacts)) (λ c. search (turns, exacts))
+    add-columns mul-columns-2 shared-slice-read-columns (λ c. search (turns, exacts)) (λ c. search (turns, exacts)) (λ c. search (turns, exacts))
+    (λ c. search (turns, exacts)) (λ c. search (turns, exacts)) (λ c. search (turns, exacts)) (λ c. search (turns, exacts)) (λ c. search (turns, exacts))
+    (λ c. search (turns, exacts)))

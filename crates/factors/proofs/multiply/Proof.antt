@@ -7,7 +7,12 @@ use Rattle.factors.proofs.multiply.Statement.{statement}
 use Rattle.factors.proofs.multiply.Tie as tie
 
 product-requires : tie.Need-product-requires
-product-requires c κs = omega (arith, mul-le-mul-left (c .before .before .before .before .before .before .before .before .before .before .before .args .m) (c .before .before .before .before .before .before .before .before .before .before .before .pre .2))
+product-requires c κs =
+    omega (
+      arith,
+      mul-le-mul-left (c .before .before .before .before .before .before .before .before .before .before .before .args .m)
+          (c .before .before .before .before .before .before .before .before .before .before .before .pre .2),
+    )
 
 returns : tie.Need-returns
 returns c = multiply-is _ _ _ _ _ _ _ _ (c .before .before .before .before .before .before .before .before .copy .ensures) (c .before .before .product .ensures)

@@ -22,14 +22,20 @@ abbrev μ-loop : tie.MeasureT-loop
 μ-loop a m n js ss r out₀ row₀ out row = m - row
 
 left-row-requires : tie.Need-left-row-requires Inv-loop μ-loop
-left-row-requires c κs = (c .before .before .before .before .before .before .before .pre .0, c .before .before .before .before .before .before .before .pre .1, c .before .before .before .before .before .before .before .pre .2, c .before .before .before .before .before .before .before .pre .3, c .before .loop-test .taken, omega (arith, c .before .before .loop .inv .1, c .before .before .before .before .before .before .before .pre .4))
+left-row-requires c κs =
+    let at-7 = c .before .before .before .before .before .before .before in
+    (at-7 .pre .0, at-7 .pre .1, at-7 .pre .2, at-7 .pre .3, c .before .loop-test .taken, omega (arith, c .before .before .loop .inv .1, at-7 .pre .4))
 
 part-stored-end : tie.Need-part-stored-end Inv-loop μ-loop
 part-stored-end c = omega (arith, c .before .before .before .before .before .before .before .pre .4, c .before .before .loop .inv .1)
 
 returns : tie.Need-returns Inv-loop μ-loop
 unfolding leftRows
-returns c = front-stored _ _ _ _ _ (rows-front _ _ _ _ _ _ (c .before .before .before .before .loop .inv .2) (c .before .before .before .before .loop .inv .0) (c .before .before .before .loop-test .left) (c .before .before .before .before .before .before .before .before .before .pre .4)) _ (c .stored .ensures)
+returns c =
+    let at-4 = c .before .before .before .before in
+    front-stored _ _ _ _ _
+    (rows-front _ _ _ _ _ _ (at-4 .loop .inv .2) (at-4 .loop .inv .0) (c .before .before .before .loop-test .left)
+    (c .before .before .before .before .before .before .before .before .before .pre .4)) _ (c .stored .ensures)
 
 pub left-core-spec : {M : Type 1} → statement M
 left-core-spec = tie.close (tie.spec

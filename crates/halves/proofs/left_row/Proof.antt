@@ -22,19 +22,27 @@ abbrev μ-loop : tie.MeasureT-loop
 
 mul-rescaled : tie.Need-mul-rescaled Inv-loop μ-loop
 unfolding storedFrom
-mul-rescaled c = exact-row _ _ _ _ (c .before .before .before .before .before .before .before .pre .0) (c .before .before .before .before .before .before .before .pre .2 _ (c .before .loop-test .taken)) (c .before .before .before .before .before .before .before .good .0 .0)
+mul-rescaled c =
+    let at-7 = c .before .before .before .before .before .before .before in
+    exact-row _ _ _ _ (at-7 .pre .0) (at-7 .pre .2 _ (c .before .loop-test .taken)) (at-7 .good .0 .0)
 
 add-rescaled : tie.Need-add-rescaled Inv-loop μ-loop
 unfolding storedFrom
-add-rescaled c = exact-fits _ _ _ _ _ (c .before .before .before .before .before .before .before .pre .0) (c .before .before .before .before .before .before .before .pre .2 _ (c .before .loop-test .taken)) (c .before .before .before .before .before .before .before .pre .4) (c .before .before .before .before .before .before .before .good .0 .0)
+add-rescaled c =
+    let at-7 = c .before .before .before .before .before .before .before in
+    exact-fits _ _ _ _ _ (at-7 .pre .0) (at-7 .pre .2 _ (c .before .loop-test .taken)) (at-7 .pre .4) (at-7 .good .0 .0)
 
 mul-rescaled-2 : tie.Need-mul-rescaled-2 Inv-loop μ-loop
 unfolding storedFrom
-mul-rescaled-2 c = exact-scaled _ _ _ _ _ (c .before .before .before .before .before .before .before .pre .0) (c .before .before .before .before .before .before .before .pre .2 _ (c .before .loop-test .taken)) (c .before .before .before .before .before .before .before .pre .4) (c .before .before .before .before .before .before .before .good .0 .1)
+mul-rescaled-2 c =
+    let at-7 = c .before .before .before .before .before .before .before in
+    exact-scaled _ _ _ _ _ (at-7 .pre .0) (at-7 .pre .2 _ (c .before .loop-test .taken)) (at-7 .pre .4) (at-7 .good .0 .1)
 
 shared-slice-read-rescaled : tie.Need-shared-slice-read-rescaled Inv-loop μ-loop
 unfolding storedFrom
-shared-slice-read-rescaled c = exact-lt _ _ _ _ _ (c .before .before .before .before .before .before .before .before .pre .0) (c .before .before .before .before .before .before .before .before .pre .2 _ (c .before .before .loop-test .taken)) (c .before .before .before .before .before .before .before .before .pre .4)
+shared-slice-read-rescaled c =
+    let at-8 = c .before .before .before .before .before .before .before .before in
+    exact-lt _ _ _ _ _ (at-8 .pre .0) (at-8 .pre .2 _ (c .before .before .loop-test .taken)) (at-8 .pre .4)
 
 loop-again : tie.Need-loop-again Inv-loop μ-loop
 unfolding storedFrom

@@ -20,14 +20,25 @@ abbrev μ-loop : tie.MeasureT-loop
 μ-loop v n js r out₀ k₀ out k = r - k
 
 right-row-requires : tie.Need-right-row-requires Inv-loop μ-loop
-right-row-requires c κs = (c .before .before .before .before .before .before .before .pre .0, c .before .before .before .before .before .before .before .pre .2 _ (c .before .before .loop-test .taken), c .before .before .loop-test .taken, omega (arith, c .before .before .before .loop .inv .1, c .before .before .before .before .before .before .before .pre .3))
+right-row-requires c κs =
+    let at-7 = c .before .before .before .before .before .before .before in (
+      at-7 .pre .0,
+      at-7 .pre .2 _ (c .before .before .loop-test .taken),
+      c .before .before .loop-test .taken,
+      omega
+          (arith, c .before .before .before .loop .inv .1, at-7 .pre .3),
+    )
 
 part-stored-end : tie.Need-part-stored-end Inv-loop μ-loop
 part-stored-end c = omega (arith, c .before .before .before .before .before .before .pre .3, c .before .before .loop .inv .1)
 
 returns : tie.Need-returns Inv-loop μ-loop
 unfolding rightRows
-returns c = front-stored _ _ _ _ _ (rows-front _ _ _ _ _ _ (c .before .before .before .before .loop .inv .2) (c .before .before .before .before .loop .inv .0) (c .before .before .before .loop-test .left) (c .before .before .before .before .before .before .before .before .pre .3)) _ (c .stored .ensures)
+returns c =
+    let at-4 = c .before .before .before .before in
+    front-stored _ _ _ _ _
+    (rows-front _ _ _ _ _ _ (at-4 .loop .inv .2) (at-4 .loop .inv .0) (c .before .before .before .loop-test .left)
+    (c .before .before .before .before .before .before .before .before .pre .3)) _ (c .stored .ensures)
 
 pub right-core-spec : {M : Type 1} → statement M
 right-core-spec = tie.close (tie.spec

@@ -19,10 +19,17 @@ loop-holds : tie.Need-loop-holds Inv-loop μ-loop
 loop-holds c = axes-none _ _ _ (omega (arith, (c .before .before .pre) .1))
 
 put-axis-requires : tie.Need-put-axis-requires Inv-loop μ-loop
-put-axis-requires c κs = let p = (c .before .before .before .before .before .before .pre) in let A = (c .before .before .before .loop .inv) in (omega (arith, p .0 .axes .most, c .before .if1 .taken), A .here, axes-ask _ _ _ _ _ _ _ A (p .1) (c .before .if1 .taken) (p .0 .axes .most))
+put-axis-requires c κs =
+    let p = (c .before .before .before .before .before .before .pre) in
+    let A = (c .before .before .before .loop .inv) in
+    (omega (arith, p .0 .axes .most, c .before .if1 .taken), A .here, axes-ask _ _ _ _ _ _ _ A (p .1) (c .before .if1 .taken) (p .0 .axes .most))
 
 loop-again : tie.Need-loop-again Inv-loop μ-loop
-loop-again c = axes-more _ _ _ _ _ _ _ (c .before .before .before .before .before .before .before .loop .inv) (omega (arith, (c .before .before .before .before .before .before .before .before .before .before .pre) .1)) (c .before .before .before .before .before .if1 .taken) (c .core-size .ensures) ((c .before .before .before .put-axis .kept) .1 .1 .1 .0) (c .before .before .before .put-axis .ensures)
+loop-again c =
+    let at-3 = c .before .before .before in
+    axes-more _ _ _ _ _ _ _ (c .before .before .before .before .before .before .before .loop .inv)
+    (omega (arith, (c .before .before .before .before .before .before .before .before .before .before .pre) .1))
+    (c .before .before .before .before .before .if1 .taken) (c .core-size .ensures) ((at-3 .put-axis .kept) .1 .1 .1 .0) (at-3 .put-axis .ensures)
 
 returns : tie.Need-returns Inv-loop μ-loop
 returns c = axes-done _ _ _ _ _ _ _ (c .before .before .loop .inv) (c .if1 .left) ((c .before .before .before .before .before .pre) .0 .axes .most)

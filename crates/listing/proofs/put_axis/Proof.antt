@@ -6,7 +6,14 @@ use Rattle.listing.proofs.put_axis.Statement.{statement}
 use Rattle.listing.proofs.put_axis.Tie as tie
 
 returns : tie.Need-returns
-returns c = axis-put _ _ _ (omega (arith, (c .before .before .before .before .before .before .before .before .before .before .before .before .before .before .before .before .before .before .before .before .before .before .before .before .pre) .2)) _ _ ((c .before .before .before .before .before .before .before .before .before .before .before .before .before .before .before .before .before .before .before .before .before .before .before .before .pre) .1) (c .before .before .before .before .before .before .before .before .before .before .before .before .before .before .before .before .before .before .before .before .before .put-field .ensures) (c .before .before .before .before .before .before .before .before .before .before .before .before .before .before .before .before .put-field2 .ensures) (c .before .before .before .before .before .before .before .before .before .before .before .put-field3 .ensures) (c .before .before .before .before .before .before .put-field4 .ensures) (c .before .before .put-field5 .ensures)
+returns c =
+    let at-24 = c .before .before .before .before .before .before .before .before .before .before .before .before .before .before .before .before .before .before .before .before .before .before .before .before in
+    axis-put _ _ _ (omega (arith, (at-24 .pre) .2)) _ _ ((at-24 .pre) .1)
+    (c .before .before .before .before .before .before .before .before .before .before .before .before .before .before .before .before .before .before .before
+    .before .before .put-field .ensures)
+    (c .before .before .before .before .before .before .before .before .before .before .before .before .before .before .before .before .put-field2 .ensures)
+    (c .before .before .before .before .before .before .before .before .before .before .before .put-field3 .ensures)
+    (c .before .before .before .before .before .before .put-field4 .ensures) (c .before .before .put-field5 .ensures)
 
 pub put-axis-spec : {M : Type 1} → statement M
 put-axis-spec = tie.close (tie.spec

@@ -14,4 +14,16 @@ abbrev μ-loop : tie.MeasureT-loop
 μ-loop s d₀ i₀ d i = length s - i
 
 pub copy-spec : {M : Type 1} → statement M
-copy-spec = tie.close (tie.spec Inv-loop μ-loop (λ c. (search needs, (refl, refl))) (λ c. search needs) (λ c. search needs) (λ c. search needs) (λ c. search needs) (λ c. search needs) (λ c. search needs) (λ c. (search needs, (simp length-set (c .before .before .loop .inv .1 .0), rw (c .before .before .loop .inv .1 .1) (over-more _ _ _ _ (c .before .before .before .pre) (c .before .loop-test .taken))))) (λ c. search needs) (λ c. c .before .loop .inv .1 .1 ∙ over-all _ _ _ (c .before .before .pre) (c .loop-test .left)))
+copy-spec =
+    tie.close
+    (tie.spec Inv-loop μ-loop (λ c. (search needs, (refl, refl))) (λ c. search needs) (λ c. search needs) (λ c. search needs) (λ c. search needs)
+    (λ c. search needs) (λ c. search needs)
+    (λ c. (
+      search needs,
+      (
+        simp length-set (c .before .before .loop .inv .1 .0),
+        rw (c .before .before .loop .inv .1 .1)
+            (over-more _ _ _ _ (c .before .before .before .pre) (c .before .loop-test .taken)),
+      ),
+    )) (λ c. search needs)
+    (λ c. c .before .loop .inv .1 .1 ∙ over-all _ _ _ (c .before .before .pre) (c .loop-test .left)))

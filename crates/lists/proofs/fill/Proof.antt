@@ -15,4 +15,16 @@ abbrev μ-loop : tie.MeasureT-loop
 μ-loop s₀ v i₀ s i = length s - i
 
 pub fill-spec : {M : Type 1} → statement M
-fill-spec = tie.close (tie.spec Inv-loop μ-loop (λ c. (search needs, (refl, refl))) (λ c. search needs) (λ c. search needs) (λ c. search needs) (λ c. simp length-set (omega arith)) (λ c. (simp length-set (omega arith), (simp length-set (c .before .loop .inv .1 .0), rw (c .before .loop .inv .1 .1) (fills-more (c .before .before .args .v) (c .before .before .args .s .now) (c .before .loop .i) (omega arith))))) (λ c. search needs) (λ c. c .before .loop .inv .1 .1 ∙ fills-all (c .before .before .args .v) (c .before .before .args .s .now) (c .before .loop .i) (omega arith)))
+fill-spec =
+    tie.close
+    (tie.spec Inv-loop μ-loop (λ c. (search needs, (refl, refl))) (λ c. search needs) (λ c. search needs) (λ c. search needs)
+    (λ c. simp length-set (omega arith))
+    (λ c. (
+      simp length-set (omega arith),
+      (
+        simp length-set (c .before .loop .inv .1 .0),
+        rw (c .before .loop .inv .1 .1)
+            (fills-more (c .before .before .args .v) (c .before .before .args .s .now) (c .before .loop .i) (omega arith)),
+      ),
+    )) (λ c. search needs)
+    (λ c. c .before .loop .inv .1 .1 ∙ fills-all (c .before .before .args .v) (c .before .before .args .s .now) (c .before .loop .i) (omega arith)))

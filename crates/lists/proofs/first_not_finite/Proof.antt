@@ -13,4 +13,7 @@ abbrev μ-loop : tie.MeasureT-loop
 μ-loop s i₀ i = length s - i
 
 pub first-not-finite-spec : {M : Type 1} → statement M
-first-not-finite-spec = tie.close (tie.spec Inv-loop μ-loop (λ c. search (turns, sounds)) (λ c. search turns) (λ c. search turns) (λ c κs. search turns) (λ c. search (turns, sounds)) (λ c. search turns) (λ c. search turns) (λ c. search (turns, sounds)) (λ c. search (turns, sounds)))
+first-not-finite-spec =
+    tie.close
+    (tie.spec Inv-loop μ-loop (λ c. search (turns, sounds)) (λ c. search turns) (λ c. search turns) (λ c κs. search turns) (λ c. search (turns, sounds))
+    (λ c. search turns) (λ c. search turns) (λ c. search (turns, sounds)) (λ c. search (turns, sounds)))

@@ -16,4 +16,7 @@ abbrev μ-loop : tie.MeasureT-loop
 
 pub store-sums-spec : {M : Type 1} → statement M
 unfolding storedFrom
-store-sums-spec = tie.close (tie.spec Inv-loop μ-loop (λ c. search turns) (λ c. search turns) (λ c. search turns) (λ c. search turns) (λ c. search turns) (λ c. search turns) (λ c. search turns) (λ c. search turns) (λ c. search turns) (λ c. search turns) (λ c. search turns))
+store-sums-spec =
+    tie.close
+    (tie.spec Inv-loop μ-loop (λ c. search turns) (λ c. search turns) (λ c. search turns) (λ c. search turns) (λ c. search turns) (λ c. search turns)
+    (λ c. search turns) (λ c. search turns) (λ c. search turns) (λ c. search turns) (λ c. search turns))

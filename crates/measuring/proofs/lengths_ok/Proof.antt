@@ -8,4 +8,8 @@ use Rattle.measuring.proofs.lengths_ok.Tie as tie
 
 pub lengths-ok-spec : {M : Type 1} → statement M
 unfolding lengthsOk
-lengths-ok-spec = tie.close (tie.spec (λ c κs. search needs) (λ c. search (needs, lengths-asked, scratch-counted)) (λ c. search (needs, lengths-asked, scratch-counted)) (λ c. search (needs, lengths-asked, scratch-counted)) (λ c. search (needs, lengths-asked, scratch-counted)) (λ c. search (needs, lengths-asked, scratch-counted)))
+lengths-ok-spec =
+    tie.close
+    (tie.spec (λ c κs. search needs) (λ c. search (needs, lengths-asked, scratch-counted)) (λ c. search (needs, lengths-asked, scratch-counted))
+    (λ c. search (needs, lengths-asked, scratch-counted)) (λ c. search (needs, lengths-asked, scratch-counted))
+    (λ c. search (needs, lengths-asked, scratch-counted)))

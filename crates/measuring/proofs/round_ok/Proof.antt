@@ -10,4 +10,9 @@ use Rattle.measuring.proofs.round_ok.Tie as tie
 
 pub round-ok-spec : {M : Type 1} → statement M
 unfolding roundOk
-round-ok-spec = tie.close (tie.spec (λ c κs. search needs) (λ c. search needs) (λ c. search (needs, then-stops)) (λ c. search needs) (λ c κs. search (needs, fits-sizes)) (λ c. search needs) (λ c. search (needs, then-stops, then-passes)) (λ c. search needs) (λ c κs. search (needs, fits-sizes, chain-long)) (λ c. search needs) (λ c. search (needs, then-stops, then-passes)) (λ c. search needs) (λ c κs. search needs) (λ c. search (needs, then-passes, tested)) (λ c. search (needs, then-passes, tested)))
+round-ok-spec =
+    tie.close
+    (tie.spec (λ c κs. search needs) (λ c. search needs) (λ c. search (needs, then-stops)) (λ c. search needs) (λ c κs. search (needs, fits-sizes))
+    (λ c. search needs) (λ c. search (needs, then-stops, then-passes)) (λ c. search needs) (λ c κs. search (needs, fits-sizes, chain-long))
+    (λ c. search needs) (λ c. search (needs, then-stops, then-passes)) (λ c. search needs) (λ c κs. search needs) (λ c. search (needs, then-passes, tested))
+    (λ c. search (needs, then-passes, tested)))

@@ -10,7 +10,9 @@ shl-half-root : tie.Need-shl-half-root
 shl-half-root c = omega (arith, mask-lt (c .before .before .parts .result .e) 1)
 
 half-root-requires : tie.Need-half-root-requires
-half-root-requires c κs = (asked _ _ _ (c .before .before .before .parts .ensures) .0, asked _ _ _ (c .before .before .before .parts .ensures) .1, c .guess .ensures .0, c .guess .ensures .1)
+half-root-requires c κs =
+    let at-3 = c .before .before .before in
+    (asked _ _ _ (at-3 .parts .ensures) .0, asked _ _ _ (at-3 .parts .ensures) .1, c .guess .ensures .0, c .guess .ensures .1)
 
 returns : tie.Need-returns
 returns c = found-half _ _ _ (c .before .before .before .before .before .parts .ensures) _ (c .before .half-root .ensures)

@@ -10,7 +10,10 @@ returns : tie.Need-returns
 returns c = (left-stays _ _ _ _ _ _ (c .before .before .before .before .before .verdict .given .1), (c .before .before .fill .ensures))
 
 pack-requires : tie.Need-pack-requires
-pack-requires c κs = let i = c .before .before .before .before .before .before in let I = i .pre .1 .0 (c .before .before .enum-told .given .1) in ((i .pre .0, I .sizes, I .axes), (λ k l. inside-size _ _ I k l, (i .pre .1 .2, omega (arith, inside-entries _ _ I, i .pre .1 .1))))
+pack-requires c κs =
+    let i = c .before .before .before .before .before .before in
+    let I = i .pre .1 .0 (c .before .before .enum-told .given .1) in
+    ((i .pre .0, I .sizes, I .axes), (λ k l. inside-size _ _ I k l, (i .pre .1 .2, omega (arith, inside-entries _ _ I, i .pre .1 .1))))
 
 returns-2 : tie.Need-returns-2
 returns-2 c = (left-packed _ _ _ _ _ (c .before .before .before .before .before .before .before .before .before .enum-told .given .1) _ (c .before .before .before .before .before .before .pack .ensures), (c .before .before .fill2 .ensures))

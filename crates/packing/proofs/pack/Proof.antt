@@ -77,4 +77,10 @@ same-length : tie.Need-same-length Inv-loop μ-loop
 same-length c = ap length (returns c) ∙ fit-length zero64 _ _
 
 pub pack-spec : {M : Type 1} → statement M
-pack-spec = tie.close (tie.spec Inv-loop μ-loop loop-holds (λ c κs. search (needs, offsets, slotwise)) add-end add-copy (λ c. search (needs, offsets, slotwise)) (λ c. search (needs, offsets, slotwise)) (λ c. search (needs, offsets, slotwise)) part-copy-end mul-copy-2 (λ c. search (needs, offsets, slotwise)) (λ c. search (needs, offsets, slotwise)) part-copy-end-2 (λ c κs. search (needs, offsets, slotwise)) (λ c κs. search (needs, offsets, slotwise)) (λ c. search (needs, offsets, slotwise)) (λ c. search (needs, offsets, slotwise)) (λ c. search (needs, offsets, slotwise)) loop-again mul-fill sub-fill part-fill-start (λ c. search (needs, offsets, slotwise)) (λ c κs. search (needs, offsets, slotwise)) same-length returns)
+pack-spec =
+    tie.close
+    (tie.spec Inv-loop μ-loop loop-holds (λ c κs. search (needs, offsets, slotwise)) add-end add-copy (λ c. search (needs, offsets, slotwise))
+    (λ c. search (needs, offsets, slotwise)) (λ c. search (needs, offsets, slotwise)) part-copy-end mul-copy-2 (λ c. search (needs, offsets, slotwise))
+    (λ c. search (needs, offsets, slotwise)) part-copy-end-2 (λ c κs. search (needs, offsets, slotwise)) (λ c κs. search (needs, offsets, slotwise))
+    (λ c. search (needs, offsets, slotwise)) (λ c. search (needs, offsets, slotwise)) (λ c. search (needs, offsets, slotwise)) loop-again mul-fill sub-fill
+    part-fill-start (λ c. search (needs, offsets, slotwise)) (λ c κs. search (needs, offsets, slotwise)) same-length returns)

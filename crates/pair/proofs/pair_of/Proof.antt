@@ -8,16 +8,30 @@ use Rattle.pair.proofs.pair_of.Statement.{statement}
 use Rattle.pair.proofs.pair_of.Tie as tie
 
 columns-requires : tie.Need-columns-requires
-columns-requires c κs = (c .before .before .before .before .before .before .before .before .pre .1, c .before .before .before .before .before .before .before .before .pre .2, c .before .before .before .before .before .before .before .before .pre .3, c .before .before .before .before .before .before .before .before .pre .0 .rows, c .before .before .before .before .before .before .before .before .pre .0 .columns)
+columns-requires c κs =
+    let at-8 = c .before .before .before .before .before .before .before .before in
+    (at-8 .pre .1, at-8 .pre .2, at-8 .pre .3, at-8 .pre .0 .rows, at-8 .pre .0 .columns)
 
 returns : tie.Need-returns
 returns c = rw (c .refused-pair .ensures) (pair-stop _ _ _ _ _ (c .before .before .before .before .before .before .columns .ensures) _ _ (c .before .before .made .given .1))
 
 split-requires : tie.Need-split-requires
-split-requires c κs = (c .before .before .before .before .before .before .before .before .before .before .before .before .before .before .before .before .pre .0, c .before .before .before .before .before .before .a .given ∙ c .before .before .before .before .before .before .before .before .before .before .before .before .before .before .before .before .pre .3, columns-finite _ _ _ _ _ _ _ (c .before .before .before .before .before .before .before .columns .ensures) (c .before .before .before .enum-told .given .1), c .before .before .before .before .before .before .before .before .before .before .before .before .before .before .before .before .pre .4, c .before .before .before .before .before .before .before .before .before .before .before .before .before .before .before .before .pre .5)
+split-requires c κs =
+    let at-16 = c .before .before .before .before .before .before .before .before .before .before .before .before .before .before .before .before in (
+      at-16 .pre .0,
+      c .before .before .before .before .before .before .a .given ∙ at-16 .pre .3,
+      columns-finite _ _ _ _ _ _ _
+          (c .before .before .before .before .before .before .before .columns .ensures) (c .before .before .before .enum-told .given .1),
+      at-16 .pre .4,
+      at-16 .pre
+          .5,
+    )
 
 returns-2 : tie.Need-returns-2
-returns-2 c = pair-end _ _ _ _ _ (c .before .before .before .before .before .before .before .before .before .before .before .before .before .before .columns .ensures) (c .before .before .before .before .before .before .before .before .before .before .enum-told .given .1) _ _ (c .before .before .before .before .before .before .split .ensures)
+returns-2 c =
+    pair-end _ _ _ _ _ (c .before .before .before .before .before .before .before .before .before .before .before .before .before .before .columns .ensures)
+    (c .before .before .before .before .before .before .before .before .before .before .enum-told .given .1) _ _
+    (c .before .before .before .before .before .before .split .ensures)
 
 pub pair-of-spec : {M : Type 1} → statement M
 pair-of-spec = tie.close (tie.spec

@@ -10,37 +10,72 @@ use Rattle.pair.proofs.pair_within.Statement.{statement}
 use Rattle.pair.proofs.pair_within.Tie as tie
 
 mul-m : tie.Need-mul-m
-mul-m c = let ok = ready (c .before .before .before .before .before .before .args .l) (c .before .before .before .before .before .before .args .r) _ (c .before .before .before .before .before .before .args .left .now) (c .before .before .before .before .before .before .args .right .now) _ _ _ (c .before .before .before .before .before .before .pre) in record { fits = omega (arith, ok .lines .rows) }
+mul-m c =
+    let start = c .before .before .before .before .before .before .args in
+    let ok = ready (start .l) (start .r) _ (start .left .now) (start .right .now) _ _ _ (c .before .before .before .before .before .before .pre) in
+    record { fits = omega (arith, ok .lines .rows) }
 
 mul-n : tie.Need-mul-n
-mul-n c = let ok = ready (c .before .before .before .before .before .before .before .args .l) (c .before .before .before .before .before .before .before .args .r) _ (c .before .before .before .before .before .before .before .args .left .now) (c .before .before .before .before .before .before .before .args .right .now) _ _ _ (c .before .before .before .before .before .before .before .pre) in record { fits = omega (arith, ok .lines .columns) }
+mul-n c =
+    let start = c .before .before .before .before .before .before .before .args in
+    let ok = ready (start .l) (start .r) _ (start .left .now) (start .right .now) _ _ _ (c .before .before .before .before .before .before .before .pre) in
+    record { fits = omega (arith, ok .lines .columns) }
 
 mul-e : tie.Need-mul-e
-mul-e c = let ok = ready (c .before .before .before .before .before .before .before .args .l) (c .before .before .before .before .before .before .before .args .r) _ (c .before .before .before .before .before .before .before .args .left .now) (c .before .before .before .before .before .before .before .args .right .now) _ _ _ (c .before .before .before .before .before .before .before .pre) in two-fit _ _ (ok .lines .columns) (ok .lines .rows)
+mul-e c =
+    let start = c .before .before .before .before .before .before .before .args in
+    let ok = ready (start .l) (start .r) _ (start .left .now) (start .right .now) _ _ _ (c .before .before .before .before .before .before .before .pre) in
+    two-fit _ _ (ok .lines .columns) (ok .lines .rows)
 
 part-pair-of-end : tie.Need-part-pair-of-end
-part-pair-of-end c = let ok = ready (c .before .before .before .before .before .before .before .args .l) (c .before .before .before .before .before .before .before .args .r) _ (c .before .before .before .before .before .before .before .args .left .now) (c .before .before .before .before .before .before .before .args .right .now) _ _ _ (c .before .before .before .before .before .before .before .pre) in ok .room
+part-pair-of-end c =
+    let start = c .before .before .before .before .before .before .before .args in
+    let ok = ready (start .l) (start .r) _ (start .left .now) (start .right .now) _ _ _ (c .before .before .before .before .before .before .before .pre) in
+    ok .room
 
 pair-of-requires : tie.Need-pair-of-requires
-pair-of-requires c κs = let ok = ready (c .before .before .before .before .before .before .before .before .before .before .args .l) (c .before .before .before .before .before .before .before .before .before .before .args .r) _ (c .before .before .before .before .before .before .before .before .before .before .args .left .now) (c .before .before .before .before .before .before .before .before .before .before .args .right .now) _ _ _ (c .before .before .before .before .before .before .before .before .before .before .pre) in (ok .lines, ok .leftLong, ok .rightLong, span-length _ _ (ok .room), search needs, search needs)
+pair-of-requires c κs =
+    let start = c .before .before .before .before .before .before .before .before .before .before .args in
+    let ok = ready (start .l) (start .r) _ (start .left .now) (start .right .now) _ _ _ (c .before .before .before .before .before .before .before .before .before .before .pre) in
+    (ok .lines, ok .leftLong, ok .rightLong, span-length _ _ (ok .room), search needs, search needs)
 
 returns : tie.Need-returns
 returns c = ended-refused _ _ _ _ _ _ (c .before .before .before .before .before .before .before .before .pair-of .ensures) _ (c .before .before .verdict .given .1) _ (c .refused-pair .ensures)
 
 mul-put : tie.Need-mul-put
-mul-put c = let ok = ready (c .before .before .before .before .before .before .before .before .before .before .before .before .before .before .before .before .before .before .before .args .l) (c .before .before .before .before .before .before .before .before .before .before .before .before .before .before .before .before .before .before .before .args .r) _ (c .before .before .before .before .before .before .before .before .before .before .before .before .before .before .before .before .before .before .before .args .left .now) (c .before .before .before .before .before .before .before .before .before .before .before .before .before .before .before .before .before .before .before .args .right .now) _ _ _ (c .before .before .before .before .before .before .before .before .before .before .before .before .before .before .before .before .before .before .before .pre) in let k = rank-small _ _ _ _ _ (ok .lines .some) (c .before .before .before .before .before .before .before .before .pair-of .ensures) (c .before .before .enum-told .given .1) in two-fit _ _ (ok .lines .rows) (omega (arith, k))
+mul-put c =
+    let start = c .before .before .before .before .before .before .before .before .before .before .before .before .before .before .before .before .before .before .before .args in
+    let ok = ready (start .l) (start .r) _ (start .left .now) (start .right .now) _ _ _ (c .before .before .before .before .before .before .before .before .before .before .before .before .before .before .before .before .before .before .before .pre) in
+    let k = rank-small _ _ _ _ _ (ok .lines .some) (c .before .before .before .before .before .before .before .before .pair-of .ensures) (c .before .before .enum-told .given .1) in
+    two-fit _ _ (ok .lines .rows) (omega (arith, k))
 
 put-requires : tie.Need-put-requires
-put-requires c κs = let ok = ready (c .before .before .before .before .before .before .before .before .before .before .before .before .before .before .before .before .before .before .before .before .args .l) (c .before .before .before .before .before .before .before .before .before .before .before .before .before .before .before .before .before .before .before .before .args .r) _ (c .before .before .before .before .before .before .before .before .before .before .before .before .before .before .before .before .before .before .before .before .args .left .now) (c .before .before .before .before .before .before .before .before .before .before .before .before .before .before .before .before .before .before .before .before .args .right .now) _ _ _ (c .before .before .before .before .before .before .before .before .before .before .before .before .before .before .before .before .before .before .before .before .pre) in let k = rank-small _ _ _ _ _ (ok .lines .some) (c .before .before .before .before .before .before .before .before .before .pair-of .ensures) (c .before .before .before .enum-told .given .1) in (omega (arith, mul-le-mul (ok .lines .rows) k), omega (arith, mul-le-mul-left (c .before .before .before .before .before .before .before .before .before .before .before .before .before .before .before .before .before .before .before .before .args .l .rl * c .before .before .before .before .before .before .before .before .before .before .before .before .before .before .before .before .before .before .before .before .args .l .n) k, ok .leftOut))
+put-requires c κs =
+    let start = c .before .before .before .before .before .before .before .before .before .before .before .before .before .before .before .before .before .before .before .before .args in
+    let ok = ready (start .l) (start .r) _ (start .left .now) (start .right .now) _ _ _ (c .before .before .before .before .before .before .before .before .before .before .before .before .before .before .before .before .before .before .before .before .pre) in
+    let k = rank-small _ _ _ _ _ (ok .lines .some) (c .before .before .before .before .before .before .before .before .before .pair-of .ensures) (c .before .before .before .enum-told .given .1) in
+    (omega (arith, mul-le-mul (ok .lines .rows) k), omega (arith, mul-le-mul-left (start .l .rl * start .l .n) k, ok .leftOut))
 
 mul-put-2 : tie.Need-mul-put-2
-mul-put-2 c = let ok = ready (c .before .before .before .before .before .before .before .before .before .before .before .before .before .before .before .before .before .before .before .before .before .before .before .before .before .args .l) (c .before .before .before .before .before .before .before .before .before .before .before .before .before .before .before .before .before .before .before .before .before .before .before .before .before .args .r) _ (c .before .before .before .before .before .before .before .before .before .before .before .before .before .before .before .before .before .before .before .before .before .before .before .before .before .args .left .now) (c .before .before .before .before .before .before .before .before .before .before .before .before .before .before .before .before .before .before .before .before .before .before .before .before .before .args .right .now) _ _ _ (c .before .before .before .before .before .before .before .before .before .before .before .before .before .before .before .before .before .before .before .before .before .before .before .before .before .pre) in let k = rank-small _ _ _ _ _ (ok .lines .some) (c .before .before .before .before .before .before .before .before .before .before .before .before .before .before .pair-of .ensures) (c .before .before .before .before .before .before .before .before .enum-told .given .1) in two-fit _ _ (omega (arith, k)) (ok .lines .columns)
+mul-put-2 c =
+    let start = c .before .before .before .before .before .before .before .before .before .before .before .before .before .before .before .before .before .before .before .before .before .before .before .before .before .args in
+    let ok = ready (start .l) (start .r) _ (start .left .now) (start .right .now) _ _ _ (c .before .before .before .before .before .before .before .before .before .before .before .before .before .before .before .before .before .before .before .before .before .before .before .before .before .pre) in
+    let k = rank-small _ _ _ _ _ (ok .lines .some) (c .before .before .before .before .before .before .before .before .before .before .before .before .before .before .pair-of .ensures) (c .before .before .before .before .before .before .before .before .enum-told .given .1) in
+    two-fit _ _ (omega (arith, k)) (ok .lines .columns)
 
 put-requires-2 : tie.Need-put-requires-2
-put-requires-2 c κs = let ok = ready (c .before .before .before .before .before .before .before .before .before .before .before .before .before .before .before .before .before .before .before .before .before .before .before .before .before .before .args .l) (c .before .before .before .before .before .before .before .before .before .before .before .before .before .before .before .before .before .before .before .before .before .before .before .before .before .before .args .r) _ (c .before .before .before .before .before .before .before .before .before .before .before .before .before .before .before .before .before .before .before .before .before .before .before .before .before .before .args .left .now) (c .before .before .before .before .before .before .before .before .before .before .before .before .before .before .before .before .before .before .before .before .before .before .before .before .before .before .args .right .now) _ _ _ (c .before .before .before .before .before .before .before .before .before .before .before .before .before .before .before .before .before .before .before .before .before .before .before .before .before .before .pre) in let k = rank-small _ _ _ _ _ (ok .lines .some) (c .before .before .before .before .before .before .before .before .before .before .before .before .before .before .before .pair-of .ensures) (c .before .before .before .before .before .before .before .before .before .enum-told .given .1) in (omega (arith, mul-le-mul k (ok .lines .columns)), omega (arith, mul-le-mul-right (c .before .before .before .before .before .before .before .before .before .before .before .before .before .before .before .before .before .before .before .before .before .before .before .before .before .before .args .r .n * c .before .before .before .before .before .before .before .before .before .before .before .before .before .before .before .before .before .before .before .before .before .before .before .before .before .before .args .r .rr) k, ok .rightOut))
+put-requires-2 c κs =
+    let start = c .before .before .before .before .before .before .before .before .before .before .before .before .before .before .before .before .before .before .before .before .before .before .before .before .before .before .args in
+    let ok = ready (start .l) (start .r) _ (start .left .now) (start .right .now) _ _ _ (c .before .before .before .before .before .before .before .before .before .before .before .before .before .before .before .before .before .before .before .before .before .before .before .before .before .before .pre) in
+    let k = rank-small _ _ _ _ _ (ok .lines .some) (c .before .before .before .before .before .before .before .before .before .before .before .before .before .before .before .pair-of .ensures) (c .before .before .before .before .before .before .before .before .before .enum-told .given .1) in
+    (omega (arith, mul-le-mul k (ok .lines .columns)), omega (arith, mul-le-mul-right (start .r .n * start .r .rr) k, ok .rightOut))
 
 returns-2 : tie.Need-returns-2
-returns-2 c = ended-made _ _ _ _ _ _ _ _ _ _ _ _ _ (c .before .before .before .before .before .before .before .before .before .before .before .before .before .before .before .before .before .before .before .pair-of .ensures) (c .before .before .before .before .before .before .before .before .before .before .before .before .before .enum-told .given .1) _ _ _ (c .paired-as .ensures) (c .before .before .before .before .before .before .before .before .before .put .ensures) (c .before .before .before .put2 .ensures)
+returns-2 c =
+    ended-made _ _ _ _ _ _ _ _ _ _ _ _ _
+    (c .before .before .before .before .before .before .before .before .before .before .before .before .before .before .before .before .before .before .before
+    .pair-of .ensures) (c .before .before .before .before .before .before .before .before .before .before .before .before .before .enum-told .given .1) _ _ _
+    (c .paired-as .ensures) (c .before .before .before .before .before .before .before .before .before .put .ensures) (c .before .before .before .put2 .ensures)
 
 pub pair-within-spec : {M : Type 1} → statement M
 pair-within-spec = tie.close (tie.spec

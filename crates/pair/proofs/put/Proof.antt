@@ -6,7 +6,10 @@ use Rattle.pair.proofs.put.Statement.{statement}
 use Rattle.pair.proofs.put.Tie as tie
 
 returns : tie.Need-returns
-returns c = put-is _ _ _ _ _ (c .before .before .before .before .before .before .before .before .before .before .before .pre .0) (c .before .before .before .before .before .before .before .before .before .before .before .pre .1) (c .before .before .before .before .before .before .before .fill .ensures) (c .before .before .copy .ensures)
+returns c =
+    let at-11 = c .before .before .before .before .before .before .before .before .before .before .before in
+    put-is _ _ _ _ _ (at-11 .pre .0) (at-11 .pre .1) (c .before .before .before .before .before .before .before .fill .ensures)
+    (c .before .before .copy .ensures)
 
 pub put-spec : {M : Type 1} → statement M
 put-spec = tie.close (tie.spec

@@ -10,13 +10,18 @@ use Rattle.parting.proofs.cut.Statement.{statement}
 use Rattle.parting.proofs.cut.Tie as tie
 
 returns : tie.Need-returns
-returns c = rw (c .refused-pair .ensures) (cut-wide _ _ _ _ _ _ _ (c .before .before .before .before .ranked .ensures .0) (c .before .before .before .before .ranked .ensures .1) _ (c .before .before .before .before .ranked .ensures .2) (c .before .if1 .taken) _)
+returns c =
+    let at-4 = c .before .before .before .before in
+    rw (c .refused-pair .ensures)
+    (cut-wide _ _ _ _ _ _ _ (at-4 .ranked .ensures .0) (at-4 .ranked .ensures .1) _ (at-4 .ranked .ensures .2) (c .before .if1 .taken) _)
 
 part-form-end : tie.Need-part-form-end
 part-form-end c = lent-end _ (c .before .before .before .before .ranked .last .1 .1 .1 .1 .0) _ _ (c .before .before .ss2 .given) (c .before .before .before .before .before .before .before .before .before .before .before .before .pre .0 .columns)
 
 part-form-end-2 : tie.Need-part-form-end-2
-part-form-end-2 c = lent-end _ (c .before .before .before .before .before .before .ranked .last .1 .1 .1 .0) _ _ (c .before .before .before .before .before .js2 .given) (c .before .before .before .before .before .before .before .before .before .before .before .before .before .before .pre .0 .columns)
+part-form-end-2 c =
+    lent-end _ (c .before .before .before .before .before .before .ranked .last .1 .1 .1 .0) _ _ (c .before .before .before .before .before .js2 .given)
+    (c .before .before .before .before .before .before .before .before .before .before .before .before .before .before .pre .0 .columns)
 
 form-requires : tie.Need-form-requires
 form-requires c κs =

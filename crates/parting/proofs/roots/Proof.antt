@@ -20,7 +20,13 @@ abbrev μ-loop : tie.MeasureT-loop
 μ-loop s₀ i₀ s i = length s₀ - i
 
 loop-again : tie.Need-loop-again Inv-loop μ-loop
-loop-again c = (search turns, search turns, maps-more rootOf (c .before .before .before .before .before .args .s .now) nan (c .before .before .before .loop .i) (c .before .before .before .loop .s) _ (c .before .before .before .loop .inv .2) (search turns) (c .root .ensures))
+loop-again c =
+    let at-3 = c .before .before .before in (
+      search turns,
+      search turns,
+      maps-more rootOf (c .before .before .before .before .before .args .s .now) nan (at-3 .loop .i) (at-3 .loop .s) _
+          (at-3 .loop .inv .2) (search turns) (c .root .ensures),
+    )
 
 returns : tie.Need-returns Inv-loop μ-loop
 returns c = maps-done _ (c .before .before .before .args .s .now) (c .before .loop .i) _ (c .before .loop .inv .2) (omega arith)

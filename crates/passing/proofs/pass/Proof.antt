@@ -21,10 +21,27 @@ loop-holds : tie.Need-loop-holds Inv-loop μ-loop
 loop-holds c = (search turns, refl, refl, refl, c .before .before .before .pre, pass-rows _ _ _)
 
 returns : tie.Need-returns Inv-loop μ-loop
-returns c = (rw (c .turn-is .ensures) (stage-stop _ _ _ _ _ (c .before .before .before .before .before .before .before .before .before .before .before .before .before .before .before .loop .inv .5) (c .before .before .before .before .before .before .before .before .before .before .before .before .before .before .loop-test .taken) _ _ (c .before .before .before .before .before .before .before .before .before .before .pass-row .ensures .0) _ _ (c .before .before .stage .given .1)), c .before .before .before .before .before .before .before .before .before .before .pass-row .ensures .1)
+returns c =
+    let at-10 = c .before .before .before .before .before .before .before .before .before .before in (
+      rw (c .turn-is .ensures)
+          (stage-stop _ _ _ _ _ (c .before .before .before .before .before .before .before .before .before .before .before .before .before .before .before .loop .inv .5) (c .before .before .before .before .before .before .before .before .before .before .before .before .before .before .loop-test .taken) _ _ (at-10 .pass-row .ensures .0) _ _ (c .before .before .stage .given .1)),
+      at-10 .pass-row .ensures .1,
+    )
 
 loop-again : tie.Need-loop-again Inv-loop μ-loop
-loop-again c = (search turns, search turns, search turns, search turns, row-held _ _ _ _ _ _ _ _ (c .before .before .before .before .before .before .before .before .before .before .before .before .before .loop .inv .4) (c .before .before .before .before .before .before .before .before .pass-row .ensures .1) _ (c .enum-told .given .1) _ _ _ (c .before .before .before .before .before .before .before .before .pass-row .ensures .0), stage-more _ _ _ _ _ (c .before .before .before .before .before .before .before .before .before .before .before .before .before .loop .inv .5) (c .before .before .before .before .before .before .before .before .before .before .before .before .loop-test .taken) _ _ (c .before .before .before .before .before .before .before .before .pass-row .ensures .0) (c .enum-told .given .1))
+loop-again c =
+    let at-8 = c .before .before .before .before .before .before .before .before in
+    let at-13 = at-8 .before .before .before .before .before in (
+      search turns,
+      search turns,
+      search turns,
+      search turns,
+      row-held _ _ _ _ _ _ _ _ (at-13 .loop .inv .4) (at-8 .pass-row .ensures .1) _
+          (c .enum-told .given .1) _ _ _ (at-8 .pass-row .ensures .0),
+      stage-more _ _ _ _ _ (at-13 .loop .inv .5)
+          (c .before .before .before .before .before .before .before .before .before .before .before .before .loop-test .taken) _ _ (at-8 .pass-row .ensures .0)
+          (c .enum-told .given .1),
+    )
 
 returns-2 : tie.Need-returns-2 Inv-loop μ-loop
 returns-2 c = (rw (c .turn-is2 .ensures) (stage-done _ _ _ _ _ (c .before .before .loop .inv .5) (c .before .loop-test .left)), c .before .before .loop .inv .4 .kept)

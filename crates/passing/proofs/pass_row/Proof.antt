@@ -12,7 +12,9 @@ use Rattle.passing.proofs.pass_row.Statement.{statement}
 use Rattle.passing.proofs.pass_row.Tie as tie
 
 abbrev Inv-loop : tie.InvT-loop
-Inv-loop a₀ v₀ ss₀ m n p still quiet₀ q₀ a v ss quiet q = (q ≤ n) × (p + 1 ≤ q) × (length a ≡ length a₀) × (length v ≡ length v₀) × (length ss ≡ length ss₀) × Held m n a v ss × (passRow m n p (passed (svd a₀ v₀) still) ≡ turning (n - q) q (λ (j : ℕ). rotate m n p j) (passed (svd a v) quiet))
+Inv-loop a₀ v₀ ss₀ m n p still quiet₀ q₀ a v ss quiet q =
+    (q ≤ n) × (p + 1 ≤ q) × (length a ≡ length a₀) × (length v ≡ length v₀) × (length ss ≡ length ss₀) × Held m n a v ss ×
+    (passRow m n p (passed (svd a₀ v₀) still) ≡ turning (n - q) q (λ (j : ℕ). rotate m n p j) (passed (svd a v) quiet))
 
 abbrev μ-loop : tie.MeasureT-loop
 μ-loop a₀ v₀ ss₀ m n p still quiet₀ q₀ a v ss quiet q = n - q
@@ -23,11 +25,29 @@ loop-holds c = (search turns, search turns, refl, refl, refl, c .before .before 
 
 returns : tie.Need-returns Inv-loop μ-loop
 unfolding passRow
-returns c = (rw (c .turn-is .ensures) (stage-stop _ _ _ _ _ (c .before .before .before .before .before .before .before .before .before .before .before .before .before .before .before .loop .inv .6) (c .before .before .before .before .before .before .before .before .before .before .before .before .before .before .loop-test .taken) _ _ (c .before .before .before .before .before .before .before .before .before .before .rotate .ensures .0) _ _ (c .before .before .stage .given .1)), c .before .before .before .before .before .before .before .before .before .before .rotate .ensures .1)
+returns c =
+    let at-10 = c .before .before .before .before .before .before .before .before .before .before in (
+      rw (c .turn-is .ensures)
+          (stage-stop _ _ _ _ _ (c .before .before .before .before .before .before .before .before .before .before .before .before .before .before .before .loop .inv .6) (c .before .before .before .before .before .before .before .before .before .before .before .before .before .before .loop-test .taken) _ _ (at-10 .rotate .ensures .0) _ _ (c .before .before .stage .given .1)),
+      at-10 .rotate .ensures .1,
+    )
 
 loop-again : tie.Need-loop-again Inv-loop μ-loop
 unfolding passRow
-loop-again c = (search turns, search turns, search turns, search turns, search turns, rotate-held _ _ _ _ _ _ _ _ (c .before .before .before .before .before .before .before .before .before .before .before .before .before .loop .inv .5) (c .before .before .before .before .before .before .before .before .rotate .ensures .1) _ (c .enum-told .given .1) _ _ _ _ (c .before .before .before .before .before .before .before .before .rotate .ensures .0), stage-more _ _ _ _ _ (c .before .before .before .before .before .before .before .before .before .before .before .before .before .loop .inv .6) (c .before .before .before .before .before .before .before .before .before .before .before .before .loop-test .taken) _ _ (c .before .before .before .before .before .before .before .before .rotate .ensures .0) (c .enum-told .given .1))
+loop-again c =
+    let at-8 = c .before .before .before .before .before .before .before .before in
+    let at-13 = at-8 .before .before .before .before .before in (
+      search turns,
+      search turns,
+      search turns,
+      search turns,
+      search turns,
+      rotate-held _ _ _ _ _ _ _ _ (at-13 .loop .inv .5) (at-8 .rotate .ensures .1) _
+          (c .enum-told .given .1) _ _ _ _ (at-8 .rotate .ensures .0),
+      stage-more _ _ _ _ _ (at-13 .loop .inv .6)
+          (c .before .before .before .before .before .before .before .before .before .before .before .before .loop-test .taken) _ _ (at-8 .rotate .ensures .0)
+          (c .enum-told .given .1),
+    )
 
 returns-2 : tie.Need-returns-2 Inv-loop μ-loop
 unfolding passRow

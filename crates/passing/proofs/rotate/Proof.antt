@@ -7,10 +7,21 @@ use Rattle.passing.proofs.rotate.Statement.{statement}
 use Rattle.passing.proofs.rotate.Tie as tie
 
 returns : tie.Need-returns
-returns c = (rw (c .turn-is .ensures) (rotate-skip _ _ _ _ _ _ _ _ (c .before .before .before .before .before .before .before .before .before .before .pre .0 .kept) (c .before .before .before .before .before .before .before .before .before .before .pre .1) (c .before .before .before .before .before .before .before .before .before .before .pre .2) _ (c .before .before .before .before .before .dot .ensures) _ (c .before .before .skipped .ensures) (c .before .if1 .taken)), c .before .before .before .before .before .before .before .before .before .before .pre .0 .kept)
+returns c =
+    let at-10 = c .before .before .before .before .before .before .before .before .before .before in (
+      rw (c .turn-is .ensures)
+          (rotate-skip _ _ _ _ _ _ _ _ (at-10 .pre .0 .kept) (at-10 .pre .1) (at-10 .pre .2) _ (c .before .before .before .before .before .dot .ensures) _ (c .before .before .skipped .ensures) (c .before .if1 .taken)),
+      at-10 .pre .0 .kept,
+    )
 
 returns-2 : tie.Need-returns-2
-returns-2 c = (rw (c .turn-is2 .ensures) (rotate-go _ _ _ _ _ _ _ _ (c .before .before .before .before .before .before .before .before .before .before .before .before .before .before .before .before .before .before .before .before .before .before .before .pre .0 .kept) (c .before .before .before .before .before .before .before .before .before .before .before .before .before .before .before .before .before .before .before .before .before .before .before .pre .1) (c .before .before .before .before .before .before .before .before .before .before .before .before .before .before .before .before .before .before .before .before .before .before .before .pre .2) _ (c .before .before .before .before .before .before .before .before .before .before .before .before .before .before .before .before .before .before .dot .ensures) _ (c .before .before .before .before .before .before .before .before .before .before .before .before .before .before .before .skipped .ensures) (c .before .before .before .before .before .before .before .before .before .before .before .before .before .before .if1 .left) _ _ _ (c .before .before .before .before .before .before .before .before .before .before .before .before .before .slope .ensures) (c .before .before .before .before .before .before .before .before .before .before .before .before .tangent .ensures) (c .before .before .before .before .before .before .before .before .before .before .before .cosine .ensures) _ _ (c .before .before .before .before .before .before .before .apply-jacobi-rotation .ensures .0)), c .before .before .before .before .before .before .before .apply-jacobi-rotation .ensures .1)
+returns-2 c =
+    let at-7 = c .before .before .before .before .before .before .before in
+    let at-23 = at-7 .before .before .before .before .before .before .before .before .before .before .before .before .before .before .before .before in (
+      rw (c .turn-is2 .ensures)
+          (rotate-go _ _ _ _ _ _ _ _ (at-23 .pre .0 .kept) (at-23 .pre .1) (at-23 .pre .2) _ (c .before .before .before .before .before .before .before .before .before .before .before .before .before .before .before .before .before .before .dot .ensures) _ (c .before .before .before .before .before .before .before .before .before .before .before .before .before .before .before .skipped .ensures) (c .before .before .before .before .before .before .before .before .before .before .before .before .before .before .if1 .left) _ _ _ (c .before .before .before .before .before .before .before .before .before .before .before .before .before .slope .ensures) (c .before .before .before .before .before .before .before .before .before .before .before .before .tangent .ensures) (c .before .before .before .before .before .before .before .before .before .before .before .cosine .ensures) _ _ (at-7 .apply-jacobi-rotation .ensures .0)),
+      at-7 .apply-jacobi-rotation .ensures .1,
+    )
 
 pub rotate-spec : {M : Type 1} → statement M
 rotate-spec = tie.close (tie.spec

@@ -9,4 +9,15 @@ use Rattle.product.proofs.inner_ok.Tie as tie
 
 pub inner-ok-spec : {M : Type 1} → statement M
 unfolding innerOk
-inner-ok-spec = tie.close (tie.spec (λ c κs. search (needs, then-stops, then-passes, fits-sizes, chain-long, weights-long)) (λ c. search (needs, then-stops, then-passes, fits-sizes, chain-long, weights-long)) (λ c. search (needs, then-stops, then-passes, fits-sizes, chain-long, weights-long)) (λ c. search (needs, then-stops, then-passes, fits-sizes, chain-long, weights-long)) (λ c κs. search (needs, then-stops, then-passes, fits-sizes, chain-long, weights-long)) (λ c. search (needs, then-stops, then-passes, fits-sizes, chain-long, weights-long)) (λ c. search (needs, then-stops, then-passes, fits-sizes, chain-long, weights-long)) (λ c. search (needs, then-stops, then-passes, fits-sizes, chain-long, weights-long)) (λ c κs. search (needs, then-stops, then-passes, fits-sizes, chain-long, weights-long)) (λ c. search (needs, then-stops, then-passes, fits-sizes, chain-long, weights-long)))
+inner-ok-spec =
+    tie.close
+    (tie.spec (λ c κs. search (needs, then-stops, then-passes, fits-sizes, chain-long, weights-long))
+    (λ c. search (needs, then-stops, then-passes, fits-sizes, chain-long, weights-long))
+    (λ c. search (needs, then-stops, then-passes, fits-sizes, chain-long, weights-long))
+    (λ c. search (needs, then-stops, then-passes, fits-sizes, chain-long, weights-long))
+    (λ c κs. search (needs, then-stops, then-passes, fits-sizes, chain-long, weights-long))
+    (λ c. search (needs, then-stops, then-passes, fits-sizes, chain-long, weights-long))
+    (λ c. search (needs, then-stops, then-passes, fits-sizes, chain-long, weights-long))
+    (λ c. search (needs, then-stops, then-passes, fits-sizes, chain-long, weights-long))
+    (λ c κs. search (needs, then-stops, then-passes, fits-sizes, chain-long, weights-long))
+    (λ c. search (needs, then-stops, then-passes, fits-sizes, chain-long, weights-long)))

@@ -5,4 +5,8 @@ use Rattle.product.proofs.inner_separable.Statement.{statement}
 use Rattle.product.proofs.inner_separable.Tie as tie
 
 pub inner-separable-spec : {M : Type 1} → statement M
-inner-separable-spec = tie.close (tie.spec (λ c κs. search (needs, inner-checked)) (λ c. search (needs, inner-checked)) (λ c κs. search (needs, inner-checked)) (λ c. search (needs, inner-checked)) (λ c. search (needs, inner-checked)) (λ c κs. inner-asks _ _ _ _ (c .before .before .inner-ok .ensures) (c .enum-told .given .1)) (λ c. search (needs, inner-checked)))
+inner-separable-spec =
+    tie.close
+    (tie.spec (λ c κs. search (needs, inner-checked)) (λ c. search (needs, inner-checked)) (λ c κs. search (needs, inner-checked))
+    (λ c. search (needs, inner-checked)) (λ c. search (needs, inner-checked))
+    (λ c κs. inner-asks _ _ _ _ (c .before .before .inner-ok .ensures) (c .enum-told .given .1)) (λ c. search (needs, inner-checked)))

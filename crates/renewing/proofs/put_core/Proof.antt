@@ -6,10 +6,18 @@ use Rattle.renewing.proofs.put_core.Statement.{statement}
 use Rattle.renewing.proofs.put_core.Tie as tie
 
 put-at-requires : tie.Need-put-at-requires
-put-at-requires c κs = core-fits (c .before .before .before .before .args .s) (c .before .before .before .before .args .z) (c .before .before .before .before .pre .1 .0) (c .before .before .before .before .args .source .now) (c .before .before .before .before .args .part .now) (c .before .before .before .before .pre .1 .1) (c .before .before .before .before .pre .1 .2) _ (c .before .offset .ensures) _ (le-refl _)
+put-at-requires c κs =
+    let at-4 = c .before .before .before .before in
+    let start = c .before .before .before .before .args in
+    core-fits (start .s) (start .z) (at-4 .pre .1 .0) (start .source .now) (start .part .now) (at-4 .pre .1 .1) (at-4 .pre .1 .2) _ (c .before .offset .ensures)
+    _ (le-refl _)
 
 returns : tie.Need-returns
-returns c = core-put (c .before .before .before .before .before .before .before .args .s) (c .before .before .before .before .before .before .before .args .z) (c .before .before .before .before .before .before .before .pre .1 .0) (c .before .before .before .before .before .before .before .args .source .now) (c .before .before .before .before .before .before .before .args .part .now) (c .before .before .before .before .before .before .before .pre .1 .1) (c .before .before .before .before .before .before .before .pre .1 .2) _ (c .before .before .before .before .offset .ensures) _ (c .before .before .put-at .ensures)
+returns c =
+    let at-7 = c .before .before .before .before .before .before .before in
+    let start = c .before .before .before .before .before .before .before .args in
+    core-put (start .s) (start .z) (at-7 .pre .1 .0) (start .source .now) (start .part .now) (at-7 .pre .1 .1) (at-7 .pre .1 .2) _
+    (c .before .before .before .before .offset .ensures) _ (c .before .before .put-at .ensures)
 
 pub put-core-spec : {M : Type 1} → statement M
 put-core-spec = tie.close (tie.spec (λ c κs. search needs) put-at-requires (λ c. search needs) returns)

@@ -6,7 +6,9 @@ use Rattle.renewing.proofs.renew.Statement.{statement}
 use Rattle.renewing.proofs.renew.Tie as tie
 
 returns : tie.Need-returns
-returns c = (c .before .before .before .before .before .before .before .before .before .before .before .before .worked .ensures, c .before .before .fill .ensures ∙ ap zeros (c .before .before .before .before .before .before .before .before .before .before .before .before .worked .kept .1 .1 .1 .1 .1 .1 .0))
+returns c =
+    let at-12 = c .before .before .before .before .before .before .before .before .before .before .before .before in
+    (at-12 .worked .ensures, c .before .before .fill .ensures ∙ ap zeros (at-12 .worked .kept .1 .1 .1 .1 .1 .1 .0))
 
 pub renew-spec : {M : Type 1} → statement M
 renew-spec = tie.close (tie.spec

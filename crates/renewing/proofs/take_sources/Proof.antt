@@ -5,19 +5,37 @@ use Rattle.renewing.proofs.take_sources.Statement.{statement}
 use Rattle.renewing.proofs.take_sources.Tie as tie
 
 mul-put-at : tie.Need-mul-put-at
-mul-put-at c = source-start-fits (c .before .before .before .args .s) (c .before .before .before .args .z) (c .before .before .before .pre .1 .0) (c .before .before .before .args .source .now) (c .before .before .before .args .work .now) (c .before .before .before .pre .1 .1) (c .before .before .before .pre .1 .2) _ (c .offset .ensures) (c .before .before .before .pre .0)
+mul-put-at c =
+    let at-3 = c .before .before .before in
+    let start = c .before .before .before .args in
+    source-start-fits (start .s) (start .z) (at-3 .pre .1 .0) (start .source .now) (start .work .now) (at-3 .pre .1 .1) (at-3 .pre .1 .2) _ (c .offset .ensures)
+    (at-3 .pre .0)
 
 sub-put-at : tie.Need-sub-put-at
-sub-put-at c = source-starts (c .before .before .before .args .s) (c .before .before .before .args .z) (c .before .before .before .pre .1 .0) (c .before .before .before .args .source .now) (c .before .before .before .args .work .now) (c .before .before .before .pre .1 .1) (c .before .before .before .pre .1 .2) _ (c .offset .ensures)
+sub-put-at c =
+    let at-3 = c .before .before .before in
+    let start = c .before .before .before .args in
+    source-starts (start .s) (start .z) (at-3 .pre .1 .0) (start .source .now) (start .work .now) (at-3 .pre .1 .1) (at-3 .pre .1 .2) _ (c .offset .ensures)
 
 part-put-at-start : tie.Need-part-put-at-start
-part-put-at-start c = source-starts (c .before .before .before .args .s) (c .before .before .before .args .z) (c .before .before .before .pre .1 .0) (c .before .before .before .args .source .now) (c .before .before .before .args .work .now) (c .before .before .before .pre .1 .1) (c .before .before .before .pre .1 .2) _ (c .offset .ensures)
+part-put-at-start c =
+    let at-3 = c .before .before .before in
+    let start = c .before .before .before .args in
+    source-starts (start .s) (start .z) (at-3 .pre .1 .0) (start .source .now) (start .work .now) (at-3 .pre .1 .1) (at-3 .pre .1 .2) _ (c .offset .ensures)
 
 put-at-requires : tie.Need-put-at-requires
-put-at-requires c κs = source-fits (c .before .before .before .before .before .args .s) (c .before .before .before .before .before .args .z) (c .before .before .before .before .before .pre .1 .0) (c .before .before .before .before .before .args .source .now) (c .before .before .before .before .before .args .work .now) (c .before .before .before .before .before .pre .1 .1) (c .before .before .before .before .before .pre .1 .2) _ (c .before .before .offset .ensures)
+put-at-requires c κs =
+    let at-5 = c .before .before .before .before .before in
+    let start = c .before .before .before .before .before .args in
+    source-fits (start .s) (start .z) (at-5 .pre .1 .0) (start .source .now) (start .work .now) (at-5 .pre .1 .1) (at-5 .pre .1 .2) _
+    (c .before .before .offset .ensures)
 
 returns : tie.Need-returns
-returns c = sources-taken (c .before .before .before .before .before .before .before .before .args .s) (c .before .before .before .before .before .before .before .before .args .z) (c .before .before .before .before .before .before .before .before .pre .1 .0) (c .before .before .before .before .before .before .before .before .args .source .now) (c .before .before .before .before .before .before .before .before .args .work .now) (c .before .before .before .before .before .before .before .before .pre .1 .1) (c .before .before .before .before .before .before .before .before .pre .1 .2) _ (c .before .before .before .before .before .offset .ensures) _ _ (c .before .before .put-at .ensures)
+returns c =
+    let at-8 = c .before .before .before .before .before .before .before .before in
+    let start = c .before .before .before .before .before .before .before .before .args in
+    sources-taken (start .s) (start .z) (at-8 .pre .1 .0) (start .source .now) (start .work .now) (at-8 .pre .1 .1) (at-8 .pre .1 .2) _
+    (c .before .before .before .before .before .offset .ensures) _ _ (c .before .before .put-at .ensures)
 
 pub take-sources-spec : {M : Type 1} → statement M
 take-sources-spec = tie.close (tie.spec

@@ -12,16 +12,52 @@ take-sum-requires : tie.Need-take-sum-requires
 take-sum-requires c κs = sum-asks _ _ _ _ _ _ _ (c .before .before .before .before .before .before .before .before .before .before .before .before .before .before .pre) _ (search needs)
 
 redo-from-requires : tie.Need-redo-from-requires
-redo-from-requires c κs = redo-asks _ _ _ _ _ _ _ (c .before .before .before .before .before .before .before .before .before .before .before .before .before .before .before .before .before .before .before .before .pre) _ (c .before .before .before .walked-of .ensures) _ _ (c .before .before .before .before .before .before .before .before .before .take-carry .kept .1 .1 .1 .0 ∙ (search needs)) (c .before .before .before .before .before .take-sum .kept .1 .1 .1 .0 ∙ (search needs))
+redo-from-requires c κs =
+    redo-asks _ _ _ _ _ _ _
+    (c .before .before .before .before .before .before .before .before .before .before .before .before .before .before .before .before .before .before .before
+    .before .pre) _ (c .before .before .before .walked-of .ensures) _ _
+    (c .before .before .before .before .before .before .before .before .before .take-carry .kept .1 .1 .1 .0 ∙ (search needs))
+    (c .before .before .before .before .before .take-sum .kept .1 .1 .1 .0 ∙ (search needs))
 
 returns : tie.Need-returns
-returns c = renew-stops _ _ _ _ _ _ _ (c .before .before .before .before .before .before .before .before .before .before .before .before .before .before .before .before .before .before .before .before .before .before .before .before .before .before .before .before .before .pre) _ (c .before .before .before .before .before .before .before .before .before .before .before .before .walked-of .ensures) _ _ (c .before .before .before .before .before .before .before .before .before .before .before .before .before .before .before .before .before .before .take-carry .kept .1 .1 .1 .0 ∙ (search needs)) (c .before .before .before .before .before .before .before .before .before .before .before .before .before .before .take-sum .kept .1 .1 .1 .0 ∙ (search needs)) (c .before .before .before .before .before .before .before .before .before .before .before .before .before .before .before .before .before .before .take-carry .ensures) (c .before .before .before .before .before .before .before .before .before .before .before .before .before .before .take-sum .ensures) (c .before .before .before .before .before .before .before .before .redo-from .result) _ _ _ (c .before .before .before .before .before .before .before .before .redo-from .ensures) _ (c .before .before .verdict .given .1) _ (c .refused .ensures)
+returns c =
+    let at-8 = c .before .before .before .before .before .before .before .before in
+    let at-14 = at-8 .before .before .before .before .before .before in
+    let at-18 = at-14 .before .before .before .before in
+    renew-stops _ _ _ _ _ _ _
+    (c .before .before .before .before .before .before .before .before .before .before .before .before .before .before .before .before .before .before .before
+    .before .before .before .before .before .before .before .before .before .before .pre) _
+    (c .before .before .before .before .before .before .before .before .before .before .before .before .walked-of .ensures) _ _
+    (at-18 .take-carry .kept .1 .1 .1 .0 ∙ (search needs)) (at-14 .take-sum .kept .1 .1 .1 .0 ∙ (search needs)) (at-18 .take-carry .ensures)
+    (at-14 .take-sum .ensures) (at-8 .redo-from .result) _ _ _ (at-8 .redo-from .ensures) _ (c .before .before .verdict .given .1) _ (c .refused .ensures)
 
 commit-requires : tie.Need-commit-requires
-commit-requires c κs = commit-asks _ _ _ _ _ _ _ (c .before .before .before .before .before .before .before .before .before .before .before .before .before .before .before .before .before .before .before .before .before .before .before .before .before .before .before .before .before .before .before .before .before .pre) _ _ _ (c .before .before .before .before .before .before .before .before .before .before .before .before .redo-from .kept .1 .1 .1 .1 .1 .0) (c .before .before .before .before .before .before .before .before .before .before .before .before .redo-from .kept .1 .1 .1 .1 .1 .1 .0 ∙ c .before .before .before .before .before .before .before .before .before .before .before .before .before .before .before .before .before .before .before .before .before .before .take-carry .kept .1 .1 .1 .0 ∙ (search needs)) (c .before .before .before .before .before .before .before .before .before .before .before .before .redo-from .kept .1 .1 .1 .1 .1 .1 .1 .0 ∙ c .before .before .before .before .before .before .before .before .before .before .before .before .before .before .before .before .before .before .take-sum .kept .1 .1 .1 .0 ∙ (search needs))
+commit-requires c κs =
+    let at-12 = c .before .before .before .before .before .before .before .before .before .before .before .before in
+    commit-asks _ _ _ _ _ _ _
+    (c .before .before .before .before .before .before .before .before .before .before .before .before .before .before .before .before .before .before .before
+    .before .before .before .before .before .before .before .before .before .before .before .before .before .before .pre) _ _ _
+    (at-12 .redo-from .kept .1 .1 .1 .1 .1 .0)
+    (at-12 .redo-from .kept .1 .1 .1 .1 .1 .1 .0 ∙ c .before .before .before .before .before .before .before .before .before .before .before .before .before
+    .before .before .before .before .before .before .before .before .before .take-carry .kept .1 .1 .1 .0 ∙ (search needs))
+    (at-12 .redo-from .kept .1 .1 .1 .1 .1 .1 .1 .0 ∙ c .before .before .before .before .before .before .before .before .before .before .before .before .before
+    .before .before .before .before .before .take-sum .kept .1 .1 .1 .0 ∙ (search needs))
 
 returns-2 : tie.Need-returns-2
-returns-2 c = renew-fits _ _ _ _ _ _ _ (c .before .before .before .before .before .before .before .before .before .before .before .before .before .before .before .before .before .before .before .before .before .before .before .before .before .before .before .before .before .before .before .before .before .before .before .before .before .before .before .before .before .pre) _ (c .before .before .before .before .before .before .before .before .before .before .before .before .before .before .before .before .before .before .before .before .before .before .before .before .walked-of .ensures) _ _ (c .before .before .before .before .before .before .before .before .before .before .before .before .before .before .before .before .before .before .before .before .before .before .before .before .before .before .before .before .before .before .take-carry .kept .1 .1 .1 .0 ∙ (search needs)) (c .before .before .before .before .before .before .before .before .before .before .before .before .before .before .before .before .before .before .before .before .before .before .before .before .before .before .take-sum .kept .1 .1 .1 .0 ∙ (search needs)) (c .before .before .before .before .before .before .before .before .before .before .before .before .before .before .before .before .before .before .before .before .before .before .before .before .before .before .before .before .before .before .take-carry .ensures) (c .before .before .before .before .before .before .before .before .before .before .before .before .before .before .before .before .before .before .before .before .before .before .before .before .before .before .take-sum .ensures) (c .before .before .before .before .before .before .before .before .before .before .before .before .before .before .before .before .before .before .before .before .redo-from .result) _ _ _ (c .before .before .before .before .before .before .before .before .before .before .before .before .before .before .before .before .before .before .before .before .redo-from .ensures) (c .before .before .before .before .before .before .before .before .before .before .before .before .before .before .enum-told .given .1) _ _ _ _ (c .before .before .before .before .before .before .before .commit .ensures) _ (c .fitted .ensures)
+returns-2 c =
+    let at-20 = c .before .before .before .before .before .before .before .before .before .before .before .before .before .before .before .before .before .before .before .before in
+    let at-26 = at-20 .before .before .before .before .before .before in
+    let at-30 = at-26 .before .before .before .before in
+    renew-fits _ _ _ _ _ _ _
+    (c .before .before .before .before .before .before .before .before .before .before .before .before .before .before .before .before .before .before .before
+    .before .before .before .before .before .before .before .before .before .before .before .before .before .before .before .before .before .before .before
+    .before .before .before .pre) _
+    (c .before .before .before .before .before .before .before .before .before .before .before .before .before .before .before .before .before .before .before
+    .before .before .before .before .before .walked-of .ensures) _ _ (at-30 .take-carry .kept .1 .1 .1 .0 ∙ (search needs))
+    (at-26 .take-sum .kept .1 .1 .1 .0 ∙ (search needs)) (at-30 .take-carry .ensures) (at-26 .take-sum .ensures) (at-20 .redo-from .result) _ _ _
+    (at-20 .redo-from .ensures)
+    (c .before .before .before .before .before .before .before .before .before .before .before .before .before .before .enum-told .given .1) _ _ _ _
+    (c .before .before .before .before .before .before .before .commit .ensures) _ (c .fitted .ensures)
 
 same-length-7 : tie.Need-same-length-7
 same-length-7 c = c .before .before .before .before .before .before .before .before .before .before .before .before .before .before .before .before .before .before .before .before .redo-from .kept .1 .1 .1 .1 .1 .0

@@ -13,19 +13,43 @@ use Rattle.reweighing.proofs.commit.Statement.{statement}
 use Rattle.reweighing.proofs.commit.Tie as tie
 
 put-at-requires : tie.Need-put-at-requires
-put-at-requires c κs = let i = c .before .before .before .before .before .before .before .before .before in part-ends (i .args .s) (i .args .z) (i .args .part .now) (i .args .weights .now) (i .pre .1 .0) (i .pre .1 .1) (i .pre .1 .2) _ (c .before .before .before .before .points-offset .ensures)
+put-at-requires c κs =
+    let i = c .before .before .before .before .before .before .before .before .before in
+    part-ends (i .args .s) (i .args .z) (i .args .part .now) (i .args .weights .now) (i .pre .1 .0) (i .pre .1 .1) (i .pre .1 .2) _
+    (c .before .before .before .before .points-offset .ensures)
 
 copy-from-requires : tie.Need-copy-from-requires
-copy-from-requires c κs = let i = c .before .before .before .before .before .before .before .before .before .before .before .before .before in (omega (arith, c .before .before .before .before .before .before .before .sum-offset .ensures, i .pre .1 .3, offset-mono (sumSize (i .args .s)) (i .args .z) (i .args .s .d) (omega (arith, i .pre .1 .0))), i .pre .0 .1)
+copy-from-requires c κs =
+    let i = c .before .before .before .before .before .before .before .before .before .before .before .before .before in (
+      omega
+          (arith, c .before .before .before .before .before .before .before .sum-offset .ensures, i .pre .1 .3, offset-mono (sumSize (i .args .s)) (i .args .z) (i .args .s .d) (omega (arith, i .pre .1 .0))),
+      i .pre .0 .1,
+    )
 
 mul-result : tie.Need-mul-result
-mul-result c = let i = c .before .before .before .before .before .before .before .before .before .before .before .before .before .before .before .before in figure-fits (i .args .s) (i .pre .0 .0) _ (c .before .before .before .before .before .before .before .before .sum-offset2 .ensures)
+mul-result c =
+    let i = c .before .before .before .before .before .before .before .before .before .before .before .before .before .before .before .before in
+    figure-fits (i .args .s) (i .pre .0 .0) _ (c .before .before .before .before .before .before .before .before .sum-offset2 .ensures)
 
 slice-read-result : tie.Need-slice-read-result
-slice-read-result c = let i = c .before .before .before .before .before .before .before .before .before .before .before .before .before .before .before .before .before in figure-in (i .args .s) (i .pre .0 .0) _ (c .before .before .before .before .before .before .before .before .before .sum-offset2 .ensures) _ (c .before .before .before .copy-from .kept .1 .1 .0 ∙ i .pre .1 .3)
+slice-read-result c =
+    let i = c .before .before .before .before .before .before .before .before .before .before .before .before .before .before .before .before .before in
+    figure-in (i .args .s) (i .pre .0 .0) _ (c .before .before .before .before .before .before .before .before .before .sum-offset2 .ensures) _
+    (c .before .before .before .copy-from .kept .1 .1 .0 ∙ i .pre .1 .3)
 
 returns : tie.Need-returns
-returns c = let i = c .before .before .before .before .before .before .before .before .before .before .before .before .before .before .before .before .before in (c .before .before .before .before .before .before .before .put-at .ensures ∙ part-in (i .args .s) (i .args .z) (i .args .part .now) (i .args .weights .now) (i .pre .1 .0) (i .pre .1 .1) (i .pre .1 .2) _ (c .before .before .before .before .before .before .before .before .before .before .before .before .points-offset .ensures), c .before .before .before .copy-from .ensures ∙ ap (λ (n : ℕ). take n (i .args .sums .now) ++ drop n (take (length (i .args .sums .now)) (i .args .held .now))) (c .before .before .before .before .before .before .before .before .before .before .before .sum-offset .ensures), ap (at (c .before .before .before .copy-from .last .1 .1 .0)) (c .before .before .before .before .before .before .before .before .before .sum-offset2 .ensures))
+returns c =
+    let at-3 = c .before .before .before in
+    let i = c .before .before .before .before .before .before .before .before .before .before .before .before .before .before .before .before .before in (
+      c .before .before .before .before .before .before .before .put-at .ensures ∙ part-in (i .args .s) (i .args .z) (i .args .part .now)
+          (i .args .weights .now) (i .pre .1 .0) (i .pre .1 .1) (i .pre .1 .2) _
+          (c .before .before .before .before .before .before .before .before .before .before .before .before .points-offset .ensures),
+      at-3 .copy-from .ensures ∙ ap
+          (λ (n : ℕ). take n (i .args .sums .now) ++ drop n (take (length (i .args .sums .now)) (i .args .held .now)))
+          (c .before .before .before .before .before .before .before .before .before .before .before .sum-offset .ensures),
+      ap (at (at-3 .copy-from .last .1 .1 .0))
+          (c .before .before .before .before .before .before .before .before .before .sum-offset2 .ensures),
+    )
 
 pub commit-spec : {M : Type 1} → statement M
 commit-spec = tie.close (tie.spec

@@ -22,4 +22,8 @@ returns : tie.Need-returns Inv-loop μ-loop
 returns c = eye-is _ _ _ _ _ (c .before .before .before .before .fill .ensures) (c .before .before .before .before .before .before .before .pre) (c .before .loop .inv .2) (c .before .loop .inv .0) (c .loop-test .left)
 
 pub eye-spec : {M : Type 1} → statement M
-eye-spec = tie.close (tie.spec Inv-loop μ-loop (λ c κs. search (turns, exacts)) (λ c. search (turns, exacts)) (λ c. search (turns, exacts)) (λ c. search (turns, exacts)) (λ c. search (turns, exacts)) (λ c. search (turns, exacts)) (λ c. search (turns, exacts)) (λ c. search (turns, exacts)) (λ c. search (turns, exacts)) (λ c. search (turns, exacts)) returns)
+eye-spec =
+    tie.close
+    (tie.spec Inv-loop μ-loop (λ c κs. search (turns, exacts)) (λ c. search (turns, exacts)) (λ c. search (turns, exacts)) (λ c. search (turns, exacts))
+    (λ c. search (turns, exacts)) (λ c. search (turns, exacts)) (λ c. search (turns, exacts)) (λ c. search (turns, exacts)) (λ c. search (turns, exacts))
+    (λ c. search (turns, exacts)) returns)

@@ -16,4 +16,8 @@ abbrev μ-loop : tie.MeasureT-loop
 
 pub turn-pairs-spec : {M : Type 1} → statement M
 unfolding turnPairs
-turn-pairs-spec = tie.close (tie.spec Inv-loop μ-loop (λ c. search (turns, strides)) (λ c. search (turns, strides)) (λ c. search (turns, strides)) (λ c. search (turns, strides)) (λ c. search (turns, strides)) (λ c κs. search (turns, strides)) (λ c. search (turns, strides)) (λ c. search (turns, strides)) (λ c. search (turns, strides)) (λ c. search (turns, strides)) (λ c. search (turns, strides)))
+turn-pairs-spec =
+    tie.close
+    (tie.spec Inv-loop μ-loop (λ c. search (turns, strides)) (λ c. search (turns, strides)) (λ c. search (turns, strides)) (λ c. search (turns, strides))
+    (λ c. search (turns, strides)) (λ c κs. search (turns, strides)) (λ c. search (turns, strides)) (λ c. search (turns, strides))
+    (λ c. search (turns, strides)) (λ c. search (turns, strides)) (λ c. search (turns, strides)))

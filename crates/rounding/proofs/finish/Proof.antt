@@ -8,10 +8,14 @@ leave-requires : tie.Need-leave-requires
 leave-requires c κs = let i = c .before .before .before .before .before in (i .pre .0, i .pre .1)
 
 returns : tie.Need-returns
-returns c = finish-stops _ _ _ _ _ _ (c .before .before .before .before .before .before .before .before .leave .ensures .0) (c .before .before .before .before .before .before .before .before .leave .ensures .1) _ _ (c .before .before .verdict .given .1) (c .refused-rounding .ensures)
+returns c =
+    let at-8 = c .before .before .before .before .before .before .before .before in
+    finish-stops _ _ _ _ _ _ (at-8 .leave .ensures .0) (at-8 .leave .ensures .1) _ _ (c .before .before .verdict .given .1) (c .refused-rounding .ensures)
 
 returns-2 : tie.Need-returns-2
-returns-2 c = finish-goes _ _ _ _ _ _ (c .before .before .before .before .before .before .before .leave .ensures .0) (c .before .before .before .before .before .before .before .leave .ensures .1) _ (c .before .enum-told .given .1) (c .rounded-of .ensures)
+returns-2 c =
+    let at-7 = c .before .before .before .before .before .before .before in
+    finish-goes _ _ _ _ _ _ (at-7 .leave .ensures .0) (at-7 .leave .ensures .1) _ (c .before .enum-told .given .1) (c .rounded-of .ensures)
 
 pub finish-spec : {M : Type 1} → statement M
 finish-spec = tie.close (tie.spec

@@ -9,16 +9,41 @@ use Rattle.runs.proofs.fresh_run.Statement.{statement}
 use Rattle.runs.proofs.fresh_run.Tie as tie
 
 returns : tie.Need-returns
-returns c = fresh-stops (c .before .before .before .before .before .before .before .before .before .before .before .before .args .s) (c .before .before .before .before .before .before .before .before .before .before .before .before .args .xs) (c .before .before .before .before .before .before .before .before .before .before .before .before .args .set) (c .before .before .before .before .before .before .before .before .before .before .before .before .args .source .now) (c .before .before .before .before .before .before .before .before .before .before .before .before .args .weights .now) (c .before .before .before .before .before .before .before .before .before .before .before .before .args .chain .now) (c .before .before .before .before .before .before .before .before .before .before .before .before .args .carries .now) (c .before .before .before .before .before .before .before .before .before .before .before .before .args .sums .now) (c .before .before .before .before .before .before .before .before .before .before .before .before .args .scratch .now) _ (c .before .before .before .before .fresh-ok .ensures) _ (c .before .before .before .before .before .blank-run .ensures) _ (c .before .before .ok .given .1) _ (c .refused .ensures)
+returns c =
+    let start = c .before .before .before .before .before .before .before .before .before .before .before .before .args in
+    fresh-stops (start .s) (start .xs) (start .set) (start .source .now) (start .weights .now) (start .chain .now) (start .carries .now) (start .sums .now)
+    (start .scratch .now) _ (c .before .before .before .before .fresh-ok .ensures) _ (c .before .before .before .before .before .blank-run .ensures) _
+    (c .before .before .ok .given .1) _ (c .refused .ensures)
 
 take-sources-requires : tie.Need-take-sources-requires
-take-sources-requires c κs = fresh-asks (c .before .before .before .before .before .before .before .before .before .before .before .args .s) (c .before .before .before .before .before .before .before .before .before .before .before .args .xs) (c .before .before .before .before .before .before .before .before .before .before .before .args .set) (c .before .before .before .before .before .before .before .before .before .before .before .args .source .now) (c .before .before .before .before .before .before .before .before .before .before .before .args .weights .now) (c .before .before .before .before .before .before .before .before .before .before .before .args .chain .now) (c .before .before .before .before .before .before .before .before .before .before .before .args .carries .now) (c .before .before .before .before .before .before .before .before .before .before .before .args .sums .now) (length (c .before .before .before .before .before .before .before .before .before .before .before .args .scratch .now)) _ (c .before .before .before .fresh-ok .ensures) (c .before .enum-told .given .1)
+take-sources-requires c κs =
+    let start = c .before .before .before .before .before .before .before .before .before .before .before .args in
+    fresh-asks (start .s) (start .xs) (start .set) (start .source .now) (start .weights .now) (start .chain .now) (start .carries .now) (start .sums .now)
+    (length (start .scratch .now)) _ (c .before .before .before .fresh-ok .ensures) (c .before .enum-told .given .1)
 
 renew-requires : tie.Need-renew-requires
-renew-requires c κs = fresh-asked (c .before .before .before .before .before .before .before .before .before .before .before .before .before .before .before .before .before .before .args .s) (c .before .before .before .before .before .before .before .before .before .before .before .before .before .before .before .before .before .before .args .xs) (c .before .before .before .before .before .before .before .before .before .before .before .before .before .before .before .before .before .before .args .set) (c .before .before .before .before .before .before .before .before .before .before .before .before .before .before .before .before .before .before .args .source .now) (c .before .before .before .before .before .before .before .before .before .before .before .before .before .before .before .before .before .before .args .weights .now) (c .before .before .before .before .before .before .before .before .before .before .before .before .before .before .before .before .before .before .args .chain .now) (c .before .before .before .before .before .before .before .before .before .before .before .before .before .before .before .before .before .before .args .carries .now) (c .before .before .before .before .before .before .before .before .before .before .before .before .before .before .before .before .before .before .args .sums .now) (length (c .before .before .before .before .before .before .before .before .before .before .before .before .before .before .before .before .before .before .args .scratch .now)) _ (c .before .before .before .before .before .before .before .before .before .before .fresh-ok .ensures) (c .before .before .before .before .before .before .before .before .enum-told .given .1) _ (c .before .before .before .before .before .before .before .before .before .before .before .blank-run .ensures) _ (c .before .before .before .before .before .before .take-sources .kept .1 .1 .1 .0)
+renew-requires c κs =
+    let start = c .before .before .before .before .before .before .before .before .before .before .before .before .before .before .before .before .before .before .args in
+    fresh-asked (start .s) (start .xs) (start .set) (start .source .now) (start .weights .now) (start .chain .now) (start .carries .now) (start .sums .now)
+    (length (start .scratch .now)) _ (c .before .before .before .before .before .before .before .before .before .before .fresh-ok .ensures)
+    (c .before .before .before .before .before .before .before .before .enum-told .given .1) _
+    (c .before .before .before .before .before .before .before .before .before .before .before .blank-run .ensures) _
+    (c .before .before .before .before .before .before .take-sources .kept .1 .1 .1 .0)
 
 returns-2 : tie.Need-returns-2
-returns-2 c = let n = c .before .before .before .before .before .before .before .before .before .before .before .before .before .before .before .take-sources .kept .1 .1 .1 .0 in fresh-ends (c .before .before .before .before .before .before .before .before .before .before .before .before .before .before .before .before .before .before .before .before .before .before .before .before .before .before .before .args .s) (c .before .before .before .before .before .before .before .before .before .before .before .before .before .before .before .before .before .before .before .before .before .before .before .before .before .before .before .args .xs) (c .before .before .before .before .before .before .before .before .before .before .before .before .before .before .before .before .before .before .before .before .before .before .before .before .before .before .before .args .set) (c .before .before .before .before .before .before .before .before .before .before .before .before .before .before .before .before .before .before .before .before .before .before .before .before .before .before .before .args .source .now) (c .before .before .before .before .before .before .before .before .before .before .before .before .before .before .before .before .before .before .before .before .before .before .before .before .before .before .before .args .weights .now) (c .before .before .before .before .before .before .before .before .before .before .before .before .before .before .before .before .before .before .before .before .before .before .before .before .before .before .before .args .chain .now) (c .before .before .before .before .before .before .before .before .before .before .before .before .before .before .before .before .before .before .before .before .before .before .before .before .before .before .before .args .carries .now) (c .before .before .before .before .before .before .before .before .before .before .before .before .before .before .before .before .before .before .before .before .before .before .before .before .before .before .before .args .sums .now) (c .before .before .before .before .before .before .before .before .before .before .before .before .before .before .before .before .before .before .before .before .before .before .before .before .before .before .before .args .scratch .now) _ (c .before .before .before .before .before .before .before .before .before .before .before .before .before .before .before .before .before .before .before .fresh-ok .ensures) (c .before .before .before .before .before .before .before .before .before .before .before .before .before .before .before .before .before .enum-told .given .1) _ (c .before .before .before .before .before .before .before .before .before .before .before .before .before .before .before .before .before .before .before .before .blank-run .ensures) _ (fresh-asked (c .before .before .before .before .before .before .before .before .before .before .before .before .before .before .before .before .before .before .before .before .before .before .before .before .before .before .before .args .s) (c .before .before .before .before .before .before .before .before .before .before .before .before .before .before .before .before .before .before .before .before .before .before .before .before .before .before .before .args .xs) (c .before .before .before .before .before .before .before .before .before .before .before .before .before .before .before .before .before .before .before .before .before .before .before .before .before .before .before .args .set) (c .before .before .before .before .before .before .before .before .before .before .before .before .before .before .before .before .before .before .before .before .before .before .before .before .before .before .before .args .source .now) (c .before .before .before .before .before .before .before .before .before .before .before .before .before .before .before .before .before .before .before .before .before .before .before .before .before .before .before .args .weights .now) (c .before .before .before .before .before .before .before .before .before .before .before .before .before .before .before .before .before .before .before .before .before .before .before .before .before .before .before .args .chain .now) (c .before .before .before .before .before .before .before .before .before .before .before .before .before .before .before .before .before .before .before .before .before .before .before .before .before .before .before .args .carries .now) (c .before .before .before .before .before .before .before .before .before .before .before .before .before .before .before .before .before .before .before .before .before .before .before .before .before .before .before .args .sums .now) (length (c .before .before .before .before .before .before .before .before .before .before .before .before .before .before .before .before .before .before .before .before .before .before .before .before .before .before .before .args .scratch .now)) _ (c .before .before .before .before .before .before .before .before .before .before .before .before .before .before .before .before .before .before .before .fresh-ok .ensures) (c .before .before .before .before .before .before .before .before .before .before .before .before .before .before .before .before .before .enum-told .given .1) _ (c .before .before .before .before .before .before .before .before .before .before .before .before .before .before .before .before .before .before .before .before .blank-run .ensures) _ n) _ _ _ _ (c .before .before .before .before .before .before .before .before .renew .ensures .0) (c .before .before .before .before .before .before .before .before .before .before .before .before .before .before .before .take-sources .ensures) _ (c .before .before .before .before .before .before .before .before .renew .ensures .1 ∙ ap zeros n)
+returns-2 c =
+    let at-8 = c .before .before .before .before .before .before .before .before in
+    let at-15 = at-8 .before .before .before .before .before .before .before in
+    let at-17 = at-15 .before .before in
+    let at-19 = at-17 .before .before in
+    let at-20 = at-19 .before in
+    let start = at-20 .before .before .before .before .before .before .before .args in
+    let n = at-15 .take-sources .kept .1 .1 .1 .0 in
+    fresh-ends (start .s) (start .xs) (start .set) (start .source .now) (start .weights .now) (start .chain .now) (start .carries .now) (start .sums .now)
+    (start .scratch .now) _ (at-19 .fresh-ok .ensures) (at-17 .enum-told .given .1) _ (at-20 .blank-run .ensures) _
+    (fresh-asked (start .s) (start .xs) (start .set) (start .source .now) (start .weights .now) (start .chain .now) (start .carries .now) (start .sums .now)
+    (length (start .scratch .now)) _ (at-19 .fresh-ok .ensures) (at-17 .enum-told .given .1) _ (at-20 .blank-run .ensures) _ n) _ _ _ _
+    (at-8 .renew .ensures .0) (at-15 .take-sources .ensures) _ (at-8 .renew .ensures .1 ∙ ap zeros n)
 
 pub fresh-run-spec : {M : Type 1} → statement M
 fresh-run-spec = tie.close (tie.spec

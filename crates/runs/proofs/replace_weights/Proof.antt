@@ -9,13 +9,27 @@ use Rattle.runs.proofs.replace_weights.Statement.{statement}
 use Rattle.runs.proofs.replace_weights.Tie as tie
 
 returns : tie.Need-returns
-returns c = let i = c .before .before .before .before .before .before .before .before .before .before .before .before .before .before in replace-stops (keptOf (i .args .r) (i .args .source .now) (i .args .weights .now) (i .args .chain .now) (i .args .carries .now) (i .args .sums .now)) (newWeights (i .args .z) (i .args .part .now)) (i .args .scratch .now) _ (c .before .before .before .before .weights-ok .ensures) _ (c .before .before .ok .given .1) _ (c .refused .ensures)
+returns c =
+    let i = c .before .before .before .before .before .before .before .before .before .before .before .before .before .before in
+    replace-stops (keptOf (i .args .r) (i .args .source .now) (i .args .weights .now) (i .args .chain .now) (i .args .carries .now) (i .args .sums .now))
+    (newWeights (i .args .z) (i .args .part .now)) (i .args .scratch .now) _ (c .before .before .before .before .weights-ok .ensures) _
+    (c .before .before .ok .given .1) _ (c .refused .ensures)
 
 resummed-requires : tie.Need-resummed-requires
-resummed-requires c κs = let i = c .before .before .before .before .before .before .before .before .before .before .before .before .before .before in weights-lent (i .args .r) (i .args .z) (i .args .source .now) (i .args .weights .now) (i .args .chain .now) (i .args .carries .now) (i .args .sums .now) (i .args .part .now) (i .args .scratch .now) _ (c .before .before .before .before .weights-ok .ensures) (c .before .before .enum-told .given .1)
+resummed-requires c κs =
+    let i = c .before .before .before .before .before .before .before .before .before .before .before .before .before .before in
+    weights-lent (i .args .r) (i .args .z) (i .args .source .now) (i .args .weights .now) (i .args .chain .now) (i .args .carries .now) (i .args .sums .now)
+    (i .args .part .now) (i .args .scratch .now) _ (c .before .before .before .before .weights-ok .ensures) (c .before .before .enum-told .given .1)
 
 returns-2 : tie.Need-returns-2
-returns-2 c = let i = c .before .before .before .before .before .before .before .before .before .before .before .before .before .before .before .before .before .before .before .before .before .before .before in weights-worked (i .args .r) (i .args .z) (i .args .source .now) (i .args .weights .now) (i .args .chain .now) (i .args .carries .now) (i .args .sums .now) (i .args .part .now) (i .args .scratch .now) _ (c .before .before .before .before .before .before .before .before .before .before .before .before .before .weights-ok .ensures) (c .before .before .before .before .before .before .before .before .before .before .before .enum-told .given .1) _ _ _ _ _ (c .before .before .before .before .before .before .before .before .resummed .ensures (i .args .source .now) (i .args .carries .now) (i .args .scratch .now)) (c .before .before .fill .ensures) refl
+returns-2 c =
+    let i = c .before .before .before .before .before .before .before .before .before .before .before .before .before .before .before .before .before .before .before .before .before .before .before in
+    weights-worked (i .args .r) (i .args .z) (i .args .source .now) (i .args .weights .now) (i .args .chain .now) (i .args .carries .now) (i .args .sums .now)
+    (i .args .part .now) (i .args .scratch .now) _
+    (c .before .before .before .before .before .before .before .before .before .before .before .before .before .weights-ok .ensures)
+    (c .before .before .before .before .before .before .before .before .before .before .before .enum-told .given .1) _ _ _ _ _
+    (c .before .before .before .before .before .before .before .before .resummed .ensures (i .args .source .now) (i .args .carries .now)
+    (i .args .scratch .now)) (c .before .before .fill .ensures) refl
 
 pub replace-weights-spec : {M : Type 1} → statement M
 replace-weights-spec = tie.close (tie.spec

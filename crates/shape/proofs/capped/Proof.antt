@@ -6,4 +6,9 @@ use Rattle.shape.proofs.capped.Statement.{statement}
 use Rattle.shape.proofs.capped.Tie as tie
 
 pub capped-spec : {M : Type 1} → statement M
-capped-spec = tie.close (tie.spec (λ c. search needs) (λ c. search needs) (λ c. search needs) (λ c. capped-at _ _ _ _ (c .before .before .pre) (c .if2 .taken)) (λ c. omega (arith, capped-not _ _ _ _ (c .before .if1 .left) (c .if2 .left))) (λ c. omega (arith, capped-not _ _ _ _ (c .before .if1 .left) (c .if2 .left))) (λ c. omega (arith, capped-not _ _ _ _ (c .before .if1 .left) (c .if2 .left))))
+capped-spec =
+    tie.close
+    (tie.spec (λ c. search needs) (λ c. search needs) (λ c. search needs) (λ c. capped-at _ _ _ _ (c .before .before .pre) (c .if2 .taken))
+    (λ c. omega (arith, capped-not _ _ _ _ (c .before .if1 .left) (c .if2 .left)))
+    (λ c. omega (arith, capped-not _ _ _ _ (c .before .if1 .left) (c .if2 .left)))
+    (λ c. omega (arith, capped-not _ _ _ _ (c .before .if1 .left) (c .if2 .left))))

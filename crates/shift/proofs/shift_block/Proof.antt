@@ -16,4 +16,7 @@ abbrev μ-loop : tie.MeasureT-loop
 μ-loop t forward ahead backward behind out₀ j₀ j-end out j = length out₀ - j
 
 pub shift-block-spec : {M : Type 1} → statement M
-shift-block-spec = tie.close (tie.spec Inv-loop μ-loop (λ c. search (turns, tabs)) (λ c κs. search (turns, rooms)) (λ c. search turns) (λ c. search turns) (λ c. search turns) (λ c. search turns) (λ c. search (turns, tabs)) (λ c. search turns) (λ c. search (turns, tabs)))
+shift-block-spec =
+    tie.close
+    (tie.spec Inv-loop μ-loop (λ c. search (turns, tabs)) (λ c κs. search (turns, rooms)) (λ c. search turns) (λ c. search turns) (λ c. search turns)
+    (λ c. search turns) (λ c. search (turns, tabs)) (λ c. search turns) (λ c. search (turns, tabs)))

@@ -56,4 +56,9 @@ loop-again c =
 
 pub shift-blocks-spec : {M : Type 1} → statement M
 unfolding blocksOf
-shift-blocks-spec = tie.close (tie.spec Inv-loop μ-loop (λ c. search (turns, joins-none)) (λ c. search (turns, at-least)) (λ c. search (turns, at-least)) (λ c. search (turns, at-least)) (λ c. search (turns, at-least)) (λ c. search (turns, at-least)) (λ c. search (turns, at-least)) twice-requires (λ c. search (turns, at-least)) (λ c. search (turns, at-least)) (λ c. search (turns, at-least)) (λ c. search (turns, at-least)) shift-block-requires (λ c. search (turns, at-least)) (λ c. search (turns, at-least)) loop-again (λ c. search turns) (λ c. search turns) (λ c. search (turns, joins-done)))
+shift-blocks-spec =
+    tie.close
+    (tie.spec Inv-loop μ-loop (λ c. search (turns, joins-none)) (λ c. search (turns, at-least)) (λ c. search (turns, at-least)) (λ c. search (turns, at-least))
+    (λ c. search (turns, at-least)) (λ c. search (turns, at-least)) (λ c. search (turns, at-least)) twice-requires (λ c. search (turns, at-least))
+    (λ c. search (turns, at-least)) (λ c. search (turns, at-least)) (λ c. search (turns, at-least)) shift-block-requires (λ c. search (turns, at-least))
+    (λ c. search (turns, at-least)) loop-again (λ c. search turns) (λ c. search turns) (λ c. search (turns, joins-done)))

@@ -31,4 +31,7 @@ returns c =
     (blocks-are (s .args .core .now) (s .args .rl) (s .args .n) (s .args .rr) (s .args .ratio) (s .pre .0 .whole ∙ mul-assoc (s .args .rl) (s .args .n) (s .args .rr)))
 
 pub shift-core-spec : {M : Type 1} → statement M
-shift-core-spec = tie.close (tie.spec (λ c κs. search needs) (λ c κs. search needs) (λ c κs. search needs) (λ c κs. search (needs, reach-neg)) (λ c. search needs) (λ c. search needs) (λ c. search needs) (λ c. search (needs, parts)) shift-blocks-requires (λ c. search needs) (λ c. search needs) returns)
+shift-core-spec =
+    tie.close
+    (tie.spec (λ c κs. search needs) (λ c κs. search needs) (λ c κs. search needs) (λ c κs. search (needs, reach-neg)) (λ c. search needs) (λ c. search needs)
+    (λ c. search needs) (λ c. search (needs, parts)) shift-blocks-requires (λ c. search needs) (λ c. search needs) returns)

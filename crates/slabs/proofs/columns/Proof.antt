@@ -8,13 +8,19 @@ use Rattle.slabs.proofs.columns.Statement.{statement}
 use Rattle.slabs.proofs.columns.Tie as tie
 
 rows-of-requires : tie.Need-rows-of-requires
-rows-of-requires c κs = (c .before .before .before .before .pre .0, c .before .before .before .before .pre .1, mul-le-mul (c .before .before .before .before .pre .3) (c .before .before .before .before .pre .4))
+rows-of-requires c κs =
+    let at-4 = c .before .before .before .before in
+    (at-4 .pre .0, at-4 .pre .1, mul-le-mul (at-4 .pre .3) (at-4 .pre .4))
 
 mul-e : tie.Need-mul-e
-mul-e c = record { fits = omega (arith, mul-le-mul (c .before .before .before .before .before .before .pre .3) (c .before .before .before .before .before .before .pre .4)) }
+mul-e c =
+    let at-6 = c .before .before .before .before .before .before in
+    record { fits = omega (arith, mul-le-mul (at-6 .pre .3) (at-6 .pre .4)) }
 
 part-slab-end : tie.Need-part-slab-end
-part-slab-end c = omega (arith, mul-le-mul (c .before .before .before .before .before .before .before .pre .3) (c .before .before .before .before .before .before .before .pre .4), c .before .room2 .given)
+part-slab-end c =
+    let at-7 = c .before .before .before .before .before .before .before in
+    omega (arith, mul-le-mul (at-7 .pre .3) (at-7 .pre .4), c .before .room2 .given)
 
 returns : tie.Need-returns
 returns c = columns-stop _ _ _ _ _ _ (front-is _ _ _ _ _ _ _ (c .before .before .before .before .before .before .before .rows-of .ensures)) _ (c .before .before .before .stored .ensures) _ _ (c .before .made .given .1)
@@ -23,7 +29,10 @@ transpose-requires : tie.Need-transpose-requires
 transpose-requires c κs = (front-long _ _ _ _ _ _ _ (c .before .before .before .before .before .before .before .rows-of .ensures), c .before .before .before .before .before .before .before .before .before .before .before .before .pre .2)
 
 returns-2 : tie.Need-returns-2
-returns-2 c = columns-end _ _ _ _ _ _ (front-is _ _ _ _ _ _ _ (c .before .before .before .before .before .before .before .before .before .before .rows-of .ensures)) _ (c .before .before .before .before .before .before .stored .ensures) (c .before .before .before .before .enum-told .given .1) _ (c .before .before .transpose .ensures)
+returns-2 c =
+    columns-end _ _ _ _ _ _ (front-is _ _ _ _ _ _ _ (c .before .before .before .before .before .before .before .before .before .before .rows-of .ensures)) _
+    (c .before .before .before .before .before .before .stored .ensures) (c .before .before .before .before .enum-told .given .1) _
+    (c .before .before .transpose .ensures)
 
 pub columns-spec : {M : Type 1} → statement M
 columns-spec = tie.close (tie.spec

@@ -5,4 +5,8 @@ use Rattle.starting.proofs.rank1_separable.Statement.{statement}
 use Rattle.starting.proofs.rank1_separable.Tie as tie
 
 pub rank1-separable-spec : {M : Type 1} → statement M
-rank1-separable-spec = tie.close (tie.spec (λ c κs. search (needs, starts-checked)) (λ c. search (needs, starts-checked)) (λ c κs. search (needs, starts-checked)) (λ c. search (needs, starts-checked)) (λ c. search (needs, starts-checked)) (λ c κs. search (needs, starts-checked)) (λ c κs. search (needs, starts-checked)) (λ c. search (needs, starts-checked)) (λ c. search (needs, starts-checked)))
+rank1-separable-spec =
+    tie.close
+    (tie.spec (λ c κs. search (needs, starts-checked)) (λ c. search (needs, starts-checked)) (λ c κs. search (needs, starts-checked))
+    (λ c. search (needs, starts-checked)) (λ c. search (needs, starts-checked)) (λ c κs. search (needs, starts-checked))
+    (λ c κs. search (needs, starts-checked)) (λ c. search (needs, starts-checked)) (λ c. search (needs, starts-checked)))

@@ -8,4 +8,11 @@ use Rattle.starting.proofs.start_ok.Tie as tie
 
 pub start-ok-spec : {M : Type 1} → statement M
 unfolding startOk
-start-ok-spec = tie.close (tie.spec (λ c κs. search (needs, then-stops, then-passes, sized-points, vectors-long)) (λ c. search (needs, then-stops, then-passes, sized-points, vectors-long)) (λ c. search (needs, then-stops, then-passes, sized-points, vectors-long)) (λ c. search (needs, then-stops, then-passes, sized-points, vectors-long)) (λ c κs. search (needs, then-stops, then-passes, sized-points, vectors-long)) (λ c. search (needs, then-stops, then-passes, sized-points, vectors-long)) (λ c. search (needs, then-stops, then-passes, sized-points, vectors-long)) (λ c. search (needs, then-stops, then-passes, sized-points, vectors-long)) (λ c κs. search (needs, then-stops, then-passes, sized-points, vectors-long)) (λ c. search (needs, then-stops, then-passes, sized-points, vectors-long)))
+start-ok-spec =
+    tie.close
+    (tie.spec (λ c κs. search (needs, then-stops, then-passes, sized-points, vectors-long))
+    (λ c. search (needs, then-stops, then-passes, sized-points, vectors-long)) (λ c. search (needs, then-stops, then-passes, sized-points, vectors-long))
+    (λ c. search (needs, then-stops, then-passes, sized-points, vectors-long)) (λ c κs. search (needs, then-stops, then-passes, sized-points, vectors-long))
+    (λ c. search (needs, then-stops, then-passes, sized-points, vectors-long)) (λ c. search (needs, then-stops, then-passes, sized-points, vectors-long))
+    (λ c. search (needs, then-stops, then-passes, sized-points, vectors-long)) (λ c κs. search (needs, then-stops, then-passes, sized-points, vectors-long))
+    (λ c. search (needs, then-stops, then-passes, sized-points, vectors-long)))

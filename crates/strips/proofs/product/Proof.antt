@@ -17,4 +17,7 @@ abbrev μ-loop : tie.MeasureT-loop
 μ-loop b d q a w c r out₀ i₀ out i = r - i
 
 pub product-spec : {M : Type 1} → statement M
-product-spec = tie.close (tie.spec Inv-loop μ-loop (λ c. search turns) (λ c. search turns) (λ c. search turns) (λ c κs. search (turns, start-ok)) (λ c. search turns) (λ c. search turns) (λ c. search turns) (λ c. search turns) (λ c. search (turns, rows-done)))
+product-spec =
+    tie.close
+    (tie.spec Inv-loop μ-loop (λ c. search turns) (λ c. search turns) (λ c. search turns) (λ c κs. search (turns, start-ok)) (λ c. search turns)
+    (λ c. search turns) (λ c. search turns) (λ c. search turns) (λ c. search (turns, rows-done)))

@@ -14,7 +14,15 @@ abbrev μ-loop : tie.MeasureT-loop
 μ-loop b p q a w c j h out e sums₀ k₀ sums k = c - k
 
 returns : tie.Need-returns Inv-loop μ-loop
-returns c = strip-end _ _ _ _ _ _ _ _ _ _ _ _ _ (c .before .before .before .before .before .before .loop .inv .1) (c .before .before .store-sums .ensures) (c .before .before .before .before .before .before .loop .inv .0) (c .before .before .before .before .before .loop-test .left) (c .before .before .before .before .before .before .before .before .before .before .pre .0)
+returns c =
+    let at-6 = c .before .before .before .before .before .before in
+    strip-end _ _ _ _ _ _ _ _ _ _ _ _ _ (at-6 .loop .inv .1) (c .before .before .store-sums .ensures) (at-6 .loop .inv .0)
+    (c .before .before .before .before .before .loop-test .left) (c .before .before .before .before .before .before .before .before .before .before .pre .0)
 
 pub strip-spec : {M : Type 1} → statement M
-strip-spec = tie.close (tie.spec Inv-loop μ-loop (λ c. search (turns, strides)) (λ c. search (turns, strides)) (λ c. search (turns, strides)) (λ c. search (turns, strides)) (λ c. search (turns, strides)) (λ c. search (turns, strides)) (λ c. search (turns, strides)) (λ c κs. search (turns, strides)) (λ c. search (turns, strides)) (λ c. search (turns, strides)) (λ c. search (turns, strides)) (λ c κs. search (turns, strides)) (λ c. search (turns, strides)) returns)
+strip-spec =
+    tie.close
+    (tie.spec Inv-loop μ-loop (λ c. search (turns, strides)) (λ c. search (turns, strides)) (λ c. search (turns, strides)) (λ c. search (turns, strides))
+    (λ c. search (turns, strides)) (λ c. search (turns, strides)) (λ c. search (turns, strides)) (λ c κs. search (turns, strides))
+    (λ c. search (turns, strides)) (λ c. search (turns, strides)) (λ c. search (turns, strides)) (λ c κs. search (turns, strides))
+    (λ c. search (turns, strides)) returns)

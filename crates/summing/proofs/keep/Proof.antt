@@ -10,7 +10,10 @@ use Rattle.summing.proofs.keep.Statement.{statement}
 use Rattle.summing.proofs.keep.Tie as tie
 
 returns : tie.Need-returns
-returns c = kept-is _ _ _ _ _ (c .before .before .before .before .before .before .before .before .before .before .before .pre .0) (c .before .before .before .before .before .before .before .before .before .before .before .pre .1) (c .before .before .before .before .before .before .before .fill .ensures) (c .before .before .copy .ensures)
+returns c =
+    let at-11 = c .before .before .before .before .before .before .before .before .before .before .before in
+    kept-is _ _ _ _ _ (at-11 .pre .0) (at-11 .pre .1) (c .before .before .before .before .before .before .before .fill .ensures)
+    (c .before .before .copy .ensures)
 
 pub keep-spec : {M : Type 1} → statement M
 keep-spec = tie.close (tie.spec

@@ -12,19 +12,44 @@ use Rattle.summing.proofs.keep_sums.Statement.{statement}
 use Rattle.summing.proofs.keep_sums.Tie as tie
 
 add-end : tie.Need-add-end
-add-end c = let small : length (c .before .before .before .before .args .sums .now) * 8 < 2 ^ 63 = search needs in slot-end-fits (c .before .before .before .before .args .t4) (c .before .before .before .before .args .k) (c .before .before .before .before .args .sums .now) (c .before .before .before .before .pre .1 .0) (c .before .before .before .before .pre .1 .1) _ (c .before .sum-offset .ensures) small
+add-end c =
+    let at-4 = c .before .before .before .before in
+    let start = c .before .before .before .before .args in
+    let small : length (start .sums .now) * 8 < 2 ^ 63 = search needs in
+    slot-end-fits (start .t4) (start .k) (start .sums .now) (at-4 .pre .1 .0) (at-4 .pre .1 .1) _ (c .before .sum-offset .ensures) small
 
 mul-keep : tie.Need-mul-keep
-mul-keep c = let small : length (c .before .before .before .before .args .sums .now) * 8 < 2 ^ 63 = search needs in slot-start-fits (c .before .before .before .before .args .t4) (c .before .before .before .before .args .k) (c .before .before .before .before .args .sums .now) (c .before .before .before .before .pre .1 .0) (c .before .before .before .before .pre .1 .1) _ (c .before .sum-offset .ensures) small
+mul-keep c =
+    let at-4 = c .before .before .before .before in
+    let start = c .before .before .before .before .args in
+    let small : length (start .sums .now) * 8 < 2 ^ 63 = search needs in
+    slot-start-fits (start .t4) (start .k) (start .sums .now) (at-4 .pre .1 .0) (at-4 .pre .1 .1) _ (c .before .sum-offset .ensures) small
 
 part-keep-end : tie.Need-part-keep-end
-part-keep-end c = slot-ends (c .before .before .before .before .args .t4) (c .before .before .before .before .args .k) (c .before .before .before .before .args .sums .now) (c .before .before .before .before .pre .1 .0) (c .before .before .before .before .pre .1 .1) _ (c .before .sum-offset .ensures)
+part-keep-end c =
+    let at-4 = c .before .before .before .before in
+    let start = c .before .before .before .before .args in
+    slot-ends (start .t4) (start .k) (start .sums .now) (at-4 .pre .1 .0) (at-4 .pre .1 .1) _ (c .before .sum-offset .ensures)
 
 keep-requires : tie.Need-keep-requires
-keep-requires c κs = (c .before .before .before .before .before .pre .1 .2, omega (arith, c .before .before .before .before .before .pre .1 .3, slot-lent (c .before .before .before .before .before .args .t4) (c .before .before .before .before .before .args .k) (c .before .before .before .before .before .args .sums .now) (c .before .before .before .before .before .pre .1 .0) (c .before .before .before .before .before .pre .1 .1) _ (c .before .before .sum-offset .ensures)))
+keep-requires c κs =
+    let at-5 = c .before .before .before .before .before in
+    let start = c .before .before .before .before .before .args in (
+      at-5 .pre .1 .2,
+      omega (
+        arith,
+        at-5 .pre .1 .3,
+        slot-lent (start .t4) (start .k) (start .sums .now) (at-5 .pre .1 .0) (at-5 .pre .1 .1) _
+            (c .before .before .sum-offset .ensures),
+      ),
+    )
 
 returns : tie.Need-returns
-returns c = slot-kept (c .before .before .before .before .before .before .before .before .args .t4) (c .before .before .before .before .before .before .before .before .args .k) (c .before .before .before .before .before .before .before .before .args .sums .now) (c .before .before .before .before .before .before .before .before .pre .1 .0) (c .before .before .before .before .before .before .before .before .pre .1 .1) _ (c .before .before .before .before .before .sum-offset .ensures) _ _ (c .before .before .keep .ensures)
+returns c =
+    let at-8 = c .before .before .before .before .before .before .before .before in
+    let start = c .before .before .before .before .before .before .before .before .args in
+    slot-kept (start .t4) (start .k) (start .sums .now) (at-8 .pre .1 .0) (at-8 .pre .1 .1) _ (c .before .before .before .before .before .sum-offset .ensures) _
+    _ (c .before .before .keep .ensures)
 
 pub keep-sums-spec : {M : Type 1} → statement M
 keep-sums-spec = tie.close (tie.spec

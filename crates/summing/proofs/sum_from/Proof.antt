@@ -28,10 +28,21 @@ sum-zone-requires : tie.Need-sum-zone-requires Inv-loop μ-loop
 sum-zone-requires c κs = let i = c .before .before .before .before .before .before .before in let l = c .before .before .before .loop .inv in (c .before .if1 .taken, omega (arith, i .pre .1, l .0), i .pre .2)
 
 returns : tie.Need-returns Inv-loop μ-loop
-returns c = let l = c .before .before .before .before .before .before .before .before .before .loop .inv in answer-stop _ _ _ _ _ (l .2) (c .before .before .before .before .before .before .before .if1 .taken) _ _ (c .before .before .before .before .before .sum-zone .ensures) _ _ (c .before .done .given .1)
+returns c =
+    let l = c .before .before .before .before .before .before .before .before .before .loop .inv in
+    answer-stop _ _ _ _ _ (l .2) (c .before .before .before .before .before .before .before .if1 .taken) _ _
+    (c .before .before .before .before .before .sum-zone .ensures) _ _ (c .before .done .given .1)
 
 loop-again : tie.Need-loop-again Inv-loop μ-loop
-loop-again c = let l = c .before .before .before .before .before .before .before .before .loop .inv in let r = c .before .before .before .before .sum-zone in (r .kept .1 .1 .1 .1 .1 .0 ∙ l .0, omega (arith, c .before .before .before .before .before .before .if1 .taken), answer-more _ _ _ _ _ (l .2) (c .before .before .before .before .before .before .if1 .taken) _ _ (r .ensures) (c .enum-told .given .1))
+loop-again c =
+    let at-6 = c .before .before .before .before .before .before in
+    let l = c .before .before .before .before .before .before .before .before .loop .inv in
+    let r = c .before .before .before .before .sum-zone in (
+      r .kept .1 .1 .1 .1 .1 .0 ∙ l .0,
+      omega (arith, at-6 .if1 .taken),
+      answer-more _ _ _ _ _ (l .2) (at-6 .if1 .taken) _ _ (r .ensures)
+          (c .enum-told .given .1),
+    )
 
 returns-2 : tie.Need-returns-2 Inv-loop μ-loop
 returns-2 c = let l = c .before .before .loop .inv in answer-done _ _ _ _ _ (l .2) (c .if1 .left)

@@ -18,4 +18,9 @@ abbrev μ-loop : tie.MeasureT-loop
 μ-loop g₀ v₀ n p₀ g v p = n - p
 
 pub jacobi-sweep-spec : {M : Type 1} → statement M
-jacobi-sweep-spec = tie.close (tie.spec Inv-loop μ-loop (λ c. search (turns, sweep-rows)) (λ c κs. search (turns, stagings)) (λ c. search (turns, stagings)) (λ c. search (turns, stagings)) (λ c. search (turns, stagings)) (λ c. search (turns, stagings)) (λ c. search (turns, stagings)) (λ c. search (turns, stagings)) (λ c. search (turns, stagings)) (λ c. search (turns, stagings)) (λ c. search (turns, stagings)) (λ c. search (turns, stagings)) (λ c. search (turns, stagings)))
+jacobi-sweep-spec =
+    tie.close
+    (tie.spec Inv-loop μ-loop (λ c. search (turns, sweep-rows)) (λ c κs. search (turns, stagings)) (λ c. search (turns, stagings))
+    (λ c. search (turns, stagings)) (λ c. search (turns, stagings)) (λ c. search (turns, stagings)) (λ c. search (turns, stagings))
+    (λ c. search (turns, stagings)) (λ c. search (turns, stagings)) (λ c. search (turns, stagings)) (λ c. search (turns, stagings))
+    (λ c. search (turns, stagings)) (λ c. search (turns, stagings)))

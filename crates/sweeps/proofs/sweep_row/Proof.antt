@@ -18,4 +18,9 @@ abbrev μ-loop : tie.MeasureT-loop
 
 pub sweep-row-spec : {M : Type 1} → statement M
 unfolding sweepRow
-sweep-row-spec = tie.close (tie.spec Inv-loop μ-loop (λ c. search (turns, stagings)) (λ c. search (turns, stagings)) (λ c κs. search (turns, stagings)) (λ c. search (turns, stagings)) (λ c. search (turns, stagings)) (λ c. search (turns, stagings)) (λ c. search (turns, stagings)) (λ c. search (turns, stagings)) (λ c. search (turns, stagings)) (λ c. search (turns, stagings)) (λ c. search (turns, stagings)) (λ c. search (turns, stagings)) (λ c. search (turns, stagings)) (λ c. search (turns, stagings)))
+sweep-row-spec =
+    tie.close
+    (tie.spec Inv-loop μ-loop (λ c. search (turns, stagings)) (λ c. search (turns, stagings)) (λ c κs. search (turns, stagings))
+    (λ c. search (turns, stagings)) (λ c. search (turns, stagings)) (λ c. search (turns, stagings)) (λ c. search (turns, stagings))
+    (λ c. search (turns, stagings)) (λ c. search (turns, stagings)) (λ c. search (turns, stagings)) (λ c. search (turns, stagings))
+    (λ c. search (turns, stagings)) (λ c. search (turns, stagings)) (λ c. search (turns, stagings)))

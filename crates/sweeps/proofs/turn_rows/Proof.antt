@@ -17,7 +17,9 @@ turn-pairs-requires : tie.Need-turn-pairs-requires
 turn-pairs-requires c κs = omega (arith, exact-end _ _ _ _ (c .before .before .pre .0) (c .before .before .pre .2), mul-le-mul-right (c .before .before .args .n) (c .before .before .pre .1))
 
 returns : tie.Need-returns
-returns c = turn-rows-is _ _ _ _ _ _ _ (c .before .before .before .before .before .pre .0) (c .before .before .before .before .before .pre .1) (c .before .before .before .before .before .pre .2) (c .before .before .turn-pairs .ensures)
+returns c =
+    let at-5 = c .before .before .before .before .before in
+    turn-rows-is _ _ _ _ _ _ _ (at-5 .pre .0) (at-5 .pre .1) (at-5 .pre .2) (c .before .before .turn-pairs .ensures)
 
 pub turn-rows-spec : {M : Type 1} → statement M
 turn-rows-spec = tie.close (tie.spec mul-turn-pairs mul-turn-pairs-2 turn-pairs-requires (λ c. search needs) returns)

@@ -30,4 +30,8 @@ returns c = fill-all _ _ _ _ _ (c .before .loop .inv .2) (c .before .loop .inv .
 
 pub singular-values-spec : {M : Type 1} → statement M
 unfolding singulars
-singular-values-spec = tie.close (tie.spec Inv-loop μ-loop (λ c. search (turns, exacts)) (λ c. search (turns, exacts)) (λ c. search (turns, exacts)) (λ c. search (turns, exacts)) (λ c. search (turns, exacts)) (λ c κs. search (turns, exacts)) (λ c. search (turns, exacts)) (λ c. search (turns, exacts)) (λ c. search (turns, exacts)) (λ c. search (turns, exacts)) loop-again (λ c. search (turns, exacts)) returns)
+singular-values-spec =
+    tie.close
+    (tie.spec Inv-loop μ-loop (λ c. search (turns, exacts)) (λ c. search (turns, exacts)) (λ c. search (turns, exacts)) (λ c. search (turns, exacts))
+    (λ c. search (turns, exacts)) (λ c κs. search (turns, exacts)) (λ c. search (turns, exacts)) (λ c. search (turns, exacts)) (λ c. search (turns, exacts))
+    (λ c. search (turns, exacts)) loop-again (λ c. search (turns, exacts)) returns)

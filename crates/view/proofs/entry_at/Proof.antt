@@ -5,4 +5,7 @@ use Rattle.view.proofs.entry_at.Statement.{statement}
 use Rattle.view.proofs.entry_at.Tie as tie
 
 pub entry-at-spec : {M : Type 1} → statement M
-entry-at-spec = tie.close (tie.spec (λ c. search sights) (λ c. search sights) (λ c. search sights) (λ c. search sights) (λ c. search needs) (λ c κs. search needs) (λ c. search sights) (λ c. search needs) (λ c. search needs) (λ c. search needs) (λ c. search sights))
+entry-at-spec =
+    tie.close
+    (tie.spec (λ c. search sights) (λ c. search sights) (λ c. search sights) (λ c. search sights) (λ c. search needs) (λ c κs. search needs)
+    (λ c. search sights) (λ c. search needs) (λ c. search needs) (λ c. search needs) (λ c. search sights))

@@ -119,7 +119,10 @@ module _ {M : Type 1} (𝓤 : URA M) (H : Heap 𝓤) (A : Atoms 𝓤) (W : Given
   to-get d u = (((κ, tt), (q, tt), tt, (d, (il, (im, (ir, tt)))), (u ∷ [], (vint w64 il ∷ [], (vint w64 im ∷ [], (vint w64 ir ∷ [], tt))))), tt)
 
   goes-get : (d : CoreView) (u : Val) → ent 𝓤 (⋆ 𝓤 H A (‵ (B (κ, tt) .own d (u ∷ [])) ∷ (‵ (flft κ q) ⊛ ‵ ftrue) ∷ [])) (Get 𝓤 H A mem run .pre (to-get d u))
-  goes-get d u = qed W (‵ (B (κ, tt) .own d (u ∷ [])) ∷ (‵ (flft κ q) ⊛ ‵ ftrue) ∷ []) ∵ nothing ! $ owned ! usize (Is usize) (uint-makes 𝓤 H A W w64) ir _ (refl, ir-fits) $ fjoin ! $ owned ! usize (Is usize) (uint-makes 𝓤 H A W w64) im _ (refl, im-fits) $ fjoin ! $ owned ! usize (Is usize) (uint-makes 𝓤 H A W w64) il _ (refl, il-fits) $ fjoin ! $ move ! (1 ∷ 0 ∷ []) $ fjoin ! $ move ! (1 ∷ 0 ∷ []) $ join ! $ frame ! $ done !
+  goes-get d u =
+      qed W (‵ (B (κ, tt) .own d (u ∷ [])) ∷ (‵ (flft κ q) ⊛ ‵ ftrue) ∷ []) ∵ nothing ! $ owned ! usize (Is usize) (uint-makes 𝓤 H A W w64) ir _ (refl, ir-fits)
+      $ fjoin ! $ owned ! usize (Is usize) (uint-makes 𝓤 H A W w64) im _ (refl, im-fits) $ fjoin ! $ owned ! usize (Is usize) (uint-makes 𝓤 H A W w64) il _
+      (refl, il-fits) $ fjoin ! $ move ! (1 ∷ 0 ∷ []) $ fjoin ! $ move ! (1 ∷ 0 ∷ []) $ join ! $ frame ! $ done !
 
   get-said : (d : CoreView) (x : Seen) → ent 𝓤 (ensured 𝓤 H A get.ended (get.clauses 𝓤 H A mem run) (κ, tt) (d, (il, (im, (ir, tt)))) tt x) (fact 𝓤 (x ≡ seen d il im ir))
   get-said d x = exE 𝓤 _ (λ ws. snd∗ 𝓤 (sem 𝓤 H A (lasts get.ended (κ, tt) (d, (il, (im, (ir, tt)))) ws)) (fact 𝓤 (x ≡ seen d il im ir)))
@@ -134,7 +137,18 @@ module _ {M : Type 1} (𝓤 : URA M) (H : Heap 𝓤) (A : Atoms 𝓤) (W : Given
     walk : Is (ShrSlice (named 0) κ f64) s (v ∷ []) → Is S.the-row h (hv ∷ []) → ent 𝓤 (onEntry 𝓤 H A entry-of.signature (κ, tt) (q, tt) (s, (h, (k, (il, (im, (ir, tt)))))) vals) (WpFn 𝓤 H C Λ code.function (v ∷ hv ∷ vint w64 k ∷ vint w64 il ∷ vint w64 im ∷ vint w64 ir ∷ []) Post)
     walk p ph =
         qed W (raw (onEntry 𝓤 H A entry-of.signature (κ, tt) (q, tt) (s, (h, (k, (il, (im, (ir, tt)))))) vals) ∷ []) ∵ enter ! C Λ code.function (v ∷ hv ∷ vint w64 k ∷ vint w64 il ∷ vint w64 im ∷ vint w64 ir ∷ []) _ $
-        alloc1 ! (λ l0. alloc1 ! (λ l1. alloc1 ! (λ l2. alloc1 ! (λ l3. alloc1 ! (λ l4. alloc1 ! (λ l5. alloc1 ! (λ l6. alloc1 ! (λ l7. alloc0 ! $ params1 ! $ pass1 ! (init ! 12 refl (shr-slice-lawful 𝓤 H A W (named 0) κ f64 .typed s (v ∷ []) p .0)) $ pass1 ! (init ! 10 refl (LL.lawful S.the-type S′.the-laws 𝓤 H A W .typed h _ ph .0)) $ pass1 ! (init ! 8 refl (tt, record { fits = k-fits })) $ pass1 ! (init ! 6 refl (tt, record { fits = il-fits })) $ pass1 ! (init ! 4 refl (tt, record { fits = im-fits })) $ pass1 ! (init ! 2 refl (tt, record { fits = ir-fits })) $ pass0 ! $
+        alloc1 ! (λ l0. alloc1 ! (λ l1. alloc1 ! (λ l2. alloc1 ! (λ l3. alloc1 ! (λ l4. alloc1 ! (λ l5. alloc1 ! (λ l6. alloc1 ! (λ l7. alloc0 ! $ params1 ! $ pass1 ! (init ! 12 refl (shr-slice-lawful 𝓤 H A W (named 0) κ f64 .typed s (v ∷ []) p .0)) $ pass1 ! (init ! 10 refl (LL.lawful S.the-type S′.the-laws 𝓤 H A W .typed h _ ph .0)) $ pass1 ! (init ! 8 refl (
+          tt,
+          record {
+            fits =
+                k-fits;
+          },
+        )) $ pass1 ! (init ! 6 refl (tt, record { fits = il-fits })) $ pass1 ! (init ! 4 refl (
+          tt,
+          record {
+            fits = im-fits;
+          },
+        )) $ pass1 ! (init ! 2 refl (tt, record { fits = ir-fits })) $ pass0 ! $
         move ! (16 ∷ []) $ use1 W (raw (ViewOf 𝓤 H A mem run .pre to-view) ⊛ ‵ All) (goes-view ph) $ split ! $
         calls-at ! fm (ViewOf 𝓤 H A mem run) known-view to-view (and-then ! (load ! (from ! (stop !)) (look ! 14 refl)) (and-then ! (load ! (from ! (stop !)) (look ! 12 refl)) (and-then ! (load ! (from ! (stop !)) (look ! 10 refl)) (no-more !)))) (λ u.
         use1 W (later (some (λ (d : CoreView). ((‵ (flft κ q) ⊛ ‵ ftrue) ⊛ ‵ (B (κ, tt) .own d (u ∷ []))) ⊛ raw (ensured 𝓤 H A view-of.ended (view-of.clauses 𝓤 H A mem run) (κ, tt) (s, (h, (k, tt))) tt d)))) (id⊢ 𝓤 _) $ await ! tt $ pick ! (λ d.
@@ -155,13 +169,31 @@ module _ {M : Type 1} (𝓤 : URA M) (H : Heap 𝓤) (A : Atoms 𝓤) (W : Given
 module _ {M : Type 1} (𝓤 : URA M) (H : Heap 𝓤) (A : Atoms 𝓤) (W : Given 𝓤 H A) (mem : Memory → SProp 𝓤) (run : Routine → Fun 𝓤) where
   entry-of-walks : (C : Calls 𝓤 H) (Λ : Loops 𝓤 H) → FmC 𝓤 H (W .laws) C → Triple 𝓤 (C #view·view-of) (ViewOf 𝓤 H A mem run) → Triple 𝓤 (C #view·get) (Get 𝓤 H A mem run)
       → Walks 𝓤 H A entry-of.ended stayed (WpFn 𝓤 H C Λ code.function) (entry-of.clauses 𝓤 H A mem run)
-  entry-of-walks C Λ fm known-view known-get = walked 𝓤 H A entry-of.ended stayed (entry-of.clauses 𝓤 H A mem run) (WpFn 𝓤 H C Λ code.function) (λ κs. (slice-vals, (LL.vals S.the-type S′.the-laws, (uint-vals w64, (uint-vals w64, (uint-vals w64, (uint-vals w64, tt))))))) (λ κs. (shr-slice-tells (named 0) (κs .0) f64, (LL.tells S.the-type S′.the-laws, (uint-tells w64, (uint-tells w64, (uint-tells w64, (uint-tells w64, tt)))))))
+  entry-of-walks C Λ fm known-view known-get =
+      walked 𝓤 H A entry-of.ended stayed (entry-of.clauses 𝓤 H A mem run) (WpFn 𝓤 H C Λ code.function)
+      (λ κs. (slice-vals, (LL.vals S.the-type S′.the-laws, (uint-vals w64, (uint-vals w64, (uint-vals w64, (uint-vals w64, tt)))))))
+      (λ κs.
+      (shr-slice-tells (named 0) (κs .0) f64, (LL.tells S.the-type S′.the-laws, (uint-tells w64, (uint-tells w64, (uint-tells w64, (uint-tells w64, tt)))))))
       (λ κs qs bounds a g are. via 𝓤 _ (fst∗ 𝓤 _ (emp 𝓤)) (walk 𝓤 H A W mem run (κs .0) (qs .0) (a .0) (a .1 .0) (a .1 .1 .0) (a .1 .1 .1 .0) (a .1 .1 .1 .1 .0) (a .1 .1 .1 .1 .1 .0) (are .1 .1 .0 .1) (are .1 .1 .1 .0 .1) (are .1 .1 .1 .1 .0 .1) (are .1 .1 .1 .1 .1 .0 .1) C Λ fm known-view known-get (are .0) (are .1 .0)))
 
 entry-of-meets : {M : Type 1} (𝓤 : URA M) (H : Heap 𝓤) (A : Atoms 𝓤) (W : Given 𝓤 H A) (mem : Memory → SProp 𝓤) (run : Routine → Fun 𝓤) (𝓣 : Tables 𝓤 H)
     → Triple 𝓤 (𝓣 .C #view·view-of) (ViewOf 𝓤 H A mem run) → Triple 𝓤 (𝓣 .C #view·get) (Get 𝓤 H A mem run)
     → Meets 𝓤 H A entry-of.signature (WpFn 𝓤 H (𝓣 .C) (𝓣 .Λ) code.function) (entry-of.spec 𝓤 H A mem run)
-entry-of-meets 𝓤 H A W mem run 𝓣 known-view known-get = walk-meets 𝓤 H A entry-of.ended stayed W (goes-none-slice 𝓤 H A W 1 (0 ∷ []) tt (plain (λ _. f64)) yes, (goes-none 𝓤 H A W 1 (λ _. S.the-row) yes (λ κs x f. refl), (goes-none 𝓤 H A W 1 (λ _. usize) yes (λ κs x f. refl), (goes-none 𝓤 H A W 1 (λ _. usize) yes (λ κs x f. refl), (goes-none 𝓤 H A W 1 (λ _. usize) yes (λ κs x f. refl), (goes-none 𝓤 H A W 1 (λ _. usize) yes (λ κs x f. refl), tt)))))) (entry-of.clauses 𝓤 H A mem run) (WpFn 𝓤 H (𝓣 .C) (𝓣 .Λ) code.function) (WpFn-mono 𝓤 H (W .laws) 𝓣 code.function)
+entry-of-meets 𝓤 H A W mem run 𝓣 known-view known-get =
+    walk-meets 𝓤 H A entry-of.ended stayed W (
+      goes-none-slice 𝓤 H A W 1 (0 ∷ []) tt (plain (λ _. f64)) yes,
+      (
+        goes-none 𝓤 H A W 1 (λ _. S.the-row) yes (λ κs x f. refl),
+        (
+          goes-none 𝓤 H A W 1 (λ _. usize) yes (λ κs x f. refl),
+          (
+            goes-none 𝓤 H A W 1 (λ _. usize) yes (λ κs x f. refl),
+            (goes-none 𝓤 H A W 1 (λ _. usize) yes (λ κs x f. refl), (goes-none 𝓤 H A W 1 (λ _. usize) yes (λ κs x f. refl), tt)),
+          ),
+        ),
+      ),
+    ) (entry-of.clauses 𝓤 H A mem run)
+    (WpFn 𝓤 H (𝓣 .C) (𝓣 .Λ) code.function) (WpFn-mono 𝓤 H (W .laws) 𝓣 code.function)
     (entry-of-walks 𝓤 H A W mem run (𝓣 .C) (𝓣 .Λ) (fmOf 𝓤 H (W .laws) 𝓣) known-view known-get)
 
 pub entry-of-spec : {M : Type 1} → stated.statement M

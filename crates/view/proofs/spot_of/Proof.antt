@@ -6,4 +6,7 @@ use Rattle.view.proofs.spot_of.Statement.{statement}
 use Rattle.view.proofs.spot_of.Tie as tie
 
 pub spot-of-spec : {M : Type 1} → statement M
-spot-of-spec = tie.close (tie.spec (λ c κs. search needs) (λ c. search needs) (λ c κs. search needs) (λ c. search (needs, spots)) (λ c. search needs) (λ c κs. search needs) (λ c. search (needs, spots)) (λ c κs. search (needs, fits-sizes)) (λ c. search (needs, spots)))
+spot-of-spec =
+    tie.close
+    (tie.spec (λ c κs. search needs) (λ c. search needs) (λ c κs. search needs) (λ c. search (needs, spots)) (λ c. search needs) (λ c κs. search needs)
+    (λ c. search (needs, spots)) (λ c κs. search (needs, fits-sizes)) (λ c. search (needs, spots)))

@@ -121,7 +121,13 @@ module _ {M : Type 1} (𝓤 : URA M) (H : Heap 𝓤) (A : Atoms 𝓤) (W : Given
     walk : Is (ShrSlice (named 0) κ f64) s (v ∷ []) → Is S.the-row h (hv ∷ []) → ent 𝓤 (onEntry 𝓤 H A view-of.signature (κ, tt) (q, tt) (s, (h, (k, tt))) vals) (WpFn 𝓤 H C Λ code.function (v ∷ hv ∷ vint w64 k ∷ []) Post)
     walk p ph =
         qed W (raw (onEntry 𝓤 H A view-of.signature (κ, tt) (q, tt) (s, (h, (k, tt))) vals) ∷ []) ∵ enter ! C Λ code.function (v ∷ hv ∷ vint w64 k ∷ []) _ $
-        alloc1 ! (λ l0. alloc1 ! (λ l1. alloc1 ! (λ l2. alloc1 ! (λ l3. alloc1 ! (λ l4. alloc0 ! $ params1 ! $ pass1 ! (init ! 6 refl (shr-slice-lawful 𝓤 H A W (named 0) κ f64 .typed s (v ∷ []) p .0)) $ pass1 ! (init ! 4 refl (LL.lawful S.the-type S′.the-laws 𝓤 H A W .typed h _ ph .0)) $ pass1 ! (init ! 2 refl (tt, record { fits = k-fits })) $ pass0 ! $
+        alloc1 ! (λ l0. alloc1 ! (λ l1. alloc1 ! (λ l2. alloc1 ! (λ l3. alloc1 ! (λ l4. alloc0 ! $ params1 ! $ pass1 ! (init ! 6 refl (shr-slice-lawful 𝓤 H A W (named 0) κ f64 .typed s (v ∷ []) p .0)) $ pass1 ! (init ! 4 refl (LL.lawful S.the-type S′.the-laws 𝓤 H A W .typed h _ ph .0)) $ pass1 ! (init ! 2 refl (
+          tt,
+          record {
+            fits =
+                k-fits;
+          },
+        )) $ pass0 ! $
         -- what the shape and the number own is had for nothing
         nothing ! $ owned ! usize (Is usize) (uint-makes 𝓤 H A W w64) k _ (refl, k-fits) $ fjoin ! $ owned ! S.the-row (Is S.the-row) (LL.makes S.the-type S′.the-plain 𝓤 H A) h _ ph $ fjoin ! $ use1 W (raw (SpotOf 𝓤 H A mem run .pre to)) asked $
         calls-at ! fm (SpotOf 𝓤 H A mem run) known to (and-then ! (load ! (from ! (stop !)) (look ! 5 refl)) (and-then ! (load ! (from ! (stop !)) (look ! 3 refl)) (no-more !))) (λ u.
@@ -137,13 +143,21 @@ module _ {M : Type 1} (𝓤 : URA M) (H : Heap 𝓤) (A : Atoms 𝓤) (W : Given
 module _ {M : Type 1} (𝓤 : URA M) (H : Heap 𝓤) (A : Atoms 𝓤) (W : Given 𝓤 H A) (mem : Memory → SProp 𝓤) (run : Routine → Fun 𝓤) where
   view-of-walks : (C : Calls 𝓤 H) (Λ : Loops 𝓤 H) → FmC 𝓤 H (W .laws) C → Triple 𝓤 (C #view·spot-of) (SpotOf 𝓤 H A mem run)
       → Walks 𝓤 H A view-of.ended stayed (WpFn 𝓤 H C Λ code.function) (view-of.clauses 𝓤 H A mem run)
-  view-of-walks C Λ fm known = walked 𝓤 H A view-of.ended stayed (view-of.clauses 𝓤 H A mem run) (WpFn 𝓤 H C Λ code.function) (λ κs. (slice-vals, (LL.vals S.the-type S′.the-laws, (uint-vals w64, tt)))) (λ κs. (shr-slice-tells (named 0) (κs .0) f64, (LL.tells S.the-type S′.the-laws, (uint-tells w64, tt))))
+  view-of-walks C Λ fm known =
+      walked 𝓤 H A view-of.ended stayed (view-of.clauses 𝓤 H A mem run) (WpFn 𝓤 H C Λ code.function)
+      (λ κs. (slice-vals, (LL.vals S.the-type S′.the-laws, (uint-vals w64, tt))))
+      (λ κs. (shr-slice-tells (named 0) (κs .0) f64, (LL.tells S.the-type S′.the-laws, (uint-tells w64, tt))))
       (λ κs qs bounds a g are. via 𝓤 _ (fst∗ 𝓤 _ (emp 𝓤)) (walk 𝓤 H A W mem run (κs .0) (qs .0) (a .0) (a .1 .0) (a .1 .1 .0) (are .1 .1 .0 .1) C Λ fm known (are .0) (are .1 .0)))
 
 view-of-meets : {M : Type 1} (𝓤 : URA M) (H : Heap 𝓤) (A : Atoms 𝓤) (W : Given 𝓤 H A) (mem : Memory → SProp 𝓤) (run : Routine → Fun 𝓤) (𝓣 : Tables 𝓤 H)
     → Triple 𝓤 (𝓣 .C #view·spot-of) (SpotOf 𝓤 H A mem run)
     → Meets 𝓤 H A view-of.signature (WpFn 𝓤 H (𝓣 .C) (𝓣 .Λ) code.function) (view-of.spec 𝓤 H A mem run)
-view-of-meets 𝓤 H A W mem run 𝓣 known = walk-meets 𝓤 H A view-of.ended stayed W (goes-none-slice 𝓤 H A W 1 (0 ∷ []) tt (plain (λ _. f64)) yes, (goes-none 𝓤 H A W 1 (λ _. S.the-row) yes (λ κs x f. refl), (goes-none 𝓤 H A W 1 (λ _. usize) yes (λ κs x f. refl), tt))) (view-of.clauses 𝓤 H A mem run) (WpFn 𝓤 H (𝓣 .C) (𝓣 .Λ) code.function) (WpFn-mono 𝓤 H (W .laws) 𝓣 code.function)
+view-of-meets 𝓤 H A W mem run 𝓣 known =
+    walk-meets 𝓤 H A view-of.ended stayed W (
+      goes-none-slice 𝓤 H A W 1 (0 ∷ []) tt (plain (λ _. f64)) yes,
+      (goes-none 𝓤 H A W 1 (λ _. S.the-row) yes (λ κs x f. refl), (goes-none 𝓤 H A W 1 (λ _. usize) yes (λ κs x f. refl), tt)),
+    ) (view-of.clauses 𝓤 H A mem run)
+    (WpFn 𝓤 H (𝓣 .C) (𝓣 .Λ) code.function) (WpFn-mono 𝓤 H (W .laws) 𝓣 code.function)
     (view-of-walks 𝓤 H A W mem run (𝓣 .C) (𝓣 .Λ) (fmOf 𝓤 H (W .laws) 𝓣) known)
 
 pub view-of-spec : {M : Type 1} → stated.statement M

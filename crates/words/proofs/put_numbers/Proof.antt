@@ -23,7 +23,15 @@ f64-bytes-requires : tie.Need-f64-bytes-requires Inv-loop μ-loop
 f64-bytes-requires c κs = finite-getD _ _ nan (c .before .loop-test .taken) (c .before .before .before .before .before .pre .1)
 
 loop-again : tie.Need-loop-again Inv-loop μ-loop
-loop-again c = (search needs, c .before .before .put .kept .1 .0 ∙ c .before .before .before .before .before .before .before .before .loop .inv .1, write-more (c .before .before .before .before .before .before .before .before .before .before .before .args .list .now) (c .before .before .before .before .before .before .before .before .before .before .before .args .p) (c .before .before .before .before .before .before .before .before .before .before .before .args .out .now) (c .before .before .before .before .before .before .before .before .loop .i) _ _ _ (c .before .before .before .before .before .before .before .before .loop .inv .2) (c .before .before .before .before .before .f64-bytes .ensures) (omega (arith, c .before .before .before .before .before .before .before .before .before .before .before .pre .0)) (c .before .before .put .ensures))
+loop-again c =
+    let at-8 = c .before .before .before .before .before .before .before .before in
+    let start = at-8 .before .before .before .args in (
+      search needs,
+      c .before .before .put .kept .1 .0 ∙ at-8 .loop .inv .1,
+      write-more (start .list .now) (start .p) (start .out .now) (at-8 .loop .i) _ _ _
+          (at-8 .loop .inv .2) (c .before .before .before .before .before .f64-bytes .ensures)
+          (omega (arith, c .before .before .before .before .before .before .before .before .before .before .before .pre .0)) (c .before .before .put .ensures),
+    )
 
 pub put-numbers-spec : {M : Type 1} → statement M
 put-numbers-spec = tie.close (tie.spec

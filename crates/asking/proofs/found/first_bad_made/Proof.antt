@@ -6,7 +6,9 @@ use Rattle.asking.proofs.found.first_bad_made.Statement.{statement}
 use Rattle.asking.proofs.found.first_bad_made.Tie as tie
 
 returns : tie.Need-returns
-returns c = made-first _ _ _ _ _ _ (c .before .least .ensures) (c .least2 .ensures) _ _ _ (c .before .before .before .before .first-not-finite-core .ensures) (c .before .before .before .first-not-finite .ensures) (c .before .before .first-not-finite-axis .ensures)
+returns c =
+    made-first _ _ _ _ _ _ (c .before .least .ensures) (c .least2 .ensures) _ _ _ (c .before .before .before .before .first-not-finite-core .ensures)
+    (c .before .before .before .first-not-finite .ensures) (c .before .before .first-not-finite-axis .ensures)
 
 pub first-bad-made-spec : {M : Type 1} → statement M
 first-bad-made-spec = tie.close (tie.spec

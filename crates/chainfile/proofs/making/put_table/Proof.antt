@@ -24,7 +24,17 @@ put-requires : tie.Need-put-requires Inv-loop μ-loop
 put-requires c κs = omega (arith, ap length (c .before .before .entry-bytes .ensures) ∙ entry-length _ _, (c .before .before .before .before .before .loop .inv .2), (c .before .before .before .before .before .before .before .before .pre .1))
 
 loop-again : tie.Need-loop-again Inv-loop μ-loop
-loop-again c = (search needs, bodies-more [] _ _ _ _ (c .before .before .before .before .before .before .before .before .before .loop .inv .1) (c .core-size .ensures), (c .before .before .before .put .kept .1 .0) ∙ (c .before .before .before .before .before .before .before .before .before .loop .inv .2), table-more _ _ (c .before .before .before .before .before .before .before .before .before .loop .k) _ _ _ (c .before .before .before .before .before .before .before .before .before .loop .inv .3) (c .before .before .before .before .before .before .entry-bytes .ensures) (c .before .before .before .before .before .before .before .if1 .taken) (c .before .before .before .before .before .before .before .before .before .before .before .before .pre .1) (c .before .before .before .put .ensures))
+loop-again c =
+    let at-3 = c .before .before .before in
+    let at-9 = at-3 .before .before .before .before .before .before in (
+      search needs,
+      bodies-more [] _ _ _ _ (at-9 .loop .inv .1) (c .core-size .ensures),
+      (at-3 .put .kept .1 .0) ∙ (at-9 .loop .inv .2),
+      table-more _ _
+          (at-9 .loop .k) _ _ _ (at-9 .loop .inv .3) (c .before .before .before .before .before .before .entry-bytes .ensures)
+          (c .before .before .before .before .before .before .before .if1 .taken)
+          (c .before .before .before .before .before .before .before .before .before .before .before .before .pre .1) (at-3 .put .ensures),
+    )
 
 pub put-table-spec : {M : Type 1} → statement M
 put-table-spec = tie.close (tie.spec

@@ -17,11 +17,17 @@ returns-2 c = ask-yes _ _ _ _ (c .before .before .before .eps-and-left .ensures)
 
 returns-3 : tie.Need-returns-3
 unfolding pairFinite
-returns-3 c = ask-yes _ _ _ _ (c .before .before .before .before .before .eps-and-left .ensures) (c .before .before .before .before .if1 .left) _ (ask-yes _ _ _ _ (c .before .before .before .all-finite .ensures) (c .before .before .if2 .left) _ (test-wrong _ _ _ (c .before .not-below-zero .ensures) (c .if3 .taken)))
+returns-3 c =
+    ask-yes _ _ _ _ (c .before .before .before .before .before .eps-and-left .ensures) (c .before .before .before .before .if1 .left) _
+    (ask-yes _ _ _ _ (c .before .before .before .all-finite .ensures) (c .before .before .if2 .left) _
+    (test-wrong _ _ _ (c .before .not-below-zero .ensures) (c .if3 .taken)))
 
 returns-4 : tie.Need-returns-4
 unfolding pairFinite
-returns-4 c = ask-yes _ _ _ _ (c .before .before .before .before .before .eps-and-left .ensures) (c .before .before .before .before .if1 .left) _ (ask-yes _ _ _ _ (c .before .before .before .all-finite .ensures) (c .before .before .if2 .left) _ (test-right _ _ _ (c .before .not-below-zero .ensures) (c .if3 .left)))
+returns-4 c =
+    ask-yes _ _ _ _ (c .before .before .before .before .before .eps-and-left .ensures) (c .before .before .before .before .if1 .left) _
+    (ask-yes _ _ _ _ (c .before .before .before .all-finite .ensures) (c .before .before .if2 .left) _
+    (test-right _ _ _ (c .before .not-below-zero .ensures) (c .if3 .left)))
 
 pub finite-spec : {M : Type 1} → statement M
 unfolding pairFinite

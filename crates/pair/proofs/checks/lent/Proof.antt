@@ -54,15 +54,24 @@ mul-if4-2 c = let b = sized-small _ _ (c .before .before .before .before .before
 
 returns-4 : tie.Need-returns-4
 unfolding pairLent coreNumbers leftRoom rightRoom
-returns-4 c = same-yes _ _ _ _ (c .before .before .before .before .before .before .before .before .if1 .left) _ (same-yes _ _ _ _ (c .before .before .before .before .before .if2 .left) _ (same-yes _ _ _ _ (c .before .before .before .if3 .left) _ (same-no _ _ _ _ (c .if4 .taken))))
+returns-4 c =
+    same-yes _ _ _ _ (c .before .before .before .before .before .before .before .before .if1 .left) _
+    (same-yes _ _ _ _ (c .before .before .before .before .before .if2 .left) _
+    (same-yes _ _ _ _ (c .before .before .before .if3 .left) _ (same-no _ _ _ _ (c .if4 .taken))))
 
 returns-5 : tie.Need-returns-5
 unfolding pairLent coreNumbers leftRoom rightRoom
-returns-5 c = same-yes _ _ _ _ (c .before .before .before .before .before .before .before .before .before .if1 .left) _ (same-yes _ _ _ _ (c .before .before .before .before .before .before .if2 .left) _ (same-yes _ _ _ _ (c .before .before .before .before .if3 .left) _ (same-yes _ _ _ _ (c .before .if4 .left) _ (length-wrong _ _ _ (c .if5 .taken)))))
+returns-5 c =
+    same-yes _ _ _ _ (c .before .before .before .before .before .before .before .before .before .if1 .left) _
+    (same-yes _ _ _ _ (c .before .before .before .before .before .before .if2 .left) _
+    (same-yes _ _ _ _ (c .before .before .before .before .if3 .left) _ (same-yes _ _ _ _ (c .before .if4 .left) _ (length-wrong _ _ _ (c .if5 .taken)))))
 
 returns-6 : tie.Need-returns-6
 unfolding pairLent coreNumbers leftRoom rightRoom
-returns-6 c = same-yes _ _ _ _ (c .before .before .before .before .before .before .before .before .before .if1 .left) _ (same-yes _ _ _ _ (c .before .before .before .before .before .before .if2 .left) _ (same-yes _ _ _ _ (c .before .before .before .before .if3 .left) _ (same-yes _ _ _ _ (c .before .if4 .left) _ (length-right _ _ _ (c .if5 .left)))))
+returns-6 c =
+    same-yes _ _ _ _ (c .before .before .before .before .before .before .before .before .before .if1 .left) _
+    (same-yes _ _ _ _ (c .before .before .before .before .before .before .if2 .left) _
+    (same-yes _ _ _ _ (c .before .before .before .before .if3 .left) _ (same-yes _ _ _ _ (c .before .if4 .left) _ (length-right _ _ _ (c .if5 .left)))))
 
 pub lent-spec : {M : Type 1} → statement M
 unfolding pairLent coreNumbers leftRoom rightRoom

@@ -16,7 +16,10 @@ lines-ok-requires c κs = λ h. let b = small _ (sym (c .sizes-ok .ensures) ∙ 
 
 returns : tie.Need-returns
 unfolding pairSized
-returns c = ask-no _ _ _ _ (c .before .lines-ok .ensures ∙ ap (λ (s : Bool). s && leb (c .before .before .before .args .l .rl * c .before .before .before .args .l .n) 64) (c .before .before .sizes-ok .ensures)) (c .if1 .taken)
+returns c =
+    let start = c .before .before .before .args in
+    ask-no _ _ _ _ (c .before .lines-ok .ensures ∙ ap (λ (s : Bool). s && leb (start .l .rl * start .l .n) 64) (c .before .before .sizes-ok .ensures))
+    (c .if1 .taken)
 
 lines-ok-requires-2 : tie.Need-lines-ok-requires-2
 unfolding pairSized
@@ -24,15 +27,35 @@ lines-ok-requires-2 c κs = λ h. let b = small _ (sym (c .sizes-ok2 .ensures) �
 
 returns-2 : tie.Need-returns-2
 unfolding pairSized
-returns-2 c = ask-yes _ _ _ _ (c .before .before .before .before .lines-ok .ensures ∙ ap (λ (s : Bool). s && leb (c .before .before .before .before .before .before .args .l .rl * c .before .before .before .before .before .before .args .l .n) 64) (c .before .before .before .before .before .sizes-ok .ensures)) (c .before .before .before .if1 .left) _ (ask-no _ _ _ _ (c .before .lines-ok2 .ensures ∙ ap (λ (s : Bool). s && leb (c .before .before .before .before .before .before .args .r .n * c .before .before .before .before .before .before .args .r .rr) 64) (c .before .before .sizes-ok2 .ensures)) (c .if2 .taken))
+returns-2 c =
+    let start = c .before .before .before .before .before .before .args in
+    ask-yes _ _ _ _
+    (c .before .before .before .before .lines-ok .ensures ∙ ap (λ (s : Bool). s && leb (start .l .rl * start .l .n) 64)
+    (c .before .before .before .before .before .sizes-ok .ensures)) (c .before .before .before .if1 .left) _
+    (ask-no _ _ _ _ (c .before .lines-ok2 .ensures ∙ ap (λ (s : Bool). s && leb (start .r .n * start .r .rr) 64) (c .before .before .sizes-ok2 .ensures))
+    (c .if2 .taken))
 
 returns-3 : tie.Need-returns-3
 unfolding pairSized
-returns-3 c = ask-yes _ _ _ _ (c .before .before .before .before .before .before .before .lines-ok .ensures ∙ ap (λ (s : Bool). s && leb (c .before .before .before .before .before .before .before .before .before .args .l .rl * c .before .before .before .before .before .before .before .before .before .args .l .n) 64) (c .before .before .before .before .before .before .before .before .sizes-ok .ensures)) (c .before .before .before .before .before .before .if1 .left) _ (ask-yes _ _ _ _ (c .before .before .before .before .lines-ok2 .ensures ∙ ap (λ (s : Bool). s && leb (c .before .before .before .before .before .before .before .before .before .args .r .n * c .before .before .before .before .before .before .before .before .before .args .r .rr) 64) (c .before .before .before .before .before .sizes-ok2 .ensures)) (c .before .before .before .if2 .left) _ (length-wrong _ _ _ (c .if3 .taken)))
+returns-3 c =
+    let start = c .before .before .before .before .before .before .before .before .before .args in
+    ask-yes _ _ _ _
+    (c .before .before .before .before .before .before .before .lines-ok .ensures ∙ ap (λ (s : Bool). s && leb (start .l .rl * start .l .n) 64)
+    (c .before .before .before .before .before .before .before .before .sizes-ok .ensures)) (c .before .before .before .before .before .before .if1 .left) _
+    (ask-yes _ _ _ _
+    (c .before .before .before .before .lines-ok2 .ensures ∙ ap (λ (s : Bool). s && leb (start .r .n * start .r .rr) 64)
+    (c .before .before .before .before .before .sizes-ok2 .ensures)) (c .before .before .before .if2 .left) _ (length-wrong _ _ _ (c .if3 .taken)))
 
 returns-4 : tie.Need-returns-4
 unfolding pairSized
-returns-4 c = ask-yes _ _ _ _ (c .before .before .before .before .before .before .before .lines-ok .ensures ∙ ap (λ (s : Bool). s && leb (c .before .before .before .before .before .before .before .before .before .args .l .rl * c .before .before .before .before .before .before .before .before .before .args .l .n) 64) (c .before .before .before .before .before .before .before .before .sizes-ok .ensures)) (c .before .before .before .before .before .before .if1 .left) _ (ask-yes _ _ _ _ (c .before .before .before .before .lines-ok2 .ensures ∙ ap (λ (s : Bool). s && leb (c .before .before .before .before .before .before .before .before .before .args .r .n * c .before .before .before .before .before .before .before .before .before .args .r .rr) 64) (c .before .before .before .before .before .sizes-ok2 .ensures)) (c .before .before .before .if2 .left) _ (length-right _ _ _ (c .if3 .left)))
+returns-4 c =
+    let start = c .before .before .before .before .before .before .before .before .before .args in
+    ask-yes _ _ _ _
+    (c .before .before .before .before .before .before .before .lines-ok .ensures ∙ ap (λ (s : Bool). s && leb (start .l .rl * start .l .n) 64)
+    (c .before .before .before .before .before .before .before .before .sizes-ok .ensures)) (c .before .before .before .before .before .before .if1 .left) _
+    (ask-yes _ _ _ _
+    (c .before .before .before .before .lines-ok2 .ensures ∙ ap (λ (s : Bool). s && leb (start .r .n * start .r .rr) 64)
+    (c .before .before .before .before .before .sizes-ok2 .ensures)) (c .before .before .before .if2 .left) _ (length-right _ _ _ (c .if3 .left)))
 
 pub sized-spec : {M : Type 1} → statement M
 unfolding pairSized

@@ -7,7 +7,11 @@ use Rattle.plan.proofs.plans.fresh.Tie as tie
 
 returns : tie.Need-returns
 unfolding freshAnswer
-returns c = ap (freshAnswer (c .before .before .before .before .before .before .before .before .before .before .before .before .before .before .before .before .before .before .before .before .before .args .p)) (c .before .before .before .before .before .fresh-run .ensures)
+returns c =
+    ap
+    (freshAnswer
+    (c .before .before .before .before .before .before .before .before .before .before .before .before .before .before .before .before .before .before
+    .before .before .before .args .p)) (c .before .before .before .before .before .fresh-run .ensures)
 
 pub fresh-spec : {M : Type 1} → statement M
 fresh-spec = tie.close (tie.spec

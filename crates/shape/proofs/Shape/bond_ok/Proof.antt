@@ -8,4 +8,8 @@ use Rattle.shape.proofs.Shape.bond_ok.Tie as tie
 
 pub bond-ok-spec : {M : Type 1} → statement M
 unfolding bondOk
-bond-ok-spec = tie.close (tie.spec (λ c. search needs) (λ c. search needs) (λ c. search needs) (λ c. search needs) (λ c. search needs) (λ c. search needs) (λ c. simp (← add-one, lt-ltb _ _ (c .before .before .if1 .taken))) (λ c. search needs) (λ c. search needs) (λ c. simp (← add-one, le-ltb _ _ (c .before .if1 .left))))
+bond-ok-spec =
+    tie.close
+    (tie.spec (λ c. search needs) (λ c. search needs) (λ c. search needs) (λ c. search needs) (λ c. search needs) (λ c. search needs)
+    (λ c. simp (← add-one, lt-ltb _ _ (c .before .before .if1 .taken))) (λ c. search needs) (λ c. search needs)
+    (λ c. simp (← add-one, le-ltb _ _ (c .before .if1 .left))))

@@ -5,4 +5,7 @@ use Rattle.shape.proofs.Shape.check.Statement.{statement}
 use Rattle.shape.proofs.Shape.check.Tie as tie
 
 pub check-spec : {M : Type 1} → statement M
-check-spec = tie.close (tie.spec (λ c κs. search needs) (λ c. search verdicts) (λ c κs. search (needs, verdicts)) (λ c. search verdicts) (λ c. search needs) (λ c. search verdicts) (λ c κs. search (needs, verdicts)) (λ c. search (verdicts, bond-alone)) (λ c. search (verdicts, bond-alone)))
+check-spec =
+    tie.close
+    (tie.spec (λ c κs. search needs) (λ c. search verdicts) (λ c κs. search (needs, verdicts)) (λ c. search verdicts) (λ c. search needs)
+    (λ c. search verdicts) (λ c κs. search (needs, verdicts)) (λ c. search (verdicts, bond-alone)) (λ c. search (verdicts, bond-alone)))

@@ -14,4 +14,7 @@ abbrev μ-loop : tie.MeasureT-loop
 μ-loop self k₀ k = self .d - k
 
 pub first-bad-points-spec : {M : Type 1} → statement M
-first-bad-points-spec = tie.close (tie.spec Inv-loop μ-loop (λ c. search (needs, passing)) (λ c. search (needs, passing)) (λ c. search (needs, passing)) (λ c κs. search (needs, passing)) (λ c. search (needs, passing)) (λ c. search (needs, passing)) (λ c. search (needs, passing)) (λ c. search (needs, passing)) (λ c. search (needs, passing)))
+first-bad-points-spec =
+    tie.close
+    (tie.spec Inv-loop μ-loop (λ c. search (needs, passing)) (λ c. search (needs, passing)) (λ c. search (needs, passing)) (λ c κs. search (needs, passing))
+    (λ c. search (needs, passing)) (λ c. search (needs, passing)) (λ c. search (needs, passing)) (λ c. search (needs, passing)) (λ c. search (needs, passing)))

@@ -20,4 +20,9 @@ abbrev μ-loop : tie.MeasureT-loop
 
 pub first-not-finite-axis-spec : {M : Type 1} → statement M
 unfolding pointsAt pointSize
-first-not-finite-axis-spec = tie.close (tie.spec Inv-loop μ-loop (λ c. search (needs, offsets, passing)) (λ c. search needs) (λ c. search needs) (λ c. search (needs, slotwise)) (λ c. search (needs, slotwise)) (λ c. search needs) (λ c. search needs) (λ c. search (needs, slotwise)) (λ c κs. search needs) (λ c. search (needs, slotwise, passing)) (λ c. search needs) (λ c. search needs) (λ c. search (needs, offsets, slotwise, passing)) (λ c. search (needs, passing)))
+first-not-finite-axis-spec =
+    tie.close
+    (tie.spec Inv-loop μ-loop (λ c. search (needs, offsets, passing)) (λ c. search needs) (λ c. search needs) (λ c. search (needs, slotwise))
+    (λ c. search (needs, slotwise)) (λ c. search needs) (λ c. search needs) (λ c. search (needs, slotwise)) (λ c κs. search needs)
+    (λ c. search (needs, slotwise, passing)) (λ c. search needs) (λ c. search needs) (λ c. search (needs, offsets, slotwise, passing))
+    (λ c. search (needs, passing)))

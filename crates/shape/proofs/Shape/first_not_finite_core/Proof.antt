@@ -20,4 +20,8 @@ abbrev μ-loop : tie.MeasureT-loop
 
 pub first-not-finite-core-spec : {M : Type 1} → statement M
 unfolding coreAt
-first-not-finite-core-spec = tie.close (tie.spec Inv-loop μ-loop (λ c. search (needs, offsets, passing)) (λ c κs. search needs) (λ c. search (needs, slotwise)) (λ c. search (needs, slotwise)) (λ c. search needs) (λ c. search needs) (λ c. search (needs, slotwise)) (λ c κs. search needs) (λ c. search (needs, slotwise, passing)) (λ c. search needs) (λ c. search needs) (λ c. search (needs, offsets, slotwise, passing)) (λ c. search (needs, passing)))
+first-not-finite-core-spec =
+    tie.close
+    (tie.spec Inv-loop μ-loop (λ c. search (needs, offsets, passing)) (λ c κs. search needs) (λ c. search (needs, slotwise)) (λ c. search (needs, slotwise))
+    (λ c. search needs) (λ c. search needs) (λ c. search (needs, slotwise)) (λ c κs. search needs) (λ c. search (needs, slotwise, passing))
+    (λ c. search needs) (λ c. search needs) (λ c. search (needs, offsets, slotwise, passing)) (λ c. search (needs, passing)))

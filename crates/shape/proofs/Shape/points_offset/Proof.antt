@@ -16,4 +16,7 @@ abbrev μ-loop : tie.MeasureT-loop
 
 pub points-offset-spec : {M : Type 1} → statement M
 unfolding pointSize
-points-offset-spec = tie.close (tie.spec Inv-loop μ-loop (λ c. search (needs, offsets)) (λ c. search needs) (λ c. search needs) (λ c. search (needs, offsets)) (λ c. search needs) (λ c. search needs) (λ c. search (needs, offsets)) (λ c. search (needs, offsets)))
+points-offset-spec =
+    tie.close
+    (tie.spec Inv-loop μ-loop (λ c. search (needs, offsets)) (λ c. search needs) (λ c. search needs) (λ c. search (needs, offsets)) (λ c. search needs)
+    (λ c. search needs) (λ c. search (needs, offsets)) (λ c. search (needs, offsets)))

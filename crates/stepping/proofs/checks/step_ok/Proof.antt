@@ -13,7 +13,12 @@ lengths-ok-requires : tie.Need-lengths-ok-requires
 lengths-ok-requires c κs = fits-sizes _ _ _ (c .before .before .before .before .check .ensures) (c .before .before .enum-told .given .1)
 
 zones-finite-requires : tie.Need-zones-finite-requires
-zones-finite-requires c κs = (fits-sizes _ _ _ (c .before .before .before .before .before .before .before .before .check .ensures) (c .before .before .before .before .before .before .enum-told .given .1), chain-long _ _ _ _ _ _ (c .before .before .before .lengths-ok .ensures) (c .before .enum-told2 .given .1))
+zones-finite-requires c κs = (
+  fits-sizes _ _ _ (c .before .before .before .before .before .before .before .before .check .ensures)
+      (c .before .before .before .before .before .before .enum-told .given .1),
+  chain-long _ _ _ _ _ _ (c .before .before .before .lengths-ok .ensures)
+      (c .before .enum-told2 .given .1),
+)
 
 settings-ok-requires : tie.Need-settings-ok-requires
 settings-ok-requires c κs = fits-points _ _ _ (c .before .before .before .before .before .before .before .before .before .before .before .check .ensures) (c .before .before .before .before .before .before .before .before .before .enum-told .given .1)

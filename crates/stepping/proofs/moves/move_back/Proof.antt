@@ -8,10 +8,19 @@ use Rattle.stepping.proofs.moves.move_back.Statement.{statement}
 use Rattle.stepping.proofs.moves.move_back.Tie as tie
 
 move-core-requires : tie.Need-move-core-requires
-move-core-requires c κs = (rw (sub-zero, part-is _ _ _ (c .before .before .before .before .before .before .pre .0 .1)) (c .before .before .before .before .before .before .pre .1 .0), c .before .before .before .before .before .before .pre .1 .1)
+move-core-requires c κs =
+    let at-6 = c .before .before .before .before .before .before in
+    (rw (sub-zero, part-is _ _ _ (at-6 .pre .0 .1)) (at-6 .pre .1 .0), at-6 .pre .1 .1)
 
 returns : tie.Need-returns
-returns c = (rw sub-zero at (c .before .before .before .before .move-core .ensures) ∙ ap (answered _) (sym (part-read _ _ _ (c .before .before .before .before .before .before .before .before .before .before .before .pre .0 .1) (c .before .before .before .before .move-core .last .1 .1 .1 .1 .1 .1 .0) (c .before .before .before .before .move-core .kept .1 .1 .1 .1 .1 .1 .0))), part-back _ _ _ (c .before .before .before .before .before .before .before .before .before .before .before .pre .0 .1) (c .before .before .before .before .move-core .last .1 .1 .1 .1 .1 .1 .0) (c .before .before .before .before .move-core .kept .1 .1 .1 .1 .1 .1 .0))
+returns c =
+    let at-4 = c .before .before .before .before in
+    let at-11 = at-4 .before .before .before .before .before .before .before in (
+      rw sub-zero at (at-4 .move-core .ensures) ∙ ap (answered _)
+          (sym (part-read _ _ _ (at-11 .pre .0 .1) (at-4 .move-core .last .1 .1 .1 .1 .1 .1 .0) (at-4 .move-core .kept .1 .1 .1 .1 .1 .1 .0))),
+      part-back _ _ _
+          (at-11 .pre .0 .1) (at-4 .move-core .last .1 .1 .1 .1 .1 .1 .0) (at-4 .move-core .kept .1 .1 .1 .1 .1 .1 .0),
+    )
 
 pub move-back-spec : {M : Type 1} → statement M
 move-back-spec = tie.close (tie.spec

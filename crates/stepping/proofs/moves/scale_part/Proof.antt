@@ -8,7 +8,13 @@ use Rattle.stepping.proofs.moves.scale_part.Statement.{statement}
 use Rattle.stepping.proofs.moves.scale_part.Tie as tie
 
 returns : tie.Need-returns
-returns c = (ap (scaled _ _) (sym (part-is _ _ _ (c .before .before .before .before .before .pre))) ∙ c .before .before .scale .ensures ∙ ap (answered _) (sym (part-read _ _ _ (c .before .before .before .before .before .pre) (c .before .before .scale .last .0) (c .before .before .scale .kept .0))), part-back _ _ _ (c .before .before .before .before .before .pre) (c .before .before .scale .last .0) (c .before .before .scale .kept .0))
+returns c =
+    let at-5 = c .before .before .before .before .before in (
+      ap (scaled _ _) (sym (part-is _ _ _ (at-5 .pre))) ∙ c .before .before .scale .ensures ∙ ap (answered _)
+          (sym (part-read _ _ _ (at-5 .pre) (c .before .before .scale .last .0) (c .before .before .scale .kept .0))),
+      part-back _ _ _ (at-5 .pre)
+          (c .before .before .scale .last .0) (c .before .before .scale .kept .0),
+    )
 
 pub scale-part-spec : {M : Type 1} → statement M
 scale-part-spec = tie.close (tie.spec

@@ -110,7 +110,11 @@ module _ {M : Type 1} (𝓤 : URA M) (H : Heap 𝓤) (A : Atoms 𝓤) (W : Given
   to = (((κ, tt), (q, tt), tt, (d .chain, (d .start, (d .rl, (d .n, (d .rr, (il, (im, (ir, tt)))))))), passed), tt)
 
   asked : ent 𝓤 (onEntry 𝓤 H A entry-at.signature (κ, tt) (q, tt) (d .chain, (d .start, (d .rl, (d .n, (d .rr, (il, (im, (ir, tt)))))))) passed) (EntryAt 𝓤 H A mem run .pre to)
-  asked = qed W ((‵ (flft κ q) ⊛ ‵ ftrue) ∷ ‵ (owns (ShrSlice (named 0) κ f64 ∷ usize ∷ usize ∷ usize ∷ usize ∷ usize ∷ usize ∷ usize ∷ []) (d .chain, (d .start, (d .rl, (d .n, (d .rr, (il, (im, (ir, tt)))))))) passed) ∷ []) ∵ join ! $ frame ! $ done !
+  asked =
+      qed W
+      ((‵ (flft κ q) ⊛ ‵ ftrue) ∷ ‵
+      (owns (ShrSlice (named 0) κ f64 ∷ usize ∷ usize ∷ usize ∷ usize ∷ usize ∷ usize ∷ usize ∷ [])
+      (d .chain, (d .start, (d .rl, (d .n, (d .rr, (il, (im, (ir, tt)))))))) passed) ∷ []) ∵ join ! $ frame ! $ done !
 
   -- what the parameters own gives what the callee asks, and is kept
   apart : d .start < 2 ^ 64 → d .rl < 2 ^ 64 → d .n < 2 ^ 64 → d .rr < 2 ^ 64 → ent 𝓤 (onEntry 𝓤 H A get.signature (κ, tt) (q, tt) (d, (il, (im, (ir, tt)))) vals) (sep 𝓤 (EntryAt 𝓤 H A mem run .pre to) (sem 𝓤 H A All))
@@ -136,7 +140,13 @@ module _ {M : Type 1} (𝓤 : URA M) (H : Heap 𝓤) (A : Atoms 𝓤) (W : Given
     walk : Holds (hasTy (T′.mir (named 0)) mach) × WT mach → ent 𝓤 (onEntry 𝓤 H A get.signature (κ, tt) (q, tt) (d, (il, (im, (ir, tt)))) vals) (WpFn 𝓤 H C Λ code.function (mach ∷ vint w64 il ∷ vint w64 im ∷ vint w64 ir ∷ []) Post)
     walk wt =
         qed W (raw (onEntry 𝓤 H A get.signature (κ, tt) (q, tt) (d, (il, (im, (ir, tt)))) vals) ∷ []) ∵ enter ! C Λ code.function (mach ∷ vint w64 il ∷ vint w64 im ∷ vint w64 ir ∷ []) _ $
-        alloc1 ! (λ l0. alloc1 ! (λ l1. alloc1 ! (λ l2. alloc1 ! (λ l3. alloc1 ! (λ l4. alloc1 ! (λ l5. alloc1 ! (λ l6. alloc1 ! (λ l7. alloc1 ! (λ l8. alloc1 ! (λ l9. alloc0 ! $ params1 ! $ pass1 ! (init ! 16 refl wt) $ pass1 ! (init ! 14 refl (tt, record { fits = il-fits })) $ pass1 ! (init ! 12 refl (tt, record { fits = im-fits })) $ pass1 ! (init ! 10 refl (tt, record { fits = ir-fits })) $ pass0 ! $
+        alloc1 ! (λ l0. alloc1 ! (λ l1. alloc1 ! (λ l2. alloc1 ! (λ l3. alloc1 ! (λ l4. alloc1 ! (λ l5. alloc1 ! (λ l6. alloc1 ! (λ l7. alloc1 ! (λ l8. alloc1 ! (λ l9. alloc0 ! $ params1 ! $ pass1 ! (init ! 16 refl wt) $ pass1 ! (init ! 14 refl (
+          tt,
+          record {
+            fits =
+                il-fits;
+          },
+        )) $ pass1 ! (init ! 12 refl (tt, record { fits = im-fits })) $ pass1 ! (init ! 10 refl (tt, record { fits = ir-fits })) $ pass0 ! $
         -- the struct's fields, each into a local of its own
         assigns ! (of-opd ! (load ! (from ! (fld ! refl (stop !))) (look-in ! 16 (sub ! 0 refl (whole !))))) (from ! (stop !)) (init ! 8 refl (tt, wt .1 .0)) $
         assigns ! (of-opd ! (load ! (from ! (fld ! refl (stop !))) (look-in ! 16 (sub ! 1 refl (whole !))))) (from ! (stop !)) (init ! 6 refl (tt, wt .1 .1 .0)) $
@@ -156,13 +166,24 @@ module _ {M : Type 1} (𝓤 : URA M) (H : Heap 𝓤) (A : Atoms 𝓤) (W : Given
 module _ {M : Type 1} (𝓤 : URA M) (H : Heap 𝓤) (A : Atoms 𝓤) (W : Given 𝓤 H A) (mem : Memory → SProp 𝓤) (run : Routine → Fun 𝓤) where
   get-walks : (C : Calls 𝓤 H) (Λ : Loops 𝓤 H) → FmC 𝓤 H (W .laws) C → Triple 𝓤 (C #view·entry-at) (EntryAt 𝓤 H A mem run)
       → Walks 𝓤 H A get.ended stayed (WpFn 𝓤 H C Λ code.function) (get.clauses 𝓤 H A mem run)
-  get-walks C Λ fm known = walked 𝓤 H A get.ended stayed (get.clauses 𝓤 H A mem run) (WpFn 𝓤 H C Λ code.function) (λ κs. (LL.vals (T.the-type (namedLft 1 0 tt κs)) (T′.the-laws (namedLft 1 0 tt κs)), (uint-vals w64, (uint-vals w64, (uint-vals w64, tt))))) (λ κs. (LL.tells (T.the-type (namedLft 1 0 tt κs)) (T′.the-laws (namedLft 1 0 tt κs)), (uint-tells w64, (uint-tells w64, (uint-tells w64, tt)))))
+  get-walks C Λ fm known =
+      walked 𝓤 H A get.ended stayed (get.clauses 𝓤 H A mem run) (WpFn 𝓤 H C Λ code.function)
+      (λ κs. (LL.vals (T.the-type (namedLft 1 0 tt κs)) (T′.the-laws (namedLft 1 0 tt κs)), (uint-vals w64, (uint-vals w64, (uint-vals w64, tt)))))
+      (λ κs. (LL.tells (T.the-type (namedLft 1 0 tt κs)) (T′.the-laws (namedLft 1 0 tt κs)), (uint-tells w64, (uint-tells w64, (uint-tells w64, tt)))))
       (λ κs qs bounds a g are. via 𝓤 _ (fst∗ 𝓤 _ (emp 𝓤)) (walk 𝓤 H A W mem run (κs .0) (qs .0) (a .0) (a .1 .0) (a .1 .1 .0) (a .1 .1 .1 .0) (are .1 .0 .1) (are .1 .1 .0 .1) (are .1 .1 .1 .0 .1) C Λ fm known (LL.lawful (T.the-type (namedLft 1 0 tt κs)) (T′.the-laws (namedLft 1 0 tt κs)) 𝓤 H A W .typed (a .0) _ (are .0) .0)))
 
 get-meets : {M : Type 1} (𝓤 : URA M) (H : Heap 𝓤) (A : Atoms 𝓤) (W : Given 𝓤 H A) (mem : Memory → SProp 𝓤) (run : Routine → Fun 𝓤) (𝓣 : Tables 𝓤 H)
     → Triple 𝓤 (𝓣 .C #view·entry-at) (EntryAt 𝓤 H A mem run)
     → Meets 𝓤 H A get.signature (WpFn 𝓤 H (𝓣 .C) (𝓣 .Λ) code.function) (get.spec 𝓤 H A mem run)
-get-meets 𝓤 H A W mem run 𝓣 known = walk-meets 𝓤 H A get.ended stayed W (goes-none 𝓤 H A W 1 B yes (λ κs x f. refl), (goes-none 𝓤 H A W 1 (λ _. usize) yes (λ κs x f. refl), (goes-none 𝓤 H A W 1 (λ _. usize) yes (λ κs x f. refl), (goes-none 𝓤 H A W 1 (λ _. usize) yes (λ κs x f. refl), tt)))) (get.clauses 𝓤 H A mem run) (WpFn 𝓤 H (𝓣 .C) (𝓣 .Λ) code.function) (WpFn-mono 𝓤 H (W .laws) 𝓣 code.function)
+get-meets 𝓤 H A W mem run 𝓣 known =
+    walk-meets 𝓤 H A get.ended stayed W (
+      goes-none 𝓤 H A W 1 B yes (λ κs x f. refl),
+      (
+        goes-none 𝓤 H A W 1 (λ _. usize) yes (λ κs x f. refl),
+        (goes-none 𝓤 H A W 1 (λ _. usize) yes (λ κs x f. refl), (goes-none 𝓤 H A W 1 (λ _. usize) yes (λ κs x f. refl), tt)),
+      ),
+    ) (get.clauses 𝓤 H A mem run)
+    (WpFn 𝓤 H (𝓣 .C) (𝓣 .Λ) code.function) (WpFn-mono 𝓤 H (W .laws) 𝓣 code.function)
     (get-walks 𝓤 H A W mem run (𝓣 .C) (𝓣 .Λ) (fmOf 𝓤 H (W .laws) 𝓣) known)
 
 pub get-spec : {M : Type 1} → stated.statement M

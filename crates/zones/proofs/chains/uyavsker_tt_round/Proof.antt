@@ -7,7 +7,11 @@ use Rattle.zones.proofs.chains.uyavsker_tt_round.Statement.{statement}
 use Rattle.zones.proofs.chains.uyavsker_tt_round.Tie as tie
 
 returns : tie.Need-returns
-returns c = let i = c .before .before .before .before .before .before .before .before .before .before .before .args in ends-as (λ (x : Shape). roundCall x (i .eps) (i .chain .now) (i .scratch .now)) _ _ _ _ _ _ (c .before .before .before .before .before .before .before .before .shape-in .ensures) (c .before .before .before .before .before .tt-round .ensures) (c .rounded-out .ensures)
+returns c =
+    let i = c .before .before .before .before .before .before .before .before .before .before .before .args in
+    ends-as (λ (x : Shape). roundCall x (i .eps) (i .chain .now) (i .scratch .now)) _ _ _ _ _ _
+    (c .before .before .before .before .before .before .before .before .shape-in .ensures) (c .before .before .before .before .before .tt-round .ensures)
+    (c .rounded-out .ensures)
 
 pub uyavsker-tt-round-spec : {M : Type 1} → statement M
 uyavsker-tt-round-spec = tie.close (tie.spec (λ c κs. search needs) (λ c κs. search needs) (λ c κs. search needs) (λ c. search needs) (λ c. search needs) returns)
