@@ -79,10 +79,6 @@ pub zero-fits : Fits zero64
 unfolding ofBits fits
 zero-fits = tt
 
-pub nan-fits : Fits nan
-unfolding fits
-nan-fits = tt
-
 -- a finite product with zero is a zero
 pub times-none : (p : Float) → finite (times p zero64) ≡ true → Zero (times p zero64)
 times-none nan h = absurd (true≢false (sym (times-finite nan zero64 h)))
