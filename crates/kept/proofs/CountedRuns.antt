@@ -30,11 +30,12 @@ use Rattle.stepping.proofs.CountedSteps.{step-parts, step-cuts}
 use Rattle.kept.specs.Kept.{Inputs, Kept, blank}
 use Rattle.kept.specs.Checks.{freshOk}
 use Rattle.kept.specs.Call.{Room, freshBy, freshCall}
-use Rattle.kept.specs.Sequence.{AsFresh, keptAfterFresh}
+use Rattle.kept.specs.Sequence.{AsFresh, keptAfterFresh, Asked, keptAfterAll, presentAfterAll, AllLend}
 use Rattle.kept.specs.StepThenInner.{paired, stepThenInner}
 use Rattle.kept.proofs.Held.{no-cut}
 use Rattle.kept.proofs.StepThenInner.{fresh-is}
 use Rattle.kept.proofs.StaysFresh.{ran-fresh, first-fresh}
+use Rattle.kept.proofs.Demand3.{demand3-calls}
 
 -- what a run keeps of its step
 step-kept : (i : Inputs) (k : Kept) → stepThenInner i ≡ done k
@@ -82,3 +83,14 @@ fresh-counted s axes t source weights chain carries sums scratch all e =
     let i : Inputs = record { shape = s; axes = axes; set = t; source = source; weights = weights } in
     let m : Room = record { chain = chain; carries = carries; sums = sums; scratch = scratch } in
     run-counted i (keptAfterFresh i (freshBy rules i m)) (first-fresh rules i m all e)
+
+-- and of the run that any calls leave, some of them refused
+pub calls-counted : (s : Shape) (axes : List Axis) (t : Settings) (source weights chain carries sums scratch : List Float) → length axes ≡ mostAxes
+    → freshCall s axes t source weights chain carries sums scratch .result .verdict ≡ Fits → (cs : List Asked)
+    → let i : Inputs = record { shape = s; axes = axes; set = t; source = source; weights = weights } in
+    let k = keptAfterFresh i (freshCall s axes t source weights chain carries sums scratch) in
+    let j = presentAfterAll rules i k cs in
+    let l = keptAfterAll rules k cs in
+    AllLend rules k cs → StepCounted (j .set) (j .axes) (coresOf (j .shape) (j .source)) (l .stepped .sweeps) (l .stepped .settled)
+calls-counted s axes t source weights chain carries sums scratch all e cs L =
+    run-counted _ _ (demand3-calls s axes t source weights chain carries sums scratch all e cs L)
