@@ -1,4 +1,5 @@
-// One-sided Jacobi passes over stored columns, with their count.
+// One-sided Jacobi passes over stored columns, with their count, and a look at every number after each rotation. `quick_passes` makes
+// the same passes with fewer looks; these remain only for the case that something isn't finite, and tell which number was the first.
 ghost use mathlib.Core.Path.{_≡_};
 ghost use Prim.Native.Nat.{_<_};
 ghost use Rattle.answers.specs.Outcome.{staged};
