@@ -7,8 +7,8 @@ use lib.ListN.{length, take}
 use lib.Seq.{ext-getD, getD-take, length-take-le}
 use Rattle.lists.proofs.Tables.{length-tab, getD-tab}
 use Rattle.shape.specs.Limits.{mostAxes}
-use Rattle.axes.specs.declared.Axis.{Axis}
-use Rattle.axes.specs.Axes.{blank, axisAt, gathered}
+use Rattle.stepform.specs.declared.Axis.{Axis}
+use Rattle.stepform.specs.Axes.{blank, axisAt, gathered}
 
 pub gathered-length : (xs : List Axis) → length (gathered xs) ≡ mostAxes
 unfolding gathered

@@ -3,15 +3,8 @@ ghost use mathlib.Core.Path.{_≡_};
 ghost use Prim.Native.Nat.{_<_};
 ghost use lib.ListN.{set};
 ghost use Rattle.shape.specs.Limits.{mostAxes};
-ghost use Rattle.axes.specs.Axes.{axisFinite, axisOk, axisAt, blanks, gathered};
-
-// The settings of one axis.
-pub struct Axis {
-    pub a: f64,
-    pub b: f64,
-    pub xmin: f64,
-    pub xmax: f64,
-}
+ghost use Rattle.stepform.specs.Axes.{axisFinite, axisOk, axisAt, blanks, gathered};
+use stepform::Axis;
 
 // Whether all four numbers are finite.
 pub fn axis_finite(x: Axis) -> bool

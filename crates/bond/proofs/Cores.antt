@@ -14,7 +14,7 @@ use Rattle.lists.proofs.Tables.{grid-same}
 use Rattle.lists.proofs.Sums.{sum-same, sum-rows}
 use Rattle.shape.specs.Cores.{coreWith, entry}
 use Rattle.shape.proofs.Places.{entry-row, entry-line, block-lines}
-use Rattle.strips.specs.Products.{dotAt, productOf}
+use Rattle.bond.specs.Products.{dotAt, productOf}
 use Rattle.cutform.specs.Bonds.{gram, absorb}
 
 -- ---- sizes: a row and a line are at most all

@@ -1,3 +1,7 @@
-pub mod Made
+pub mod StripProducts
+pub mod Finished
+pub mod Rotations
+pub mod Swept
+pub mod Chosen
 pub mod Cores
 pub mod Staged

@@ -18,13 +18,13 @@ use Rattle.lists.proofs.Parts.{part-again}
 use Rattle.lists.proofs.Stages.{stored-staged, staged-on, staged-stop}
 use Rattle.shape.specs.Cores.{Core, coreWith}
 use Rattle.cutform.specs.Sweeps.{eig, Swept, swept, diagonalized}
-use Rattle.rotation.specs.Rotation.{eye}
+use Rattle.cutform.specs.Rotation.{eye}
 use Rattle.cutform.specs.Values.{singulars, order, sorted, keptRank}
 use Rattle.cutform.specs.Bonds.{gram, Bond, cutBond}
 use Rattle.cutform.specs.Factors.{leftFactor, carryOf}
 use Rattle.bond.specs.Stages.{sweptOf, restOf}
-use Rattle.factors.specs.Rows.{Factors, factorsOf}
-use Rattle.values.specs.Chosen.{Chosen, chosenOf}
+use Rattle.bond.specs.FactorRows.{Factors, factorsOf}
+use Rattle.bond.specs.Chosen.{Chosen, chosenOf}
 
 -- ---- the sweeps of a core's Gram matrix
 module _ (c : Core) (g : List Float) (r : Stage) (eg : g ≡ gram c) (er : r ≡ stageOf (stored g)) where

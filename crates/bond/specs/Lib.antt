@@ -1,1 +1,5 @@
+pub mod Products
+pub mod FactorRows
+pub mod SweepRows
+pub mod Chosen
 pub mod Stages

@@ -5,10 +5,10 @@ use Rattle.answers.specs.declared.Part.the-variants.{Spectrum, Factor}
 use Rattle.answers.specs.Outcome.{Answer, Made, done, bind, making}
 use Rattle.lists.specs.Floats.{stored}
 use Rattle.shape.specs.Cores.{Core, coreWith}
-use Rattle.rotation.specs.Rotation.{eye}
+use Rattle.cutform.specs.Rotation.{eye}
 use Rattle.cutform.specs.Sweeps.{Swept, eig, diagonalized}
-use Rattle.values.specs.Chosen.{chosenOf}
-use Rattle.factors.specs.Rows.{factorsOf}
+use Rattle.bond.specs.Chosen.{chosenOf}
+use Rattle.bond.specs.FactorRows.{factorsOf}
 use Rattle.cutform.specs.Bonds.{gram, Bond}
 
 -- the Gram matrix made diagonal

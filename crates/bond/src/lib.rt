@@ -1,4 +1,8 @@
 // One bond of a chain: its left core cut to a left factor and a carry, and a carry absorbed.
+pub mod factors;
+pub mod strips;
+pub mod sweeps;
+pub mod values;
 ghost use mathlib.Core.Path.{_≡_};
 ghost use mathlib.Core.Bool.{false};
 ghost use mathlib.Core.List.{_++_};

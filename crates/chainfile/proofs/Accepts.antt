@@ -29,7 +29,7 @@ use Rattle.fileform.specs.Calls.{numbersOk}
 use Rattle.fileform.specs.Reading.{readContents, lengthsOk, numbersIn, readNumbers, readBy, readOk, Chain, reading, readExit, readCall}
 use Rattle.fileform.proofs.Shapes.{met}
 use Rattle.fileform.proofs.Readers.{contents-is}
-use Rattle.contents.proofs.Tables.{read-stops, read-passes}
+use Rattle.chainfile.proofs.Tables.{read-stops, read-passes}
 
 -- ---- the lengths: n is what code took for N
 module _ (s : Shape) (n : ℕ) (e : n ≡ entriesOf s) where

@@ -1,4 +1,7 @@
 // The chain file, read and written.
+pub mod body;
+pub mod contents;
+pub mod making;
 ghost use mathlib.Core.Path.{_≡_};
 ghost use Prim.Native.Nat.{_≤_};
 ghost use lib.ListN.{length};
@@ -13,8 +16,6 @@ use answers::Verdict;
 use fileform::Read;
 use shape::Shape;
 
-pub mod body;
-pub mod making;
 
 // The file's length, then the room.
 fn lengths_ok(s: Shape, bytes: usize, room: usize) -> Verdict

@@ -18,7 +18,7 @@ use Rattle.numbers.specs.Value.{unitsIn}
 use Rattle.numbers.proofs.Values.{round-neg}
 use Rattle.numbers.proofs.Theorems.{root-right, units-exact}
 use Rattle.lists.proofs.Tests.{holds, passes, fails, ltb-is, ltb-no, eqb-no}
-use Rattle.columns.specs.Columns.{tolerance64, skipped}
+use Rattle.pairform.specs.Columns.{tolerance64, skipped}
 
 -- ---- plain numbers
 -- r / t is at most twice the root of p / q; u and U are the two in units of 1 / w

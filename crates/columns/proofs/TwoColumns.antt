@@ -23,10 +23,10 @@ use Rattle.lists.proofs.Floats.{finite-getD, stored-yes}
 use Rattle.lists.proofs.Sums.{times-finite, sum-finite, sum-same}
 use Rattle.lists.proofs.Tables.{length-tab, getD-tab, length-grid, getD-grid, grid-is, tab-is}
 use Rattle.lists.proofs.Tests.{eqb-is, eqb-not, eqb-no, both}
-use Rattle.rotation.specs.Rotation.{turnedAt}
+use Rattle.cutform.specs.Rotation.{turnedAt}
 use Rattle.rotation.specs.Pairs.{turnPairs}
 use Rattle.rotation.proofs.Turned.{rows-turned}
-use Rattle.columns.specs.Columns.{turnStored, dot, tolerance64, skipped}
+use Rattle.pairform.specs.Columns.{turnStored, dot, tolerance64, skipped}
 use Rattle.columns.specs.Loops.{squares, Elsewhere}
 use Rattle.columns.proofs.Finite.{grid-finite}
 

@@ -7,7 +7,7 @@ use lib.Ieee.{Float}
 use Rattle.numbers.specs.Finite.{finite}
 use Rattle.lists.specs.Lists.{tab}
 use Rattle.lists.specs.Floats.{cell}
-use Rattle.columns.specs.Columns.{dot}
+use Rattle.pairform.specs.Columns.{dot}
 
 -- the sum of squares of each column
 unfoldable pub squares : ℕ → ℕ → List Float → List Float

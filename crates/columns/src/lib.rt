@@ -6,7 +6,7 @@ ghost use lib.ListN.{length, take, drop};
 ghost use Rattle.answers.specs.Outcome.{stageOf};
 ghost use Rattle.lists.specs.Floats.{at, allFinite, stored};
 ghost use Rattle.rotation.specs.Pairs.{turnPairs};
-ghost use Rattle.columns.specs.Columns.{turnStored, dot, skipped};
+ghost use Rattle.pairform.specs.Columns.{turnStored, dot, skipped};
 ghost use Rattle.columns.specs.Loops.{squares, Elsewhere};
 
 // The sum over the rows, ascending, of column p times column q.

@@ -3,7 +3,7 @@ use mathlib.Core.Path.{_≡_}
 use mathlib.Core.Bool.{Bool, true}
 use mathlib.Core.List.{List}
 use lib.Ieee.{Float}
-use Rattle.kept.specs.declared.Run.{Run}
+use Rattle.runform.specs.declared.Run.{Run}
 
 -- The answer is true exactly where X holds. Two f64 are equal here where their bits are, every NaN having the same ones.
 pub record Tells (answer : Bool) (X : Type 0) : Type 0 where

@@ -53,7 +53,7 @@ fn same_flags(a: [bool; shape::MOST_AXES], b: [bool; shape::MOST_AXES]) -> bool
 }
 
 // Whether two records keep the same ranks, sweeps, flags and figure.
-pub fn same_record(a: kept::Run, b: kept::Run) -> bool
+pub fn same_record(a: runform::Run, b: runform::Run) -> bool
     ensures { λ r. ⌜ Tells r (SameRecord a b) ⌝ }
 {
     let ranks = a.ranks;
@@ -76,8 +76,8 @@ pub fn same_record(a: kept::Run, b: kept::Run) -> bool
 
 // Whether two runs keep the same: their records, chains, carries and sums.
 pub fn same_kept(
-    a: kept::Run,
-    b: kept::Run,
+    a: runform::Run,
+    b: runform::Run,
     chain: &[f64],
     chain2: &[f64],
     carries: &[f64],

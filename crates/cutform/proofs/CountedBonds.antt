@@ -16,7 +16,7 @@ use Rattle.lists.proofs.Tests.{ltb-yes}
 use Rattle.lists.proofs.Tables.{tab-getD}
 use Rattle.lists.proofs.Walks.{All, listed-all, walk-length, from-at, walk-from}
 use Rattle.shape.specs.Cores.{Core, coreWith}
-use Rattle.rotation.specs.Rotation.{eye}
+use Rattle.cutform.specs.Rotation.{eye}
 use Rattle.cutform.specs.Sweeps.{eig, mostSweeps}
 use Rattle.cutform.specs.Bonds.{gram, Bond, cutBond}
 use Rattle.cutform.specs.Rounding.{Carry, none, some, Cut, takenIn, cutIf, roundCore, rounding, countsIn, flagsIn}

@@ -14,7 +14,7 @@ use Rattle.lists.specs.Lists.{pick, listed, flat, first, count, pairs, folded}
 use Rattle.lists.specs.Walks.{along, walk}
 use Rattle.lists.specs.Floats.{sumOn, sumTo, sumRows, allFinite, firstNotFinite, stored}
 use Rattle.shape.specs.Cores.{Core, coreWith, place, entry, block}
-use Rattle.rotation.specs.Rotation.{tangentOf, slopeOf, cosineOf, turnedAt, eye}
+use Rattle.cutform.specs.Rotation.{tangentOf, slopeOf, cosineOf, turnedAt, eye}
 use Rattle.cutform.specs.Sweeps.{turnColumns, turnRows, cleared, turned, skipped, rotate, sweep, offSum, settled, sweepsFrom, diagonalized}
 use Rattle.cutform.specs.Values.{singularOf, singulars, rankIn, indexAt, order, sorted, thresholdOf, keptRank}
 use Rattle.cutform.specs.Bonds.{gram, Bond, cutBond, absorb}

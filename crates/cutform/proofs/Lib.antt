@@ -4,3 +4,11 @@ pub mod Stages
 -- the count and the flag of sweeps: of one bond, and of a rounding
 pub mod Counted
 pub mod CountedBonds
+pub mod Ranked
+pub mod Made
+pub mod Cuts
+pub mod BondSlots
+-- the checks, and the chain packed
+pub mod Early
+-- its counts
+pub mod CountedCall

@@ -9,7 +9,7 @@ use Rattle.answers.proofs.Outcomes.{bind-done, done-inj, making-is}
 use Rattle.lists.specs.Floats.{stored}
 use Rattle.lists.proofs.Floats.{making-stored}
 use Rattle.shape.specs.Cores.{Core, coreWith}
-use Rattle.rotation.specs.Rotation.{eye}
+use Rattle.cutform.specs.Rotation.{eye}
 use Rattle.cutform.specs.Sweeps.{eig, Swept, diagonalized}
 use Rattle.cutform.specs.Values.{singulars, order, sorted, keptRank}
 use Rattle.cutform.specs.Factors.{leftFactor, carryOf}

@@ -11,7 +11,7 @@ use Rattle.lists.specs.Floats.{cell, sumTo, sumRows, stored}
 use Rattle.shape.specs.Cores.{Core, coreWith, entry, block}
 use Rattle.cutform.specs.Factors.{leftFactor, carryOf}
 use Rattle.cutform.specs.Sweeps.{eig, diagonalized}
-use Rattle.rotation.specs.Rotation.{eye}
+use Rattle.cutform.specs.Rotation.{eye}
 use Rattle.cutform.specs.Values.{singulars, order, sorted, keptRank}
 
 -- entry (i, j) is the sum over the rows (il, im), ascending

@@ -10,7 +10,7 @@ use lib.Ieee.{Float}
 use Rattle.answers.specs.Outcome.{Made, done, bind}
 use Rattle.lists.specs.Walks.{stateAt}
 use Rattle.shape.specs.Cores.{Core, coreWith}
-use Rattle.rotation.specs.Rotation.{eye}
+use Rattle.cutform.specs.Rotation.{eye}
 use Rattle.cutform.specs.Sweeps.{Eig, eig, sweep, settled, mostSweeps}
 use Rattle.cutform.specs.Bonds.{gram}
 use Rattle.cutform.specs.Rounding.{Carry, none, Cut, takenIn, rounding}

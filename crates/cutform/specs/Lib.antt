@@ -1,6 +1,10 @@
+pub mod Rotation
+pub mod Asked
 pub mod Sweeps
 pub mod Values
 pub mod Factors
 pub mod Bonds
 pub mod Rounding
 pub mod Claims
+pub mod Keeping
+pub mod Call

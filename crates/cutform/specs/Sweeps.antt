@@ -9,7 +9,7 @@ use Rattle.answers.specs.Outcome.{Made, done, bind}
 use Rattle.lists.specs.Lists.{pick, grid, pairs, folded}
 use Rattle.lists.specs.Walks.{along}
 use Rattle.lists.specs.Floats.{cell, stored}
-use Rattle.rotation.specs.Rotation.{tangentOf, slopeOf, cosineOf, turnedAt}
+use Rattle.cutform.specs.Rotation.{tangentOf, slopeOf, cosineOf, turnedAt}
 
 -- a square matrix g and the basis v, both row after row
 pub record Eig : Type 0 where

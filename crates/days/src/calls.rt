@@ -101,12 +101,12 @@ pub fn all_are(list: &[f64], x: f64) -> bool {
 
 // What a call answered, and whether it left alone what it must.
 pub struct Ended {
-    pub ran: kept::Ran,
+    pub ran: runform::Ran,
     pub clean: bool,
 }
 
 // Scratch is unwritten after a refusal that nothing was worked for, and zero after any other answer.
-fn ending(ran: kept::Ran, scratch: &[f64; SCRATCH], n: usize) -> Ended {
+fn ending(ran: runform::Ran, scratch: &[f64; SCRATCH], n: usize) -> Ended {
     let v = ran.verdict;
     let number = reading(v).number;
     let mut left = 0.0;
@@ -120,7 +120,7 @@ fn ending(ran: kept::Ran, scratch: &[f64; SCRATCH], n: usize) -> Ended {
 }
 
 // ---- the four calls
-pub fn fresh(r: kept::Run, n: Lengths, held: &mut [f64; HELD]) -> Ended {
+pub fn fresh(r: runform::Run, n: Lengths, held: &mut [f64; HELD]) -> Ended {
     let s = r.shape;
     let xs = r.axes;
     let set = r.set;
@@ -146,7 +146,7 @@ pub fn fresh(r: kept::Run, n: Lengths, held: &mut [f64; HELD]) -> Ended {
     ending(ran, &scratch, n.scratch)
 }
 
-pub fn core(q: asks::Ask, r: kept::Run, n: Lengths, part: &[f64], held: &mut [f64; HELD]) -> Ended {
+pub fn core(q: asks::Ask, r: runform::Run, n: Lengths, part: &[f64], held: &mut [f64; HELD]) -> Ended {
     let mut source = list(held, 0, n.source);
     let mut chain = list(held, CHAIN, n.chain);
     let mut carries = list(held, CARRIES, n.carries);
@@ -172,7 +172,7 @@ pub fn core(q: asks::Ask, r: kept::Run, n: Lengths, part: &[f64], held: &mut [f6
 
 pub fn weights(
     q: asks::Ask,
-    r: kept::Run,
+    r: runform::Run,
     n: Lengths,
     part: &[f64],
     held: &mut [f64; HELD],
@@ -197,7 +197,7 @@ pub fn weights(
     ending(ran, &scratch, n.scratch)
 }
 
-pub fn axis(q: asks::Ask, r: kept::Run, n: Lengths, held: &mut [f64; HELD]) -> Ended {
+pub fn axis(q: asks::Ask, r: runform::Run, n: Lengths, held: &mut [f64; HELD]) -> Ended {
     let x = q.axis;
     let mut chain = list(held, CHAIN, n.chain);
     let mut carries = list(held, CARRIES, n.carries);

@@ -70,7 +70,7 @@ fn turns_of(
     seed: usize,
     count: usize,
     from: usize,
-    r: kept::Run,
+    r: runform::Run,
     list: [f64; calls::HELD],
     t: Tally,
 ) -> Tally
@@ -97,7 +97,7 @@ fn turns_of(
 }
 
 // A fresh run for each list that it is lent, whose length is wrong.
-fn lent_wrong(r: kept::Run, held: [f64; calls::HELD], t: Tally) -> Tally {
+fn lent_wrong(r: runform::Run, held: [f64; calls::HELD], t: Tally) -> Tally {
     let mut tally = t;
     for list in 0..LISTS {
         tally = counted(tally, SPOILT, 5, turns::is_refused_by_length(r, list, held));
@@ -109,7 +109,7 @@ fn lent_wrong(r: kept::Run, held: [f64; calls::HELD], t: Tally) -> Tally {
 fn day(seed: usize, s: shape::Shape, t: Tally) -> Tally {
     let mut held = [calls::MARK; calls::HELD];
     chance::fill(seed ^ 1, 1.0, &mut held[..calls::CHAIN]);
-    let run = kept::Run {
+    let run = runform::Run {
         shape: s,
         axes: plans::records(seed ^ 2),
         set: plans::settings(chance::next(seed ^ 4)),

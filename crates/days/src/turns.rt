@@ -1,5 +1,5 @@
 // One turn of a day: a replacement, and a fresh run beside it, compared.
-use super::calls;
+use crate::calls;
 use drawing::asks;
 use drawing::parts;
 
@@ -9,12 +9,12 @@ fn as_fresh(q: asks::Ask) -> bool {
 }
 
 // Whether a replacement shifts the axis whose record others wrote to: one of a core, of a zone not behind it, as long as time goes on.
-fn is_shifted(q: asks::Ask, set: stepping::Settings) -> bool {
+fn is_shifted(q: asks::Ask, set: stepform::Settings) -> bool {
     (q.kind == asks::CORE) & (q.zone <= q.spot) & (0.0 < set.tau)
 }
 
 // What is to be told of a run that others wrote to, by the flaw.
-fn expected_spoilt(q: asks::Ask, set: stepping::Settings, fresh: calls::Told) -> calls::Told {
+fn expected_spoilt(q: asks::Ask, set: stepform::Settings, fresh: calls::Told) -> calls::Told {
     if (q.flaw == asks::OLD_TOO_FAR) & !is_shifted(q, set) {
         return fresh;
     }
@@ -32,7 +32,7 @@ fn expected_spoilt(q: asks::Ask, set: stepping::Settings, fresh: calls::Told) ->
 }
 
 // What is to be told: as a fresh run, where there can be one, and else by the flaw.
-fn expected(q: asks::Ask, set: stepping::Settings, fresh: calls::Told) -> calls::Told {
+fn expected(q: asks::Ask, set: stepform::Settings, fresh: calls::Told) -> calls::Told {
     let flaw = q.flaw;
     if asks::SPOILT <= flaw {
         return expected_spoilt(q, set, fresh);
@@ -54,7 +54,7 @@ fn expected(q: asks::Ask, set: stepping::Settings, fresh: calls::Told) -> calls:
 
 // ---- the fresh run
 // The run with a new record that is in order, or its lists with a new part.
-fn renewed(q: asks::Ask, r: kept::Run, part: &[f64], held: &mut [f64; calls::HELD]) -> kept::Run {
+fn renewed(q: asks::Ask, r: runform::Run, part: &[f64], held: &mut [f64; calls::HELD]) -> runform::Run {
     let mut run = r;
     let mut xs = r.axes;
     let s = r.shape;
@@ -84,7 +84,7 @@ fn renewed(q: asks::Ask, r: kept::Run, part: &[f64], held: &mut [f64; calls::HEL
 
 // ---- what others wrote
 // The record as others wrote to it.
-fn spoilt(q: asks::Ask, r: kept::Run) -> kept::Run {
+fn spoilt(q: asks::Ask, r: runform::Run) -> runform::Run {
     let mut t = r;
     let mut s = r.shape;
     let mut xs = r.axes;
@@ -112,7 +112,7 @@ fn spoilt(q: asks::Ask, r: kept::Run) -> kept::Run {
 }
 
 // The record as it was before others wrote to it, of a replacement that was made all the same.
-fn mended(q: asks::Ask, a: kept::Run, r: kept::Run) -> kept::Run {
+fn mended(q: asks::Ask, a: runform::Run, r: runform::Run) -> runform::Run {
     let mut t = a;
     if q.flaw == asks::OLD_TOO_FAR {
         let xs = r.axes;
@@ -135,7 +135,7 @@ fn spoilt_place(q: asks::Ask, s: shape::Shape) -> usize {
 
 fn replace(
     q: asks::Ask,
-    r: kept::Run,
+    r: runform::Run,
     part: &[f64],
     held: &mut [f64; calls::HELD],
 ) -> calls::Ended {
@@ -153,7 +153,7 @@ fn replace(
 // The replacement on the run as others wrote to it, where that is the flaw; what they wrote must stand after it, and is put right.
 fn replace_spoilt(
     q: asks::Ask,
-    r: kept::Run,
+    r: runform::Run,
     part: &[f64],
     held: &mut [f64; calls::HELD],
 ) -> calls::Ended {
@@ -172,14 +172,14 @@ fn replace_spoilt(
 }
 
 // ---- the comparison
-fn same_axis(a: axes::Axis, b: axes::Axis) -> bool {
+fn same_axis(a: stepform::Axis, b: stepform::Axis) -> bool {
     let shift = comparing::same_number(a.a, b.a) & comparing::same_number(a.b, b.b);
     let ends = comparing::same_number(a.xmin, b.xmin) & comparing::same_number(a.xmax, b.xmax);
     shift & ends
 }
 
 // Whether two runs are made from shapes and records that are the same.
-fn same_zones(a: kept::Run, b: kept::Run) -> bool {
+fn same_zones(a: runform::Run, b: runform::Run) -> bool {
     let s = a.shape;
     let t = b.shape;
     let x = a.axes;
@@ -196,7 +196,7 @@ fn same_zones(a: kept::Run, b: kept::Run) -> bool {
 }
 
 // Two records, in every field.
-fn same_run(a: kept::Run, b: kept::Run) -> bool {
+fn same_run(a: runform::Run, b: runform::Run) -> bool {
     let s = a.set;
     let t = b.set;
     let times = comparing::same_number(s.tau, t.tau) & comparing::same_number(s.c, t.c);
@@ -238,7 +238,7 @@ fn look(
 
 // Whether an answer is right: one that is no refusal has the fresh run's bits, what others wrote, and no zone before the named one
 // written; a refused one left the run alone, and the run, where the flaw is none of its inputs', is still the fresh one.
-fn right(q: asks::Ask, r: kept::Run, got: kept::Ran, want: kept::Ran, f: Found) -> bool {
+fn right(q: asks::Ask, r: runform::Run, got: runform::Ran, want: runform::Ran, f: Found) -> bool {
     let v = got.verdict;
     let w = want.verdict;
     let a = got.run;
@@ -257,7 +257,7 @@ fn right(q: asks::Ask, r: kept::Run, got: kept::Ran, want: kept::Ran, f: Found) 
 
 // The run after a turn and its lists, the number of its refusal, 0 for none, and whether all was as it must be.
 pub struct Turned {
-    pub run: kept::Run,
+    pub run: runform::Run,
     pub held: [f64; calls::HELD],
     pub number: usize,
     pub agrees: bool,
@@ -327,7 +327,7 @@ fn zone_clear(
 }
 
 // The same of all zones.
-fn room_clear(r: kept::Run, held: &[f64; calls::HELD]) -> bool {
+fn room_clear(r: runform::Run, held: &[f64; calls::HELD]) -> bool {
     let s = r.shape;
     let ranks = r.ranks;
     let mut left = 1;
@@ -348,7 +348,7 @@ fn room_clear(r: kept::Run, held: &[f64; calls::HELD]) -> bool {
 
 // ---- fresh runs that are refused
 // The record as it is before a fresh run.
-fn blank(r: kept::Run) -> kept::Run {
+fn blank(r: runform::Run) -> runform::Run {
     let mut t = r;
     t.ranks = [0; shape::MOST_AXES];
     t.sweeps = [0; shape::MOST_AXES];
@@ -362,7 +362,7 @@ fn same_lists(a: &[f64; calls::HELD], b: &[f64; calls::HELD]) -> bool {
 }
 
 // Whether a fresh run is refused with what is due, and leaves its lists alone and in its record nothing but what it was given.
-fn is_refused(r: kept::Run, wrong: usize, held: [f64; calls::HELD], due: calls::Told) -> bool {
+fn is_refused(r: runform::Run, wrong: usize, held: [f64; calls::HELD], due: calls::Told) -> bool {
     let s = r.shape;
     let mut now = held;
     let end = calls::fresh(r, calls::lengths_of(s, wrong), &mut now);
@@ -375,7 +375,7 @@ fn is_refused(r: kept::Run, wrong: usize, held: [f64; calls::HELD], due: calls::
 }
 
 // The same of a fresh run that is lent a list of a wrong length.
-pub fn is_refused_by_length(r: kept::Run, list: usize, held: [f64; calls::HELD]) -> bool {
+pub fn is_refused_by_length(r: runform::Run, list: usize, held: [f64; calls::HELD]) -> bool {
     let due = calls::Told {
         number: 5,
         place: list,
@@ -384,7 +384,7 @@ pub fn is_refused_by_length(r: kept::Run, list: usize, held: [f64; calls::HELD])
 }
 
 // The same of the settings and the axis record that others wrote to, where they are to be refused.
-fn refused_beside(q: asks::Ask, r: kept::Run, held: [f64; calls::HELD]) -> bool {
+fn refused_beside(q: asks::Ask, r: runform::Run, held: [f64; calls::HELD]) -> bool {
     if (q.flaw < asks::SPOILT) | (asks::TWO_SETTINGS < q.flaw) {
         return true;
     }
@@ -398,7 +398,7 @@ fn refused_beside(q: asks::Ask, r: kept::Run, held: [f64; calls::HELD]) -> bool 
 }
 
 // One turn: what is asked is done on the run that is held, and a fresh run is made beside it.
-pub fn turn(q: asks::Ask, r: kept::Run, held: [f64; calls::HELD], part: &[f64]) -> Turned {
+pub fn turn(q: asks::Ask, r: runform::Run, held: [f64; calls::HELD], part: &[f64]) -> Turned {
     let s = r.shape;
     let mut now = held;
     let mut fresh = held;

@@ -1,6 +1,6 @@
 // What a turn asks for: a replacement, drawn, in order or with one flaw.
-use super::chance;
-use super::plans;
+use crate::chance;
+use crate::plans;
 
 // The three replacements; the new part of the first two goes into list 0 or 1.
 pub const CORE: usize = 0;
@@ -97,7 +97,7 @@ pub struct Ask {
     pub length: usize,
     // a NaN or an infinity
     pub wrong: f64,
-    pub axis: axes::Axis,
+    pub axis: stepform::Axis,
     // from which the next is drawn
     pub seed: usize,
 }
@@ -174,12 +174,12 @@ fn not_finite(x: usize) -> f64 {
 
 // An axis record with one of three flaws, or as it was.
 fn flawed(
-    x: axes::Axis,
+    x: stepform::Axis,
     not_finite: bool,
     below_zero: bool,
     too_far: bool,
     wrong: f64,
-) -> axes::Axis {
+) -> stepform::Axis {
     let mut a = x;
     if not_finite {
         a.b = wrong;
@@ -195,7 +195,7 @@ fn flawed(
 }
 
 // A new axis record with the flaw.
-fn axis(x: usize, flaw: usize, wrong: f64) -> axes::Axis {
+fn axis(x: usize, flaw: usize, wrong: f64) -> stepform::Axis {
     let not_finite = (flaw == NOT_FINITE) | (flaw == TWO_NUMBERS);
     flawed(
         plans::axis(x),
@@ -271,13 +271,13 @@ pub fn write_part(q: Ask, part: &mut [f64]) {
     let by = scale(x, q.flaw, q.kind);
     chance::fill(x, by, part);
     if (q.flaw == NOT_FINITE) | (q.flaw == TWO_NUMBERS) {
-        super::parts::exchanged(part, chance::below(x, q.length), q.wrong);
+        crate::parts::exchanged(part, chance::below(x, q.length), q.wrong);
     }
 }
 
 // ---- the record as others wrote to it
 // One lone setting: tau, eps, or c where it isn't finite.
-pub fn spoilt_settings(q: Ask, set: stepping::Settings) -> stepping::Settings {
+pub fn spoilt_settings(q: Ask, set: stepform::Settings) -> stepform::Settings {
     let mut t = set;
     let k = chance::below(q.seed, 3);
     if q.flaw == LONE_NOT_FINITE {
@@ -302,7 +302,7 @@ pub fn spoilt_settings(q: Ask, set: stepping::Settings) -> stepping::Settings {
 }
 
 // The axis record of the zone that others wrote to.
-pub fn spoilt_axis(q: Ask, x: axes::Axis) -> axes::Axis {
+pub fn spoilt_axis(q: Ask, x: stepform::Axis) -> stepform::Axis {
     let not_finite = (q.flaw == OLD_NOT_FINITE) | (q.flaw == TWO_SETTINGS);
     flawed(
         x,

@@ -34,7 +34,7 @@ pub fn exchanged(list: &mut [f64], at: usize, x: f64) -> f64 {
 pub fn paste(at: usize, part: &[f64], to: &mut [f64]) {
     if part.len() <= to.len() {
         if at <= to.len() - part.len() {
-            committing::put_at(at, part, to);
+            run_slices::copies::put_at(at, part, to);
         }
     }
 }

@@ -1,6 +1,6 @@
 // What a day starts with: a shape, axis records and settings, drawn within the limits; and where the parts of its zones stand.
 ghost use Prim.Native.Nat.{_≤_};
-use super::chance;
+use crate::chance;
 
 // d cores of ranks up to `rank` and sizes up to `points`. What stands in the array places from d on means nothing.
 pub fn shape(seed: usize, d: usize, rank: usize, points: usize) -> shape::Shape {
@@ -25,10 +25,10 @@ pub fn shape(seed: usize, d: usize, rank: usize, points: usize) -> shape::Shape 
 }
 
 // A record whose a is not below zero. A domain of no width lets its core stay, and so does a shift of 0.
-pub fn axis(x: usize) -> axes::Axis {
+pub fn axis(x: usize) -> stepform::Axis {
     let y = chance::next(x);
     let xmin = chance::number(y);
-    axes::Axis {
+    stepform::Axis {
         a: chance::whole(x, 9) / 16.0,
         b: chance::number(x / 16),
         xmin,
@@ -36,7 +36,7 @@ pub fn axis(x: usize) -> axes::Axis {
     }
 }
 
-pub fn records(seed: usize) -> [axes::Axis; shape::MOST_AXES] {
+pub fn records(seed: usize) -> [stepform::Axis; shape::MOST_AXES] {
     let mut list = [axis(seed); shape::MOST_AXES];
     let mut x = seed;
     let mut k = 0;
@@ -49,10 +49,10 @@ pub fn records(seed: usize) -> [axes::Axis; shape::MOST_AXES] {
 }
 
 // eps of 0 keeps every rank that it can, a large one cuts most.
-pub fn settings(x: usize) -> stepping::Settings {
+pub fn settings(x: usize) -> stepform::Settings {
     let cutoffs = [0.0, -0.0, 1e-12, 0.125, 0.5];
     let k = chance::below(x / 16, 5);
-    stepping::Settings {
+    stepform::Settings {
         tau: chance::whole(x, 9) / 8.0,
         c: chance::number(x / 128),
         eps: cutoffs[k],
@@ -85,7 +85,7 @@ pub fn starts(s: shape::Shape, k: usize) -> Places {
     Places {
         core: s.offset(k),
         weights: s.points_offset(k),
-        carry: walking::carry_offset(s, k),
-        sums: summing::sum_offset(s, k),
+        carry: cuts::carry_offset(s, k),
+        sums: product::sums::sum_offset(s, k),
     }
 }

@@ -9,3 +9,4 @@ pub mod Readers
 -- the theorems, and worked examples
 pub mod Theorems
 pub mod Examples
+pub mod TextExamples

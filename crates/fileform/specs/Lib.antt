@@ -2,3 +2,4 @@ pub mod File
 pub mod Calls
 pub mod Writing
 pub mod Reading
+pub mod Text

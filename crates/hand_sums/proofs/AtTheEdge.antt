@@ -7,11 +7,11 @@ use Rattle.lists.specs.Lists.{pick, listed, flat}
 use Rattle.lists.specs.Slots.{offset, slot}
 use Rattle.shape.specs.Cores.{place, entry, coreAt, pointsAt}
 use Rattle.shape.specs.Shapes.{sizeOk, bondOk, shapeOk, coreSize, pointSize}
-use Rattle.axes.specs.Axes.{axisFinite, axisOk}
-use Rattle.slabs.specs.Slabs.{plusProduct, slabEntry, slab}
-use Rattle.starting.specs.Start.{startSized, startLent, startFinite, startOk, startCall}
-use Rattle.rounding.specs.Call.{lengthsOk, coreFinite, notBelowZero, endedBy}
-use Rattle.stepping.specs.Call.{stepOk, stepCall, evolveCall}
+use Rattle.stepform.specs.Axes.{axisFinite, axisOk}
+use Rattle.pairform.specs.Slabs.{plusProduct, slabEntry, slab}
+use Rattle.sumform.specs.Start.{startSized, startLent, startFinite, startOk, startCall}
+use Rattle.cutform.specs.Call.{lengthsOk, coreFinite, notBelowZero, endedBy}
+use Rattle.stepform.specs.Call.{stepOk, stepCall, evolveCall}
 use Rattle.hand_sums.specs.Cases.{AllRight}
 use Rattle.hand_sums.specs.Edges.{edges}
 

@@ -12,22 +12,22 @@ use Rattle.lists.specs.Slots.{offset, slot, fit}
 use Rattle.lists.specs.Walks.{along, every, walk}
 use Rattle.shape.specs.Cores.{place, entry, block, coreAt, coresOf, pointsAt, reshaped}
 use Rattle.shape.specs.Shapes.{sizeOk, bondOk, shapeOk, coreSize, pointSize}
-use Rattle.axes.specs.Axes.{axisFinite, axisOk}
-use Rattle.shift.specs.Shifts.{distance, spacing, shiftOf, shifted, scaled}
-use Rattle.bands.specs.Weights.{cubicBandWeights, bandOn, shiftedAt}
+use Rattle.stepform.specs.Axes.{axisFinite, axisOk}
+use Rattle.stepform.specs.Shifts.{distance, spacing, shiftOf, shifted, scaled}
+use Rattle.stepform.specs.Weights.{cubicBandWeights, bandOn, shiftedAt}
 use Rattle.cutform.specs.Bonds.{gram, cutBond, absorb}
 use Rattle.cutform.specs.Factors.{divided, leftFactor, carryOf}
-use Rattle.rotation.specs.Rotation.{tangentOf, slopeOf, cosineOf, turnedAt, eye}
+use Rattle.cutform.specs.Rotation.{tangentOf, slopeOf, cosineOf, turnedAt, eye}
 use Rattle.cutform.specs.Sweeps.{turnColumns, turnRows, cleared, turned, skipped, rotate, sweep, offSum, settled, sweepsFrom, diagonalized}
 use Rattle.cutform.specs.Values.{singularOf, singulars, rankIn, indexAt, order, sorted, thresholdOf, keptRank}
-use Rattle.rounding.specs.Call.{lengthsOk, coreFinite, notBelowZero, roundFinite, roundOk, scratchAfter, endedBy, roundCall}
+use Rattle.cutform.specs.Call.{lengthsOk, coreFinite, notBelowZero, roundFinite, roundOk, scratchAfter, endedBy, roundCall}
 use Rattle.cutform.specs.Rounding.{roundCore, rounding}
-use Rattle.product.specs.Call.{innerLent, innerFinite, innerOk, weighed, innerCall}
-use Rattle.contraction.specs.Contract.{contract}
-use Rattle.product.specs.Product.{contractAt, sumAxis, sums, inner}
-use Rattle.stepping.specs.Call.{reachesAt, stepOk, stepCall}
-use Rattle.stepping.specs.Steps.{shiftZone, scaleZone, roundZone, stepFrom, step}
-use Rattle.stepping.specs.Zones.{zonesOf, rules}
+use Rattle.sumform.specs.Call.{innerLent, innerFinite, innerOk, weighed, innerCall}
+use Rattle.sumform.specs.Contract.{contract}
+use Rattle.sumform.specs.Product.{contractAt, sumAxis, sums, inner}
+use Rattle.stepform.specs.Call.{reachesAt, stepOk, stepCall}
+use Rattle.stepform.specs.Steps.{shiftZone, scaleZone, roundZone, stepFrom, step}
+use Rattle.stepform.specs.Zones.{zonesOf, rules}
 use Rattle.hand_sums.specs.Cases.{cases, AllRight}
 
 pub by-hand : AllRight cases

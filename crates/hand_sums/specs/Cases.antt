@@ -17,13 +17,13 @@ use Rattle.numbers.specs.Whole.{fractionOf, wholeParts}
 use Rattle.lists.specs.Floats.{zeros}
 use Rattle.shape.specs.declared.Shape.{Shape}
 use Rattle.shape.specs.Limits.{scratchFor}
-use Rattle.axes.specs.declared.Axis.{Axis}
-use Rattle.rounding.specs.declared.Rounded.{Rounded}
-use Rattle.rounding.specs.Call.{Ended, roundCall}
-use Rattle.product.specs.declared.Figure.{Figure}
-use Rattle.product.specs.Call.{innerCall}
-use Rattle.stepping.specs.declared.Settings.{Settings}
-use Rattle.stepping.specs.Call.{stepCall}
+use Rattle.stepform.specs.declared.Axis.{Axis}
+use Rattle.cutform.specs.declared.Rounded.{Rounded}
+use Rattle.cutform.specs.Call.{Ended, roundCall}
+use Rattle.sumform.specs.declared.Figure.{Figure}
+use Rattle.sumform.specs.Call.{innerCall}
+use Rattle.stepform.specs.declared.Settings.{Settings}
+use Rattle.stepform.specs.Call.{stepCall}
 
 -- ---- numbers: each float by its bits
 abbrev pub bits : List Float → List ℕ

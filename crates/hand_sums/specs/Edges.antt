@@ -15,10 +15,10 @@ use Rattle.shape.specs.declared.Shape.{Shape}
 use Rattle.shape.specs.Limits.{scratchFor}
 use Rattle.shape.specs.Shapes.{chainOk}
 use Rattle.shape.specs.Cores.{coreWith}
-use Rattle.axes.specs.declared.Axis.{Axis}
-use Rattle.slabs.specs.Slabs.{slab}
-use Rattle.starting.specs.Start.{startCall}
-use Rattle.stepping.specs.Call.{stepCall, evolveCall}
+use Rattle.stepform.specs.declared.Axis.{Axis}
+use Rattle.pairform.specs.Slabs.{slab}
+use Rattle.sumform.specs.Start.{startCall}
+use Rattle.stepform.specs.Call.{stepCall, evolveCall}
 use Rattle.hand_sums.specs.Cases.{bits, whole, D-shape, Case, case}
 
 -- number and place

@@ -8,7 +8,7 @@ use borrow.Author.Tests.{lt-ltb, le-ltb}
 use Rattle.io.specs.Digits.{glyph, digits, Fewest}
 use Rattle.lists.specs.Lists.{pick}
 use Rattle.lists.proofs.Tests.{below-or-not}
-use Rattle.listing.specs.Text.{digitsIn, digitsOf}
+use Rattle.fileform.specs.Text.{digitsIn, digitsOf}
 
 glyph-small : (d : ℕ) → d < 10 → glyph d ≡ 48 + d
 glyph-small d h = rw (lt-ltb d 10 h)

@@ -28,7 +28,7 @@ use Rattle.fileform.specs.Reading.{readCall}
 use Rattle.fileform.proofs.Shapes.{met}
 use Rattle.fileform.proofs.Readers.{read-fits}
 use Rattle.chainfile.proofs.Bodies.{bodies-none, bodies-more}
-use Rattle.listing.specs.Text.{digitsOf, field, space, newline, headline, axisLine, chainText, refusedText, verdictText, mostBytes, roomFor, tooLarge, readText, listingOf}
+use Rattle.fileform.specs.Text.{digitsOf, field, space, newline, headline, axisLine, chainText, refusedText, verdictText, mostBytes, roomFor, tooLarge, readText, listingOf}
 use Rattle.listing.specs.Ends.{Put}
 
 -- one part after another

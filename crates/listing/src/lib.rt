@@ -8,7 +8,7 @@ ghost use Rattle.shape.specs.Limits.{mostAxes};
 ghost use Rattle.shape.specs.Sizes.{SizesWithin};
 ghost use Rattle.words.specs.Placed.{placed};
 ghost use Rattle.fileform.specs.File.{bodyStart};
-ghost use Rattle.listing.specs.Text.{digitsOf, field, headline, axisLine, chainText, refusedText, readText, listingOf};
+ghost use Rattle.fileform.specs.Text.{digitsOf, field, headline, axisLine, chainText, refusedText, readText, listingOf};
 ghost use Rattle.listing.specs.Ends.{Put};
 
 // Room for the longest text.

@@ -21,18 +21,18 @@ use Rattle.view.proofs.entry_of as entry-of-call
 use Rattle.view.proofs.entry_of.Reads as entry-of-reads
 use Rattle.product.proofs.inner_separable as inner-call
 use Rattle.product.proofs.inner_separable.Reads as inner-reads
-use Rattle.starting.proofs.rank1_separable as start-call
-use Rattle.starting.proofs.rank1_separable.Reads as start-reads
-use Rattle.rounding.specs.Call.{Ended}
+use Rattle.product.proofs.start.rank1_separable as start-call
+use Rattle.product.proofs.start.rank1_separable.Reads as start-reads
+use Rattle.cutform.specs.Call.{Ended}
 use Rattle.rounding.proofs.tt_round as round-call
 use Rattle.rounding.proofs.tt_round.Reads as round-reads
-use Rattle.stepping.specs.Call.{stepCall, evolveCall}
-use Rattle.evolving.proofs.step as step-call
-use Rattle.evolving.proofs.evolve as evolve-call
-use Rattle.pair.specs.Call.{PairEnded}
+use Rattle.stepform.specs.Call.{stepCall, evolveCall}
+use Rattle.evolution.proofs.step as step-call
+use Rattle.evolution.proofs.evolve as evolve-call
+use Rattle.pairform.specs.Call.{PairEnded}
 use Rattle.pair.proofs.contract_and_split as pair-call
 use Rattle.pair.proofs.contract_and_split.Reads as pair-reads
-use Rattle.kept.specs.Call.{FreshEnd, ReplaceEnd}
+use Rattle.runform.specs.Call.{FreshEnd, ReplaceEnd}
 use Rattle.runs.proofs.fresh_run as fresh-call
 use Rattle.runs.proofs.fresh_run.Reads as fresh-reads
 use Rattle.runs.proofs.replace_core as core-call

@@ -12,8 +12,8 @@ use contract.Lifetimes.{Lfts}
 use denote.Triple.Clauses.{Ended, AtExit, ClausesAt, Clauses}
 use borrow.Fn.World.{World, ArgsD, ResD}
 use lib.Ieee.{Float}
-use Rattle.rounding.specs.declared.Rounded.{Rounded}
-use Rattle.rounding.specs.Call.{Ended as Stepped}
+use Rattle.cutform.specs.declared.Rounded.{Rounded}
+use Rattle.cutform.specs.Call.{Ended as Stepped}
 
 -- the fact that a step and an evolve promise: the result, the chain and scratch are those of c
 abbrev pub Leaves : Stepped → Rounded → List Float → List Float → Type 0

@@ -16,14 +16,14 @@ use Rattle.lists.specs.Lists.{pick}
 use Rattle.lists.specs.Floats.{zeros}
 use Rattle.lists.proofs.Slots.{fit-length, fit-used}
 use Rattle.shape.specs.Cores.{Core}
-use Rattle.rounding.specs.Call.{scratchAfter}
-use Rattle.slabs.specs.Slabs.{slab}
-use Rattle.passes.specs.Passes.{Passes, mostPasses, start}
-use Rattle.splitting.specs.Splits.{Halves, pairOf}
-use Rattle.passes.specs.Claims.{Counted}
-use Rattle.splitting.specs.Claims.{Formed}
-use Rattle.pair.specs.Call.{leftRoom, rightRoom, pairOk, PairEnded, pairBy, pairCall}
-use Rattle.splitting.proofs.Splits.{pair-formed}
+use Rattle.cutform.specs.Call.{scratchAfter}
+use Rattle.pairform.specs.Slabs.{slab}
+use Rattle.pairform.specs.Passes.{Passes, mostPasses, start}
+use Rattle.pairform.specs.Splits.{Halves, pairOf}
+use Rattle.pairform.specs.PassClaims.{Counted}
+use Rattle.pairform.specs.SplitClaims.{Formed}
+use Rattle.pairform.specs.Call.{leftRoom, rightRoom, pairOk, PairEnded, pairBy, pairCall}
+use Rattle.pairform.proofs.Splits.{pair-formed}
 use Rattle.pair.proofs.Checked.{Checked, checked}
 
 -- ---- slices keep their lengths

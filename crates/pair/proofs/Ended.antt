@@ -24,18 +24,18 @@ use Rattle.lists.specs.Slots.{fit}
 use Rattle.lists.specs.Floats.{stored}
 use Rattle.shape.specs.Limits.{mostRank}
 use Rattle.shape.specs.Cores.{Core, coreWith}
-use Rattle.rounding.specs.Call.{scratchAfter}
+use Rattle.cutform.specs.Call.{scratchAfter}
 use Rattle.cutform.specs.Values.{order, sorted, keptRank}
-use Rattle.passes.specs.Passes.{Passes, orthogonalized, start}
-use Rattle.pair.specs.declared.Sizes as given
-use Rattle.splitting.specs.declared.Paired.{Paired}
-use Rattle.slabs.specs.Slabs.{slab}
-use Rattle.splitting.specs.Splits.{values, Halves, formed, cut, split, pairOf}
-use Rattle.splitting.specs.Numbers.{leftNumbers, rightNumbers}
-use Rattle.pair.specs.Call.{coreOf, coreNumbers, leftRoom, rightRoom, pairSized, pairLent, pairFinite, pairOk, PairEnded, pairBy, pairCall}
-use Rattle.splitting.specs.Loops.{Lines}
+use Rattle.pairform.specs.Passes.{Passes, orthogonalized, start}
+use Rattle.pairform.specs.declared.Sizes as given
+use Rattle.pairform.specs.declared.Paired.{Paired}
+use Rattle.pairform.specs.Slabs.{slab}
+use Rattle.pairform.specs.Splits.{values, Halves, formed, cut, split, pairOf}
+use Rattle.pairform.specs.Numbers.{leftNumbers, rightNumbers}
+use Rattle.pairform.specs.Call.{coreOf, coreNumbers, leftRoom, rightRoom, pairSized, pairLent, pairFinite, pairOk, PairEnded, pairBy, pairCall}
+use Rattle.pair.specs.Loops.{Lines}
 use Rattle.pair.proofs.Checked.{checked}
-use Rattle.splitting.proofs.Splits.{pair-formed}
+use Rattle.pairform.proofs.Splits.{pair-formed}
 
 -- ---- what the checks say, for the work
 pub record Ready (l r : given.Sizes) (left right : List Float) (lefts rights scratch : ℕ) : Type 0 where

@@ -15,8 +15,8 @@ use Rattle.answers.specs.declared.Verdict.the-variants as verdict
 use Rattle.answers.specs.Outcome.{done, verdictOf, Check, demand, _then_}
 use Rattle.answers.proofs.Checks.{demand-yes, demand-no, then-stops, then-passes}
 use Rattle.lists.proofs.Tests.{eqb-yes, eqb-no, not-yes, not-no, both}
-use Rattle.pair.specs.declared.Sizes as given
-use Rattle.pair.specs.Call.{coreOf, sizesOk, pairSized, pairLent, pairFinite, pairOk}
+use Rattle.pairform.specs.declared.Sizes as given
+use Rattle.pairform.specs.Call.{coreOf, sizesOk, pairSized, pairLent, pairFinite, pairOk}
 use Rattle.pair.proofs.Checked.{Sizes, sizes-are, demand-then}
 
 -- ---- one demand of several: by a test, and by two counts that are equal

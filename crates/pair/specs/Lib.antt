@@ -1,1 +1,3 @@
-pub mod Call
+pub mod SlabLoops
+pub mod Rows
+pub mod Loops

@@ -1,4 +1,9 @@
 // A pair of neighbouring cores contracted and split again.
+pub mod halves;
+pub mod parts;
+pub mod refusals;
+pub mod slabs;
+pub mod split;
 ghost use mathlib.Core.Path.{_≡_};
 ghost use Prim.Native.Nat.{_*_, _≤_};
 ghost use lib.ListN.{length, take};
@@ -8,19 +13,12 @@ ghost use Rattle.answers.specs.Outcome.{done, answered};
 ghost use Rattle.lists.specs.Slots.{fit};
 ghost use Rattle.shape.specs.Limits.{mostRank};
 ghost use Rattle.shape.specs.Cores.{coreWith};
-ghost use Rattle.slabs.specs.Slabs.{mostLines};
-ghost use Rattle.splitting.specs.Splits.{pairOf};
-ghost use Rattle.pair.specs.Call.{coreOf, pairOk, pairBy, pairCall};
-ghost use Rattle.splitting.specs.Loops.{Lines};
+ghost use Rattle.pairform.specs.Slabs.{mostLines};
+ghost use Rattle.pairform.specs.Splits.{pairOf};
+ghost use Rattle.pairform.specs.Call.{coreOf, pairOk, pairBy, pairCall};
+ghost use Rattle.pair.specs.Loops.{Lines};
+use pairform::Sizes;
 
-mod checks;
-
-// The sizes of one core.
-pub struct Sizes {
-    pub rl: usize,
-    pub n: usize,
-    pub rr: usize,
-}
 
 // The new cores' numbers, at the fronts of x and y.
 fn pair_of(
@@ -32,7 +30,7 @@ fn pair_of(
     a: &mut [f64],
     x: &mut [f64],
     y: &mut [f64],
-) -> splitting::Paired
+) -> pairform::Paired
     requires { ⌜ Lines (l .rl * l .n) (r .n * r .rr) × (length (now left) ≡ l .rl * l .n * l .rr) × (length (now right) ≡ l .rr * (r .n * r .rr))
         × (length (now a) ≡ r .n * r .rr * (l .rl * l .n)) × (mostLines * mostRank ≤ length (now x)) × (mostRank * mostLines ≤ length (now y)) ⌝ }
     ensures { λ w. ⌜ pairOf eps (coreOf l (now (left .entry))) (coreOf r (now (right .entry)))
@@ -42,9 +40,9 @@ fn pair_of(
     let n = r.n * r.rr;
     let made = slabs::columns(left, right, m, l.rr, n, a);
     if let answers::Stage::Spilt(i) = made {
-        return splitting::refused_pair(answers::Refusal::Stored(answers::Part::Entry, 0, i));
+        return split::refused_pair(answers::Refusal::Stored(answers::Part::Entry, 0, i));
     }
-    parting::split(eps, m, n, a, x, y)
+    parts::split(eps, m, n, a, x, y)
 }
 
 // The first e numbers of x stand at the front of out, +0 behind them.
@@ -66,7 +64,7 @@ fn pair_within(
     lefts: &mut [f64],
     rights: &mut [f64],
     scratch: &mut [f64],
-) -> splitting::Paired
+) -> pairform::Paired
     requires { ⌜ pairOk (coreOf l (now left)) (coreOf r (now right)) eps (length (now lefts)) (length (now rights)) (length (now scratch)) ≡ done tt ⌝ }
     ensures { λ w. ⌜ (w ≡ pairBy (now (lefts .entry)) (now (rights .entry)) (now (scratch .entry)) (pairOf eps (coreOf l (now (left .entry))) (coreOf r (now (right .entry)))) .result) × (now (lefts .exit) ≡ pairBy (now (lefts .entry)) (now (rights .entry)) (now (scratch .entry)) (pairOf eps (coreOf l (now (left .entry))) (coreOf r (now (right .entry)))) .left) × (now (rights .exit) ≡ pairBy (now (lefts .entry)) (now (rights .entry)) (now (scratch .entry)) (pairOf eps (coreOf l (now (left .entry))) (coreOf r (now (right .entry)))) .right) ⌝ }
 {
@@ -78,11 +76,11 @@ fn pair_within(
     let made = pair_of(l, r, eps, left, right, &mut scratch[0..e], &mut x, &mut y);
     let verdict = made.verdict;
     if let answers::Verdict::Refused(q) = verdict {
-        return splitting::refused_pair(q);
+        return split::refused_pair(q);
     }
     put(&x, m * made.rank, lefts);
     put(&y, made.rank * n, rights);
-    splitting::paired_as(answers::Verdict::Fits, made.rank, made.passes)
+    split::paired_as(answers::Verdict::Fits, made.rank, made.passes)
 }
 
 // Two neighbouring cores contracted and split again: the left one goes to lefts and the right one to rights, each at the
@@ -96,11 +94,11 @@ pub fn contract_and_split(
     lefts: &mut [f64],
     rights: &mut [f64],
     scratch: &mut [f64],
-) -> splitting::Paired
+) -> pairform::Paired
     ensures { λ w. ⌜ record { result = w; left = now (lefts .exit); right = now (rights .exit); scratch = now (scratch .exit) }
         ≡ pairCall (coreOf l (now (left .entry))) (coreOf r (now (right .entry))) eps (now (lefts .entry)) (now (rights .entry)) (now (scratch .entry)) ⌝ }
 {
-    let ok = checks::pair_ok(
+    let ok = refusals::pair_ok(
         l,
         r,
         eps,
@@ -111,7 +109,7 @@ pub fn contract_and_split(
         scratch.len(),
     );
     if let answers::Verdict::Refused(q) = ok {
-        return splitting::refused_pair(q);
+        return split::refused_pair(q);
     }
     let made = pair_within(l, r, eps, left, right, lefts, rights, scratch);
     lists::fill(scratch, 0.0);

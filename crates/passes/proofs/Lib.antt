@@ -1,6 +1,9 @@
 pub mod Laws
 -- the columns and the basis stay whole; the count of passes
 pub mod Wholes
-pub mod Counts
--- the tolerance, worked out
-pub mod Examples
+-- for the code: rotations, passes
+pub mod Rotated
+pub mod Backward
+-- for the code: plans, and rotations by them
+pub mod Spun
+pub mod InStep

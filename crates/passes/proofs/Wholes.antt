@@ -16,10 +16,10 @@ use Rattle.lists.specs.Floats.{allFinite, stored}
 use Rattle.lists.proofs.Cells.{cell-lt}
 use Rattle.lists.proofs.Floats.{finite-getD, stored-is}
 use Rattle.lists.proofs.Tables.{length-grid}
-use Rattle.rotation.specs.Rotation.{tangentOf, slopeOf, cosineOf}
-use Rattle.rotation.specs.Rotation.{eye}
-use Rattle.columns.specs.Columns.{turnStored, dot, skipped}
-use Rattle.passes.specs.Passes.{Svd, svd, turned, Pass, passed, rotate, pass, Passes, passesFrom, mostPasses, orthogonalized, start}
+use Rattle.cutform.specs.Rotation.{tangentOf, slopeOf, cosineOf}
+use Rattle.cutform.specs.Rotation.{eye}
+use Rattle.pairform.specs.Columns.{turnStored, dot, skipped}
+use Rattle.pairform.specs.Passes.{Svd, svd, turned, Pass, passed, rotate, pass, Passes, passesFrom, mostPasses, orthogonalized, start}
 use Rattle.passes.specs.Loops.{passRow}
 use Rattle.passes.proofs.Laws.{turning-keeps, along-keeps}
 use Rattle.columns.proofs.Finite.{grid-finite}

@@ -1,3 +1,2 @@
-pub mod Passes
-pub mod Claims
 pub mod Loops
+pub mod Free

@@ -9,7 +9,7 @@ use Rattle.answers.specs.Outcome.{Made}
 use Rattle.lists.specs.Walks.{turning}
 use Rattle.lists.specs.Floats.{allFinite}
 use Rattle.columns.specs.Loops.{squares}
-use Rattle.passes.specs.Passes.{Pass, rotate}
+use Rattle.pairform.specs.Passes.{Pass, rotate}
 
 -- the pairs (p, q) of one p
 unfoldable pub passRow : ℕ → ℕ → ℕ → Pass → Made Pass

@@ -5,8 +5,8 @@ use mathlib.Core.List.{List}
 use lib.Ieee.{Float}
 use Rattle.answers.specs.declared.Verdict.the-variants.{Fits}
 use Rattle.lists.specs.Floats.{zeros}
-use Rattle.axes.specs.declared.Axis.{Axis}
-use Rattle.kept.specs.Call.{FreshEnd, ReplaceEnd, freshCall, replaceCoreCall, replaceWeightsCall, replaceAxisCall}
+use Rattle.stepform.specs.declared.Axis.{Axis}
+use Rattle.runform.specs.Call.{FreshEnd, ReplaceEnd, freshCall, replaceCoreCall, replaceWeightsCall, replaceAxisCall}
 use Rattle.comparing.specs.Same.{SameKept}
 use Rattle.plan.specs.declared.plans.Plan.{Plan}
 use Rattle.plan.specs.declared.plans.Answer.{Answer}

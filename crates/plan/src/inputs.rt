@@ -140,8 +140,8 @@ fn weights() -> [f64; POINTS] {
 }
 
 // Loads from 0 to 6 megawatts; a says how far they spread.
-pub fn axis(a: f64) -> axes::Axis {
-    axes::Axis {
+pub fn axis(a: f64) -> stepform::Axis {
+    stepform::Axis {
         a,
         b: 0.1,
         xmin: 0.0,
@@ -151,17 +151,17 @@ pub fn axis(a: f64) -> axes::Axis {
 
 // Two kinds of weather between neighbours, mild and cold, and between Old Town and Mill also severe. A step of a quarter of an hour,
 // nothing added; what is below a millionth of the largest is rounded off. The run keeps nothing yet.
-pub fn plan() -> super::plans::Plan {
+pub fn plan() -> crate::plans::Plan {
     let shape = shape::Shape {
         d: ZONES,
         left: [1, 2, 3, 2, 2, 0, 0, 0, 0, 0, 0, 0, 0, 0, 0, 0],
         n: [4, 5, 3, 6, 3, 0, 0, 0, 0, 0, 0, 0, 0, 0, 0, 0],
         right: [2, 3, 2, 2, 1, 0, 0, 0, 0, 0, 0, 0, 0, 0, 0, 0],
     };
-    let run = kept::Run {
+    let run = runform::Run {
         shape,
         axes: [axis(0.04); shape::MOST_AXES],
-        set: stepping::Settings {
+        set: stepform::Settings {
             tau: 0.25,
             c: 0.0,
             eps: 0.000001,
@@ -171,7 +171,7 @@ pub fn plan() -> super::plans::Plan {
         settled: [false; shape::MOST_AXES],
         figure: 0.0,
     };
-    super::plans::Plan {
+    crate::plans::Plan {
         run,
         source: cores(),
         weights: weights(),

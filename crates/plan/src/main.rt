@@ -87,7 +87,7 @@ fn new_forecast(now: State) -> State {
     told(now.same, a, b"cores, carries and sums", inputs::OLD_TOWN)
 }
 
-fn insulated(now: State, x: axes::Axis) -> State {
+fn insulated(now: State, x: stepform::Axis) -> State {
     let p = now.plan;
     let a = plans::new_axis(p, inputs::MILL, x);
     told(now.same, a, b"cores, carries and sums", inputs::MILL)

@@ -5,12 +5,12 @@ ghost use Rattle.comparing.specs.Same.{Tells, SameKept};
 ghost use Rattle.plan.specs.Answers.{freshEnd, freshAnswer, coreEnd, weightsEnd, axisEnd, replaceAnswer, AsFresh};
 
 pub struct Plan {
-    pub run: kept::Run,
-    pub source: [f64; super::inputs::ENTRIES],
-    pub weights: [f64; super::inputs::POINTS],
-    pub chain: [f64; super::inputs::ENTRIES],
-    pub carries: [f64; super::inputs::CARRIES],
-    pub sums: [f64; super::inputs::SUMS],
+    pub run: runform::Run,
+    pub source: [f64; crate::inputs::ENTRIES],
+    pub weights: [f64; crate::inputs::POINTS],
+    pub chain: [f64; crate::inputs::ENTRIES],
+    pub carries: [f64; crate::inputs::CARRIES],
+    pub sums: [f64; crate::inputs::SUMS],
 }
 
 // What a call answered, and the plan after it.
@@ -31,7 +31,7 @@ pub fn fresh(p: Plan) -> Answer
     let mut chain = p.chain;
     let mut carries = p.carries;
     let mut sums = p.sums;
-    let mut scratch = [0.0; super::inputs::SCRATCH];
+    let mut scratch = [0.0; crate::inputs::SCRATCH];
     let a = runs::fresh_run(
         s,
         xs,
@@ -65,7 +65,7 @@ pub fn new_core(p: Plan, z: usize, part: &[f64]) -> Answer
     let mut chain = p.chain;
     let mut carries = p.carries;
     let mut sums = p.sums;
-    let mut scratch = [0.0; super::inputs::SCRATCH];
+    let mut scratch = [0.0; crate::inputs::SCRATCH];
     let a = runs::replace_core(
         run,
         z,
@@ -99,7 +99,7 @@ pub fn new_weights(p: Plan, z: usize, part: &[f64]) -> Answer
     let chain = p.chain;
     let carries = p.carries;
     let mut sums = p.sums;
-    let mut scratch = [0.0; super::inputs::SCRATCH];
+    let mut scratch = [0.0; crate::inputs::SCRATCH];
     let a = runs::replace_weights(
         run,
         z,
@@ -124,7 +124,7 @@ pub fn new_weights(p: Plan, z: usize, part: &[f64]) -> Answer
     Answer { verdict, plan }
 }
 
-pub fn new_axis(p: Plan, z: usize, x: axes::Axis) -> Answer
+pub fn new_axis(p: Plan, z: usize, x: stepform::Axis) -> Answer
     ensures { λ r. ⌜ r ≡ replaceAnswer (axisEnd p z x) ⌝ }
 {
     let run = p.run;
@@ -133,7 +133,7 @@ pub fn new_axis(p: Plan, z: usize, x: axes::Axis) -> Answer
     let mut chain = p.chain;
     let mut carries = p.carries;
     let mut sums = p.sums;
-    let mut scratch = [0.0; super::inputs::SCRATCH];
+    let mut scratch = [0.0; crate::inputs::SCRATCH];
     let a = runs::replace_axis(
         run,
         z,
@@ -160,14 +160,14 @@ pub fn new_axis(p: Plan, z: usize, x: axes::Axis) -> Answer
 
 // Whether two runs of the plan's sizes keep the same.
 fn same_kept(
-    chain: [f64; super::inputs::ENTRIES],
-    chain2: [f64; super::inputs::ENTRIES],
-    carries: [f64; super::inputs::CARRIES],
-    carries2: [f64; super::inputs::CARRIES],
-    sums: [f64; super::inputs::SUMS],
-    sums2: [f64; super::inputs::SUMS],
-    a: kept::Run,
-    b: kept::Run,
+    chain: [f64; crate::inputs::ENTRIES],
+    chain2: [f64; crate::inputs::ENTRIES],
+    carries: [f64; crate::inputs::CARRIES],
+    carries2: [f64; crate::inputs::CARRIES],
+    sums: [f64; crate::inputs::SUMS],
+    sums2: [f64; crate::inputs::SUMS],
+    a: runform::Run,
+    b: runform::Run,
 ) -> bool
     ensures { λ r. ⌜ Tells r (SameKept a b chain chain2 carries carries2 sums sums2) ⌝ }
 {

@@ -49,5 +49,5 @@ pub fn refusal(q: answers::Refusal) {
     say(b" at ");
     number(answers::place(q));
     say(b": ");
-    super::reasons::reason(n);
+    crate::reasons::reason(n);
 }

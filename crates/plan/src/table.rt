@@ -1,9 +1,9 @@
 // The table of zones: what their inputs have, and what the run keeps of the bond behind each.
 ghost use Prim.Native.Nat.{_<_};
 ghost use Rattle.shape.specs.Limits.{mostAxes};
-use super::inputs;
-use super::print;
-use super::print::say;
+use crate::inputs;
+use crate::print;
+use crate::print::say;
 
 fn name(z: usize) {
     match z {
@@ -15,7 +15,7 @@ fn name(z: usize) {
     }
 }
 
-fn bond(r: kept::Run, z: usize)
+fn bond(r: runform::Run, z: usize)
     requires { ⌜ z < mostAxes ⌝ }
 {
     print::column(r.ranks[z], 11);
@@ -24,7 +24,7 @@ fn bond(r: kept::Run, z: usize)
     print::yes(r.settled[z]);
 }
 
-fn row(r: kept::Run, z: usize)
+fn row(r: runform::Run, z: usize)
     requires { ⌜ z < mostAxes ⌝ }
 {
     name(z);
@@ -38,7 +38,7 @@ fn row(r: kept::Run, z: usize)
     say(b"\n");
 }
 
-pub fn zones(r: kept::Run) {
+pub fn zones(r: runform::Run) {
     say(b"zone         left rank  points  right rank  kept rank  sweeps  settled\n");
     let mut z = 0;
     while z < inputs::ZONES {

@@ -19,9 +19,9 @@ use Rattle.lists.proofs.Asked.{lengths-say, left-wrong, neither-wrong, right-wr
 use Rattle.shape.specs.declared.Shape.{Shape}
 use Rattle.shape.specs.Shapes.{chainOk, entriesOf, allPoints}
 use Rattle.shape.specs.Cores.{coreAt, pointsAt}
-use Rattle.product.specs.declared.Figure.{Figure}
-use Rattle.product.specs.Product.{inner}
-use Rattle.product.specs.Call.{innerLent, innerFinite, innerOk, innerCall, weighed, figureBy}
+use Rattle.sumform.specs.declared.Figure.{Figure}
+use Rattle.sumform.specs.Product.{inner}
+use Rattle.sumform.specs.Call.{innerLent, innerFinite, innerOk, innerCall, weighed, figureBy}
 
 module _ (s : Shape) (chain weights : List Float) (i j : ℕ)
     (e : i ≡ firstNot (λ (k : ℕ). allFinite (coreAt s chain k .entries)) (s .d)) (f : j ≡ firstNot (λ (k : ℕ). allFinite (pointsAt s weights k)) (s .d)) where

@@ -1,6 +1,6 @@
-pub mod Signs
-pub mod Units
-pub mod Examples
-pub mod Edges
+pub mod Strips
+pub mod Starts
 pub mod Checks
 pub mod Walking
+pub mod Slotted
+pub mod Turning

@@ -27,9 +27,9 @@ use Rattle.shape.specs.Shapes.{leftOf, pointsOf, rightOf, chainOk, coreSize, po
 use Rattle.shape.specs.Cores.{Core, coreWith, coreAt, pointsAt}
 use Rattle.lists.proofs.Slots.{offset-mono, slot-length}
 use Rattle.shape.proofs.Shaped.{Shaped, shaped}
-use Rattle.contraction.specs.Contract.{contract}
-use Rattle.product.specs.Product.{contractAt, sumAxis, sums, inner}
-use Rattle.product.specs.Call.{weighed, figureBy}
+use Rattle.sumform.specs.Contract.{contract}
+use Rattle.sumform.specs.Product.{contractAt, sumAxis, sums, inner}
+use Rattle.sumform.specs.Call.{weighed, figureBy}
 
 -- what is left of the walk, from axis k of d on and the sums eta
 module _ (p : ℕ → Core × List Float) (d : ℕ) where

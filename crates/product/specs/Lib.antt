@@ -1,3 +1,2 @@
-pub mod Product
-pub mod Entry
-pub mod Call
+pub mod ContractLoops
+pub mod Lent

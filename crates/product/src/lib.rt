@@ -1,4 +1,7 @@
 // The inner product with the zones' weights.
+pub mod contraction;
+pub mod start;
+pub mod sums;
 ghost use mathlib.Core.Path.{_≡_};
 ghost use Prim.Native.Nat.{_≤_};
 ghost use lib.ListN.{length};
@@ -7,14 +10,9 @@ ghost use Rattle.answers.specs.declared.Verdict.the-variants.{Fits, Refused};
 ghost use Rattle.numbers.specs.Arithmetic.{zero64};
 ghost use Rattle.shape.specs.Shapes.{chainOk, entriesOf, allPoints};
 ghost use Rattle.shape.specs.Sizes.{SizesWithin};
-ghost use Rattle.product.specs.Call.{innerLent, innerFinite, innerOk, weighed, figureBy, innerCall};
-ghost use Rattle.product.specs.Product.{inner};
-
-// The figure, +0 where it is refused.
-pub struct Figure {
-    pub verdict: answers::Verdict,
-    pub value: f64,
-}
+ghost use Rattle.sumform.specs.Call.{innerLent, innerFinite, innerOk, weighed, figureBy, innerCall};
+ghost use Rattle.sumform.specs.Product.{inner};
+use sumform::Figure;
 
 // The lengths that an inner product asks for: refusal 5.
 fn inner_lent(s: shape::Shape, chain: usize, weights: usize) -> answers::Verdict

@@ -8,8 +8,8 @@ use Rattle.lists.proofs.Tables.{length-tab, getD-tab, getD-any}
 use Rattle.lists.specs.Lists.{tab}
 use Rattle.lists.proofs.Over.{tabOver, tabs-done}
 use Rattle.shape.specs.Limits.{mostAxes}
-use Rattle.axes.specs.Axes.{blank, axisAt, gathered}
-use Rattle.axes.specs.declared.Axis.{Axis}
+use Rattle.stepform.specs.Axes.{blank, axisAt, gathered}
+use Rattle.stepform.specs.declared.Axis.{Axis}
 use Rattle.numbers.specs.Arithmetic.{zero64}
 use Rattle.records.specs.declared.given.CAxis.{CAxis}
 use Rattle.records.specs.Given.{axisIn, lentOf}

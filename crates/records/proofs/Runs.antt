@@ -2,10 +2,10 @@
 use mathlib.Core.Path.{_≡_}
 use mathlib.Core.List.{List, map}
 use Rattle.shape.specs.declared.Shape.{Shape}
-use Rattle.axes.specs.declared.Axis.{Axis}
-use Rattle.stepping.specs.declared.Settings.{Settings}
-use Rattle.kept.specs.declared.Run.{Run}
-use Rattle.kept.specs.declared.Ran.{Ran}
+use Rattle.stepform.specs.declared.Axis.{Axis}
+use Rattle.stepform.specs.declared.Settings.{Settings}
+use Rattle.runform.specs.declared.Run.{Run}
+use Rattle.runform.specs.declared.Ran.{Ran}
 use Rattle.records.specs.declared.given.CShape.{CShape}
 use Rattle.records.specs.declared.given.CAxis.{CAxis}
 use Rattle.records.specs.declared.given.CSettings.{CSettings}

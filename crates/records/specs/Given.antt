@@ -2,12 +2,12 @@
 use Prim.Native.Nat.{ℕ}
 use mathlib.Core.List.{List, map}
 use Rattle.lists.specs.Lists.{tab}
-use Rattle.axes.specs.Axes.{axisAt}
+use Rattle.stepform.specs.Axes.{axisAt}
 use Rattle.shape.specs.declared.Shape.{Shape}
-use Rattle.axes.specs.declared.Axis.{Axis}
-use Rattle.stepping.specs.declared.Settings.{Settings}
-use Rattle.evolving.specs.declared.Course.{Course}
-use Rattle.pair.specs.declared.Sizes.{Sizes}
+use Rattle.stepform.specs.declared.Axis.{Axis}
+use Rattle.stepform.specs.declared.Settings.{Settings}
+use Rattle.stepform.specs.declared.Course.{Course}
+use Rattle.pairform.specs.declared.Sizes.{Sizes}
 use Rattle.records.specs.declared.given.CShape.{CShape}
 use Rattle.records.specs.declared.given.CAxis.{CAxis}
 use Rattle.records.specs.declared.given.CSettings.{CSettings}

@@ -1,9 +1,9 @@
 -- A kept run's record as C has it, both ways, field by field. Definitions only.
 use mathlib.Core.List.{map}
-use Rattle.axes.specs.declared.Axis.{Axis}
-use Rattle.stepping.specs.declared.Settings.{Settings}
-use Rattle.kept.specs.declared.Run.{Run}
-use Rattle.kept.specs.declared.Ran.{Ran}
+use Rattle.stepform.specs.declared.Axis.{Axis}
+use Rattle.stepform.specs.declared.Settings.{Settings}
+use Rattle.runform.specs.declared.Run.{Run}
+use Rattle.runform.specs.declared.Ran.{Ran}
 use Rattle.records.specs.declared.given.CAxis.{CAxis}
 use Rattle.records.specs.declared.given.CSettings.{CSettings}
 use Rattle.records.specs.declared.held.CRun.{CRun}

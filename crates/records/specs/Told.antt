@@ -5,10 +5,10 @@ use Rattle.answers.specs.declared.Verdict.{Verdict}
 use Rattle.answers.specs.declared.Verdict.the-variants.{Fits, Refused}
 use Rattle.answers.specs.Table.{numberOf, placeOf}
 use Rattle.shape.specs.declared.Shape.{Shape}
-use Rattle.rounding.specs.declared.Rounded.{Rounded}
-use Rattle.product.specs.declared.Figure.{Figure}
-use Rattle.starting.specs.declared.Started.{Started}
-use Rattle.splitting.specs.declared.Paired.{Paired}
+use Rattle.cutform.specs.declared.Rounded.{Rounded}
+use Rattle.sumform.specs.declared.Figure.{Figure}
+use Rattle.sumform.specs.declared.Started.{Started}
+use Rattle.pairform.specs.declared.Paired.{Paired}
 use Rattle.fileform.specs.declared.Read.{Read}
 use Rattle.view.specs.declared.Seen.{Seen}
 use Rattle.view.specs.declared.Seen.the-variants.{Number, Outside}

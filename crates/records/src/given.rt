@@ -3,7 +3,7 @@ ghost use mathlib.Core.Path.{_≡_};
 ghost use Prim.Native.Nat.{_<_};
 ghost use mathlib.Core.List.{map};
 ghost use Rattle.shape.specs.Limits.{mostAxes};
-ghost use Rattle.axes.specs.Axes.{axisAt, gathered};
+ghost use Rattle.stepform.specs.Axes.{axisAt, gathered};
 ghost use Rattle.records.specs.Given.{shapeIn, axisIn, lentOf, settingsIn, courseIn, sizesIn};
 
 // d cores; core k has the sizes left[k], n[k], right[k].
@@ -69,10 +69,10 @@ pub fn shape_in(s: CShape) -> shape::Shape
     }
 }
 
-pub fn axis_in(x: CAxis) -> axes::Axis
+pub fn axis_in(x: CAxis) -> stepform::Axis
     ensures { λ r. ⌜ r ≡ axisIn x ⌝ }
 {
-    axes::Axis {
+    stepform::Axis {
         a: x.a,
         b: x.b,
         xmin: x.xmin,
@@ -81,8 +81,8 @@ pub fn axis_in(x: CAxis) -> axes::Axis
 }
 
 // What stands in the list before its records do.
-fn no_axes() -> [axes::Axis; shape::MOST_AXES] {
-    [axes::Axis {
+fn no_axes() -> [stepform::Axis; shape::MOST_AXES] {
+    [stepform::Axis {
         a: 0.0,
         b: 0.0,
         xmin: 0.0,
@@ -90,7 +90,7 @@ fn no_axes() -> [axes::Axis; shape::MOST_AXES] {
     }; shape::MOST_AXES]
 }
 
-pub fn axes_in(xs: [CAxis; shape::MOST_AXES]) -> [axes::Axis; shape::MOST_AXES]
+pub fn axes_in(xs: [CAxis; shape::MOST_AXES]) -> [stepform::Axis; shape::MOST_AXES]
     ensures { λ r. ⌜ r ≡ map axisIn xs ⌝ }
 {
     let mut list = no_axes();
@@ -104,14 +104,14 @@ pub fn axes_in(xs: [CAxis; shape::MOST_AXES]) -> [axes::Axis; shape::MOST_AXES]
 }
 
 // The record of axis k, where it is among the first `count`; else a blank.
-fn axis_lent(xs: [CAxis; shape::MOST_AXES], count: usize, k: usize) -> axes::Axis
+fn axis_lent(xs: [CAxis; shape::MOST_AXES], count: usize, k: usize) -> stepform::Axis
     requires { ⌜ k < mostAxes ⌝ }
     ensures { λ r. ⌜ r ≡ axisAt (lentOf count xs) k ⌝ }
 {
     if k < count {
         return axis_in(xs[k]);
     }
-    axes::Axis {
+    stepform::Axis {
         a: 0.0,
         b: 0.0,
         xmin: 0.0,
@@ -120,7 +120,7 @@ fn axis_lent(xs: [CAxis; shape::MOST_AXES], count: usize, k: usize) -> axes::Axi
 }
 
 // The first `count` records as a list that was lent, gathered.
-pub fn axes_lent(xs: [CAxis; shape::MOST_AXES], count: usize) -> [axes::Axis; shape::MOST_AXES]
+pub fn axes_lent(xs: [CAxis; shape::MOST_AXES], count: usize) -> [stepform::Axis; shape::MOST_AXES]
     ensures { λ r. ⌜ r ≡ gathered (lentOf count xs) ⌝ }
 {
     let mut list = no_axes();
@@ -133,20 +133,20 @@ pub fn axes_lent(xs: [CAxis; shape::MOST_AXES], count: usize) -> [axes::Axis; sh
     list
 }
 
-pub fn settings_in(x: CSettings) -> stepping::Settings
+pub fn settings_in(x: CSettings) -> stepform::Settings
     ensures { λ r. ⌜ r ≡ settingsIn x ⌝ }
 {
-    stepping::Settings {
+    stepform::Settings {
         tau: x.tau,
         c: x.c,
         eps: x.eps,
     }
 }
 
-pub fn course_in(x: CCourse) -> evolving::Course
+pub fn course_in(x: CCourse) -> stepform::Course
     ensures { λ r. ⌜ r ≡ courseIn x ⌝ }
 {
-    evolving::Course {
+    stepform::Course {
         t_final: x.t_final,
         steps: x.steps,
         c: x.c,
@@ -154,10 +154,10 @@ pub fn course_in(x: CCourse) -> evolving::Course
     }
 }
 
-pub fn sizes_in(x: CSizes) -> pair::Sizes
+pub fn sizes_in(x: CSizes) -> pairform::Sizes
     ensures { λ r. ⌜ r ≡ sizesIn x ⌝ }
 {
-    pair::Sizes {
+    pairform::Sizes {
         rl: x.left,
         n: x.n,
         rr: x.right,

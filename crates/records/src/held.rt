@@ -24,7 +24,7 @@ pub struct CRan {
     pub run: CRun,
 }
 
-pub fn run_in(r: CRun) -> kept::Run
+pub fn run_in(r: CRun) -> runform::Run
     ensures { λ x. ⌜ x ≡ runIn r ⌝ }
 {
     let shape = r.shape;
@@ -33,7 +33,7 @@ pub fn run_in(r: CRun) -> kept::Run
     let ranks = r.ranks;
     let sweeps = r.sweeps;
     let settled = r.settled;
-    kept::Run {
+    runform::Run {
         shape: given::shape_in(shape),
         axes: given::axes_in(axes),
         set: given::settings_in(set),
@@ -44,7 +44,7 @@ pub fn run_in(r: CRun) -> kept::Run
     }
 }
 
-fn axis_out(x: axes::Axis) -> given::CAxis
+fn axis_out(x: stepform::Axis) -> given::CAxis
     ensures { λ r. ⌜ r ≡ axisOut x ⌝ }
 {
     given::CAxis {
@@ -65,7 +65,7 @@ fn no_axes() -> [given::CAxis; shape::MOST_AXES] {
     }; shape::MOST_AXES]
 }
 
-fn axes_out(xs: [axes::Axis; shape::MOST_AXES]) -> [given::CAxis; shape::MOST_AXES]
+fn axes_out(xs: [stepform::Axis; shape::MOST_AXES]) -> [given::CAxis; shape::MOST_AXES]
     ensures { λ r. ⌜ r ≡ map axisOut xs ⌝ }
 {
     let mut list = no_axes();
@@ -78,7 +78,7 @@ fn axes_out(xs: [axes::Axis; shape::MOST_AXES]) -> [given::CAxis; shape::MOST_AX
     list
 }
 
-fn settings_out(x: stepping::Settings) -> given::CSettings
+fn settings_out(x: stepform::Settings) -> given::CSettings
     ensures { λ r. ⌜ r ≡ settingsOut x ⌝ }
 {
     given::CSettings {
@@ -88,7 +88,7 @@ fn settings_out(x: stepping::Settings) -> given::CSettings
     }
 }
 
-fn run_out(r: kept::Run) -> CRun
+fn run_out(r: runform::Run) -> CRun
     ensures { λ x. ⌜ x ≡ runOut r ⌝ }
 {
     let shape = r.shape;
@@ -108,7 +108,7 @@ fn run_out(r: kept::Run) -> CRun
     }
 }
 
-pub fn ran_out(w: kept::Ran) -> CRan
+pub fn ran_out(w: runform::Ran) -> CRan
     ensures { λ r. ⌜ r ≡ ranOut w ⌝ }
 {
     let verdict = w.verdict;

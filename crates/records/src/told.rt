@@ -84,7 +84,7 @@ pub fn shape_out(s: shape::Shape) -> given::CShape
     }
 }
 
-pub fn rounded_out(w: rounding::Rounded) -> CRounded
+pub fn rounded_out(w: cutform::Rounded) -> CRounded
     ensures { λ r. ⌜ r ≡ roundedOut w ⌝ }
 {
     let verdict = w.verdict;
@@ -99,7 +99,7 @@ pub fn rounded_out(w: rounding::Rounded) -> CRounded
     }
 }
 
-pub fn figure_out(w: product::Figure) -> CFigure
+pub fn figure_out(w: sumform::Figure) -> CFigure
     ensures { λ r. ⌜ r ≡ figureOut w ⌝ }
 {
     let verdict = w.verdict;
@@ -109,7 +109,7 @@ pub fn figure_out(w: product::Figure) -> CFigure
     }
 }
 
-pub fn started_out(w: starting::Started) -> CFormed
+pub fn started_out(w: sumform::Started) -> CFormed
     ensures { λ r. ⌜ r ≡ startedOut w ⌝ }
 {
     let verdict = w.verdict;
@@ -131,7 +131,7 @@ pub fn read_out(w: fileform::Read) -> CFormed
     }
 }
 
-pub fn paired_out(w: splitting::Paired) -> CPaired
+pub fn paired_out(w: pairform::Paired) -> CPaired
     ensures { λ r. ⌜ r ≡ pairedOut w ⌝ }
 {
     let verdict = w.verdict;

@@ -2,21 +2,21 @@
 
 // Whether what was seen is what follows: 1 and the number, or 0 and 0 where there is none.
 fn is_seen(v: view::Seen) -> bool {
-    let there = replay::word() == 1;
+    let there = crate::cases::word() == 1;
     match v {
-        view::Seen::Number(x) => there & replay::is_next(x),
-        view::Seen::Outside => !there & replay::is_next(0.0),
+        view::Seen::Number(x) => there & crate::cases::is_next(x),
+        view::Seen::Outside => !there & crate::cases::is_next(0.0),
     }
 }
 
 // One case: shape, chain, core, left index, point, right index, then what is seen.
 pub fn agrees() -> bool {
-    let mut a = replay::room();
-    let s = replay::shape();
-    let chain = replay::list(&mut a);
-    let k = replay::word();
-    let il = replay::word();
-    let im = replay::word();
-    let ir = replay::word();
+    let mut a = crate::cases::room();
+    let s = crate::cases::shape();
+    let chain = crate::cases::list(&mut a);
+    let k = crate::cases::word();
+    let il = crate::cases::word();
+    let im = crate::cases::word();
+    let ir = crate::cases::word();
     is_seen(view::entry_of(chain, s, k, il, im, ir))
 }

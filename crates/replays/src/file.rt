@@ -11,7 +11,7 @@ fn room() -> [u8; 9000]
 
 // As many bytes of a room as the word that follows says, or all.
 fn lent(room: &mut [u8]) -> &mut [u8] {
-    let n = replay::word();
+    let n = crate::cases::word();
     if room.len() < n {
         return room;
     }
@@ -33,7 +33,7 @@ fn byte() -> u8 {
 
 // Whether the bytes that follow are these.
 fn same_bytes(got: &[u8]) -> bool {
-    let mut all = replay::word() == got.len();
+    let mut all = crate::cases::word() == got.len();
     let mut i = 0;
     while i < got.len() {
         all = all & (got[i] == byte());
@@ -45,25 +45,25 @@ fn same_bytes(got: &[u8]) -> bool {
 // Reading: bytes, the length of the output, then the verdict, the shape, and what the output holds at the end.
 fn reads() -> bool {
     let mut a = room();
-    let mut b = replay::room();
+    let mut b = crate::cases::room();
     let file = bytes(&mut a);
-    let out = replay::lent(&mut b);
+    let out = crate::cases::lent(&mut b);
     let r = chainfile::read_chain(file, out);
     let verdict = r.verdict;
     let shape = r.shape;
-    let told = replay::verdict(verdict);
-    let shaped = replay::shape_is(shape);
-    told & shaped & replay::holds(out)
+    let told = crate::cases::verdict(verdict);
+    let shaped = crate::cases::shape_is(shape);
+    told & shaped & crate::cases::holds(out)
 }
 
 // Writing: shape, chain, the length of the output, then the verdict, and what the output holds at the end.
 fn writes() -> bool {
-    let mut a = replay::room();
+    let mut a = crate::cases::room();
     let mut b = room();
-    let s = replay::shape();
-    let chain = replay::list(&mut a);
+    let s = crate::cases::shape();
+    let chain = crate::cases::list(&mut a);
     let out = lent(&mut b);
-    let told = replay::verdict(chainfile::write_chain(s, chain, out));
+    let told = crate::cases::verdict(chainfile::write_chain(s, chain, out));
     told & same_bytes(out)
 }
 
@@ -78,7 +78,7 @@ fn lists() -> bool {
 
 // One case: its kind, then what belongs to it.
 pub fn agrees() -> bool {
-    match replay::word() {
+    match crate::cases::word() {
         0 => reads(),
         1 => writes(),
         _ => lists(),

@@ -1,6 +1,7 @@
 // The lists of cases one behind the other: inner products, roundings, steps and evolves, pairs, separable starts, entries of a
 // core, chain files. Of each prints how many cases it has, and how many agree. Behind each list stands one of cases whose answer is
 // wrong in one word, of which none may agree.
+mod cases;
 mod entry;
 mod file;
 mod inner;
@@ -37,8 +38,8 @@ fn agreed(list: usize, cases: usize) -> usize {
 }
 
 fn replayed(words: &[u8], list: usize) {
-    let cases = replay::word();
-    replay::print(words, cases, agreed(list, cases % MOST_CASES));
+    let cases = cases::word();
+    cases::print(words, cases, agreed(list, cases % MOST_CASES));
 }
 
 // A list, then the wrong answers behind it.

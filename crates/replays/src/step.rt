@@ -3,23 +3,23 @@
 // Above the records of any case: a count that is out of step is cut down, so that the program ends.
 const MOST_RECORDS: usize = 64;
 
-const BLANK: axes::Axis = axes::Axis {
+const BLANK: stepform::Axis = stepform::Axis {
     a: 0.0,
     b: 0.0,
     xmin: 0.0,
     xmax: 0.0,
 };
 
-fn record() -> axes::Axis {
-    let a = replay::number();
-    let b = replay::number();
-    let xmin = replay::number();
-    let xmax = replay::number();
-    axes::Axis { a, b, xmin, xmax }
+fn record() -> stepform::Axis {
+    let a = crate::cases::number();
+    let b = crate::cases::number();
+    let xmin = crate::cases::number();
+    let xmax = crate::cases::number();
+    stepform::Axis { a, b, xmin, xmax }
 }
 
 // The axis records that follow; one too many is refused by its count, wherever it stands.
-fn records(count: usize) -> [axes::Axis; shape::MOST_AXES] {
+fn records(count: usize) -> [stepform::Axis; shape::MOST_AXES] {
     let mut list = [BLANK; shape::MOST_AXES];
     let mut k = 0;
     while k < count {
@@ -33,43 +33,43 @@ fn records(count: usize) -> [axes::Axis; shape::MOST_AXES] {
 fn call(
     kind: usize,
     s: shape::Shape,
-    p: evolving::Course,
-    xs: [axes::Axis; shape::MOST_AXES],
+    p: stepform::Course,
+    xs: [stepform::Axis; shape::MOST_AXES],
     count: usize,
     chain: &mut [f64],
     scratch: &mut [f64],
-) -> rounding::Rounded {
+) -> cutform::Rounded {
     if kind == 0 {
-        let set = stepping::Settings {
+        let set = stepform::Settings {
             tau: p.t_final,
             c: p.c,
             eps: p.eps,
         };
-        return evolving::step_over(s, set, xs, count, chain, scratch);
+        return evolution::step_over(s, set, xs, count, chain, scratch);
     }
-    evolving::evolve_over(s, p, xs, count, chain, scratch)
+    evolution::evolve_over(s, p, xs, count, chain, scratch)
 }
 
 // One case: kind, shape, axis records, c, eps, chain, tau or t_final, steps, the length of scratch, then the answer of a rounding.
 pub fn agrees() -> bool {
-    let mut a = replay::room();
-    let mut b = replay::room();
-    let kind = replay::word();
-    let s = replay::shape();
-    let count = replay::word() / 4 % MOST_RECORDS;
+    let mut a = crate::cases::room();
+    let mut b = crate::cases::room();
+    let kind = crate::cases::word();
+    let s = crate::cases::shape();
+    let count = crate::cases::word() / 4 % MOST_RECORDS;
     let xs = records(count);
-    let c = replay::number();
-    let eps = replay::number();
-    let chain = replay::list(&mut a);
-    let t_final = replay::number();
-    let steps = replay::word();
-    let p = evolving::Course {
+    let c = crate::cases::number();
+    let eps = crate::cases::number();
+    let chain = crate::cases::list(&mut a);
+    let t_final = crate::cases::number();
+    let steps = crate::cases::word();
+    let p = stepform::Course {
         t_final,
         steps,
         c,
         eps,
     };
-    let scratch = replay::lent(&mut b);
+    let scratch = crate::cases::lent(&mut b);
     let r = call(kind, s, p, xs, count, chain, scratch);
     crate::round::ended(r, chain, scratch)
 }

@@ -16,7 +16,7 @@ use Rattle.lists.proofs.Cells.{cell-lt, cell-row, cell-column}
 use Rattle.lists.proofs.Tables.{grid-is}
 use Rattle.lists.proofs.Tests.{eqb-is, eqb-not}
 use Rattle.lists.proofs.Turns.{iter-done}
-use Rattle.rotation.specs.Rotation.{tangentOf, eye}
+use Rattle.cutform.specs.Rotation.{tangentOf, eye}
 
 -- ---- the tangent
 module _ (x w : Float) (e : w ≡ rootOf (plus one64 (times x x))) where

@@ -16,7 +16,7 @@ use Rattle.lists.specs.Floats.{at, cell}
 use Rattle.lists.proofs.Cells.{cell-lt, cell-row, cell-column}
 use Rattle.lists.proofs.Tables.{iter-keeps, grid-is}
 use Rattle.lists.proofs.Tests.{eqb-is, eqb-not}
-use Rattle.rotation.specs.Rotation.{turnedAt}
+use Rattle.cutform.specs.Rotation.{turnedAt}
 use Rattle.rotation.specs.Pairs.{turnPair, turnPairs}
 
 -- the places x 0, x 1, .. and y 0, y 1, .. below m are all apart, and below n

@@ -2,7 +2,7 @@
 ghost use mathlib.Core.Path.{_≡_};
 ghost use Prim.Native.Nat.{_+_, _*_, _<_};
 ghost use lib.ListN.{length};
-ghost use Rattle.rotation.specs.Rotation.{tangentOf, slopeOf, cosineOf, eye};
+ghost use Rattle.cutform.specs.Rotation.{tangentOf, slopeOf, cosineOf, eye};
 ghost use Rattle.rotation.specs.Pairs.{turnPair, turnPairs};
 
 // What the tangent is taken of.

@@ -38,24 +38,24 @@ use Rattle.shape.proofs.Ranks.{reshaped-count}
 use Rattle.shape.proofs.Insides.{inside-itself, inside-size}
 use Rattle.shape.proofs.Shaped.{Shaped}
 use Rattle.shape.proofs.Packing.{Fitting, cut-pack}
-use Rattle.rotation.specs.Rotation.{eye}
+use Rattle.cutform.specs.Rotation.{eye}
 use Rattle.cutform.specs.Sweeps.{eig, diagonalized}
 use Rattle.cutform.specs.Values.{singulars, order, sorted, keptRank}
 use Rattle.cutform.specs.Factors.{leftFactor, carryOf}
 use Rattle.cutform.specs.Bonds.{gram, cutBond, absorb}
-use Rattle.rounding.specs.declared.Rounded.{Rounded}
-use Rattle.walking.specs.declared.Walked.{Walked}
+use Rattle.cutform.specs.declared.Rounded.{Rounded}
+use Rattle.cuts.specs.declared.Walked.{Walked}
 use Rattle.cutform.specs.Rounding.{Carry, none, some, Cut, takenIn, cutIf, roundCore, rounding, coresIn, countsIn, flagsIn}
-use Rattle.walking.specs.Keeping.{bondSize, Stepped, keepStep, carryLeft, roundFrom}
-use Rattle.rounding.specs.Call.{Ended, scratchAfter, endedBy, lengthsOk, roundFinite, roundOk, roundCall}
-use Rattle.walking.specs.Slots.{AtZone, heldBy}
+use Rattle.cutform.specs.Keeping.{bondSize, Stepped, keepStep, carryLeft, roundFrom}
+use Rattle.cutform.specs.Call.{Ended, scratchAfter, endedBy, lengthsOk, roundFinite, roundOk, roundCall}
+use Rattle.cuts.specs.Slots.{AtZone, heldBy}
 use Rattle.rounding.specs.Slots.{unrounded, finished}
-use Rattle.packing.specs.Left.{leftBy}
-use Rattle.walking.proofs.Bonds.{carries-most}
-use Rattle.walking.proofs.From.{bonds-most, at-start}
+use Rattle.rounding.specs.Left.{leftBy}
+use Rattle.cutform.proofs.BondSlots.{carries-most}
+use Rattle.cuts.proofs.From.{bonds-most, at-start}
 use Rattle.rounding.proofs.Chains.{packed-is}
-use Rattle.rounding.proofs.Early.{Early, early-demand, early-then, early-each, early-shape}
-use Rattle.cutting.proofs.Cuts.{volume, round-of}
+use Rattle.cutform.proofs.Early.{Early, early-demand, early-then, early-each, early-shape}
+use Rattle.cutform.proofs.Cuts.{volume, round-of}
 
 -- ---- what stands in the work before any turn is the chain
 module _ (eps : Float) (s : Shape) (l work : List Float) (long : length l ≡ entriesOf s) (same : take (entriesOf s) work ≡ l) where

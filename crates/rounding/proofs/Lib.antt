@@ -1,7 +1,4 @@
--- the checks, and the chain packed
-pub mod Early
+pub mod Rooms
 pub mod Chains
 -- the call
 pub mod Ends
--- its counts
-pub mod CountedCall

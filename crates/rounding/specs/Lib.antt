@@ -1,2 +1,2 @@
-pub mod Call
+pub mod Left
 pub mod Slots

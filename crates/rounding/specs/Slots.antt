@@ -13,8 +13,8 @@ use Rattle.lists.specs.Floats.{zeros}
 use Rattle.shape.specs.declared.Shape.{Shape}
 use Rattle.shape.specs.Limits.{mostAxes}
 use Rattle.shape.specs.Shapes.{coreSize}
-use Rattle.walking.specs.declared.Walked.{Walked}
-use Rattle.rounding.specs.Call.{Ended}
+use Rattle.cuts.specs.declared.Walked.{Walked}
+use Rattle.cutform.specs.Call.{Ended}
 
 -- a chain before any of its bonds is cut
 abbrev pub unrounded : Shape → Walked

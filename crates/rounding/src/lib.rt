@@ -1,4 +1,5 @@
 // Rounding a chain: what the call answers.
+pub mod packing;
 ghost use mathlib.Core.Path.{_≡_};
 ghost use Prim.Native.Nat.{_≤_};
 ghost use mathlib.Core.Bool.{false};
@@ -10,16 +11,9 @@ ghost use Rattle.shape.specs.Shapes.{chainOk, entriesOf};
 ghost use Rattle.shape.specs.Sizes.{SizesWithin, Inside};
 ghost use Rattle.shape.specs.Cores.{coresOf};
 ghost use Rattle.cutform.specs.Rounding.{rounding};
-ghost use Rattle.rounding.specs.Call.{endedBy, roundCall};
+ghost use Rattle.cutform.specs.Call.{endedBy, roundCall};
 ghost use Rattle.rounding.specs.Slots.{unrounded, finished};
-
-// The chain's shape at the end; for each bond the sweeps made, and whether the sum is below 1e-30 at the end.
-pub struct Rounded {
-    pub verdict: answers::Verdict,
-    pub shape: shape::Shape,
-    pub sweeps: [usize; shape::MOST_AXES],
-    pub settled: [bool; shape::MOST_AXES],
-}
+use cutform::Rounded;
 
 // A refusal leaves the shape as it was and counts no sweeps.
 pub fn refused_rounding(r: answers::Refusal, s: shape::Shape) -> Rounded
@@ -34,10 +28,10 @@ pub fn refused_rounding(r: answers::Refusal, s: shape::Shape) -> Rounded
 }
 
 // A chain before any of its bonds is cut.
-pub fn unrounded(s: shape::Shape) -> walking::Walked
+pub fn unrounded(s: shape::Shape) -> cuts::Walked
     ensures { λ w. ⌜ w ≡ unrounded s ⌝ }
 {
-    walking::Walked {
+    cuts::Walked {
         verdict: answers::Verdict::Fits,
         shape: s,
         ranks: [0; shape::MOST_AXES],
@@ -46,7 +40,7 @@ pub fn unrounded(s: shape::Shape) -> walking::Walked
     }
 }
 
-fn rounded_of(w: walking::Walked) -> Rounded
+fn rounded_of(w: cuts::Walked) -> Rounded
     ensures { λ r. ⌜ r ≡ record { verdict = Fits; shape = w .shape; sweeps = w .sweeps; settled = w .settled } ⌝ }
 {
     let shape = w.shape;
@@ -63,7 +57,7 @@ fn rounded_of(w: walking::Walked) -> Rounded
 // The end of a call that rounds: where nothing was refused the chain is written, and scratch is +0 in any case.
 pub fn finish(
     s: shape::Shape,
-    w: walking::Walked,
+    w: cuts::Walked,
     chain: &mut [f64],
     scratch: &mut [f64],
 ) -> Rounded
@@ -105,7 +99,7 @@ fn round_all(s: shape::Shape, eps: f64, chain: &mut [f64], scratch: &mut [f64]) 
     let mut carries = [0.0; MOST_CARRIES];
     let mut room = [0.0; MOST_CORE];
     load(chain, scratch);
-    let w = walking::round_from(0, s, unrounded(s), eps, scratch, &mut carries, &mut room);
+    let w = cuts::round_from(0, s, unrounded(s), eps, scratch, &mut carries, &mut room);
     finish(s, w, chain, scratch)
 }
 
@@ -114,7 +108,7 @@ pub fn tt_round(s: shape::Shape, eps: f64, chain: &mut [f64], scratch: &mut [f64
     ensures { λ r. ⌜ record { result = r; chain = now (chain .exit); scratch = now (scratch .exit) }
         ≡ roundCall s eps (now (chain .entry)) (now (scratch .entry)) ⌝ }
 {
-    let ok = measuring::round_ok(s, eps, chain, scratch.len());
+    let ok = checks::round_ok(s, eps, chain, scratch.len());
     if let answers::Verdict::Refused(r) = ok {
         return refused_rounding(r, s);
     }

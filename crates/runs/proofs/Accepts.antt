@@ -19,23 +19,23 @@ use Rattle.shape.specs.Limits.{mostAxes, within, scratchFor}
 use Rattle.shape.specs.Shapes.{leftOf, rightOf, sizeOk, bondOk, shapeOk, chainOk, coreSize, entriesOf}
 use Rattle.shape.specs.Sizes.{SizesWithin}
 use Rattle.shape.proofs.Shaped.{shaped, shape-same, within-is}
-use Rattle.axes.specs.declared.Axis.{Axis}
-use Rattle.axes.specs.Axes.{axisOk}
-use Rattle.walking.specs.Keeping.{Stepped, rankAt}
-use Rattle.stepping.specs.declared.Settings.{Settings}
-use Rattle.stepping.specs.Zones.{axisAt, rules}
-use Rattle.stepping.specs.Over.{axisReaches}
-use Rattle.kept.specs.declared.Run.{Run}
-use Rattle.kept.specs.Kept.{Inputs, Kept, keptOf, allCarries, allSums}
-use Rattle.kept.specs.Checks.{rankOk, loneFinite, zoneFinite, keptFinite, loneOk, inReachAt, freshOk}
-use Rattle.kept.specs.Requests.{Request, newCore, newAxis, zoneOf, present, partFinite, partOk, shiftsOk, numbersOk, replaceOk}
-use Rattle.kept.proofs.Trace.{lent-is, passed}
-use Rattle.kept.proofs.Accepted.{Accepted, checks-say}
-use Rattle.kept.proofs.Untouched.{slices-are}
-use Rattle.admitting.specs.Asking.{scratchOf, roomOf}
-use Rattle.admitting.proofs.InRow.{reach-is}
-use Rattle.redoing.specs.InPlace.{RanksWithin}
-use Rattle.renewing.specs.Renewed.{Asked}
+use Rattle.stepform.specs.declared.Axis.{Axis}
+use Rattle.stepform.specs.Axes.{axisOk}
+use Rattle.cutform.specs.Keeping.{Stepped, rankAt}
+use Rattle.stepform.specs.declared.Settings.{Settings}
+use Rattle.stepform.specs.Zones.{axisAt, rules}
+use Rattle.checks.specs.Over.{axisReaches}
+use Rattle.runform.specs.declared.Run.{Run}
+use Rattle.runform.specs.Kept.{Inputs, Kept, keptOf, allCarries, allSums}
+use Rattle.runform.specs.Checks.{rankOk, loneFinite, zoneFinite, keptFinite, loneOk, inReachAt, freshOk}
+use Rattle.runform.specs.Requests.{Request, newCore, newAxis, zoneOf, present, partFinite, partOk, shiftsOk, numbersOk, replaceOk}
+use Rattle.runform.proofs.Trace.{lent-is, passed}
+use Rattle.runform.proofs.Accepted.{Accepted, checks-say}
+use Rattle.runform.proofs.Untouched.{slices-are}
+use Rattle.run_checks.specs.Asking.{scratchOf, roomOf}
+use Rattle.run_checks.proofs.InRow.{reach-is}
+use Rattle.run_work.specs.InPlace.{RanksWithin}
+use Rattle.run_work.specs.Renewed.{Asked}
 use Rattle.runs.specs.Ended.{blankRun, axisRun}
 
 -- ---- of a shape whose bonds pass, whatever else is asked of them

@@ -22,25 +22,25 @@ use Rattle.lists.specs.Floats.{at, zeros}
 use Rattle.shape.specs.declared.Shape.{Shape}
 use Rattle.shape.specs.Limits.{scratchFor}
 use Rattle.shape.specs.Shapes.{coreSize, entriesOf}
-use Rattle.axes.specs.declared.Axis.{Axis}
+use Rattle.stepform.specs.declared.Axis.{Axis}
 use Rattle.cutform.specs.Rounding.{Carry, none, Cut, numbersIn}
-use Rattle.walking.specs.Keeping.{Stepped, carrySize, keepStep}
-use Rattle.rounding.specs.Call.{scratchAfter}
-use Rattle.rounding.proofs.Early.{Early, early-demand, early-then, early-each, early-shape}
-use Rattle.product.specs.Product.{startSums}
-use Rattle.summing.specs.Sums.{sumSize}
-use Rattle.stepping.specs.declared.Settings.{Settings}
-use Rattle.stepping.specs.Zones.{rules}
-use Rattle.stepping.specs.Steps.{stepFrom}
-use Rattle.kept.specs.declared.Run.{Run}
-use Rattle.kept.specs.declared.Ran.{Ran}
-use Rattle.kept.specs.Kept.{Inputs, Summed, running, keptOf, allCarries, allSums, bare, blank, zonesFrom, carryAt, sumsAt, weighedFrom}
-use Rattle.kept.specs.Work.{keepSums, sumZone, restep, resum, sumFrom, workFrom}
-use Rattle.kept.specs.Checks.{inputsLent, keptLent, scratchLent, freshOk, freshRun}
-use Rattle.kept.specs.Call.{FreshEnd, Room, roomOk, freshEnd, freshBy, freshCall}
-use Rattle.admitting.specs.Asking.{scratchOf, roomOf}
-use Rattle.redoing.proofs.Late.{late-work}
-use Rattle.renewing.specs.Renewed.{SourcesFrom, Asked, Renewed}
+use Rattle.cutform.specs.Keeping.{Stepped, carrySize, keepStep}
+use Rattle.cutform.specs.Call.{scratchAfter}
+use Rattle.cutform.proofs.Early.{Early, early-demand, early-then, early-each, early-shape}
+use Rattle.sumform.specs.Product.{startSums}
+use Rattle.sumform.specs.Sums.{sumSize}
+use Rattle.stepform.specs.declared.Settings.{Settings}
+use Rattle.stepform.specs.Zones.{rules}
+use Rattle.stepform.specs.Steps.{stepFrom}
+use Rattle.runform.specs.declared.Run.{Run}
+use Rattle.runform.specs.declared.Ran.{Ran}
+use Rattle.runform.specs.Kept.{Inputs, Summed, running, keptOf, allCarries, allSums, bare, blank, zonesFrom, carryAt, sumsAt, weighedFrom}
+use Rattle.runform.specs.Work.{keepSums, sumZone, restep, resum, sumFrom, workFrom}
+use Rattle.runform.specs.Checks.{inputsLent, keptLent, scratchLent, freshOk, freshRun}
+use Rattle.runform.specs.Call.{FreshEnd, Room, roomOk, freshEnd, freshBy, freshCall}
+use Rattle.run_checks.specs.Asking.{scratchOf, roomOf}
+use Rattle.run_work.proofs.Late.{late-work}
+use Rattle.run_work.specs.Renewed.{SourcesFrom, Asked, Renewed}
 use Rattle.runs.specs.Ended.{blankRun}
 use Rattle.runs.proofs.Renewals.{ran-is}
 

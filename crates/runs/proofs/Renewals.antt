@@ -13,19 +13,19 @@ use Rattle.lists.specs.Lists.{pick}
 use Rattle.lists.specs.Slots.{put}
 use Rattle.lists.specs.Floats.{zeros}
 use Rattle.shape.specs.Shapes.{coreSize}
-use Rattle.axes.specs.declared.Axis.{Axis}
-use Rattle.rounding.specs.Call.{scratchAfter}
-use Rattle.striding.proofs.Late.{Late}
-use Rattle.stepping.specs.Zones.{rules}
-use Rattle.kept.specs.declared.Run.{Run}
-use Rattle.kept.specs.declared.Ran.{Ran}
-use Rattle.kept.specs.Kept.{Kept, keptOf, recordOf}
-use Rattle.kept.specs.Work.{workFrom}
-use Rattle.kept.specs.Requests.{newCore, newAxis, replaceOk}
-use Rattle.kept.specs.Call.{ReplaceEnd, replaceEnd, replaceCoreCall, replaceAxisCall}
-use Rattle.admitting.specs.Asking.{scratchOf}
-use Rattle.redoing.proofs.Late.{late-work}
-use Rattle.renewing.specs.Renewed.{SourcesFrom, Renewed}
+use Rattle.stepform.specs.declared.Axis.{Axis}
+use Rattle.cutform.specs.Call.{scratchAfter}
+use Rattle.steps.proofs.Late.{Late}
+use Rattle.stepform.specs.Zones.{rules}
+use Rattle.runform.specs.declared.Run.{Run}
+use Rattle.runform.specs.declared.Ran.{Ran}
+use Rattle.runform.specs.Kept.{Kept, keptOf, recordOf}
+use Rattle.runform.specs.Work.{workFrom}
+use Rattle.runform.specs.Requests.{newCore, newAxis, replaceOk}
+use Rattle.runform.specs.Call.{ReplaceEnd, replaceEnd, replaceCoreCall, replaceAxisCall}
+use Rattle.run_checks.specs.Asking.{scratchOf}
+use Rattle.run_work.proofs.Late.{late-work}
+use Rattle.run_work.specs.Renewed.{SourcesFrom, Renewed}
 use Rattle.runs.specs.Ended.{axisRun}
 use Rattle.runs.proofs.Replaced.{replace-goes}
 

@@ -13,15 +13,15 @@ use Rattle.answers.proofs.Outcomes.{done-refused}
 use Rattle.answers.proofs.Checks.{verdict-passed, verdict-refused}
 use Rattle.lists.specs.Lists.{pick}
 use Rattle.lists.specs.Floats.{zeros}
-use Rattle.rounding.specs.Call.{scratchAfter}
-use Rattle.rounding.proofs.Early.{Early, early-demand, early-then, early-each, early-shape}
-use Rattle.stepping.specs.Zones.{rules}
-use Rattle.kept.specs.declared.Ran.{Ran}
-use Rattle.kept.specs.Kept.{Kept, running, recordOf}
-use Rattle.kept.specs.Checks.{inputsLent, keptLent, scratchLent}
-use Rattle.kept.specs.Requests.{Request, newCore, newAxis, newWeights, present, shiftsOk, numbersOk, replaceOk, redo, replace}
-use Rattle.kept.specs.Call.{scratchPlace, replaceEnd, replaceBy}
-use Rattle.admitting.specs.Asking.{scratchOf}
+use Rattle.cutform.specs.Call.{scratchAfter}
+use Rattle.cutform.proofs.Early.{Early, early-demand, early-then, early-each, early-shape}
+use Rattle.stepform.specs.Zones.{rules}
+use Rattle.runform.specs.declared.Ran.{Ran}
+use Rattle.runform.specs.Kept.{Kept, running, recordOf}
+use Rattle.runform.specs.Checks.{inputsLent, keptLent, scratchLent}
+use Rattle.runform.specs.Requests.{Request, newCore, newAxis, newWeights, present, shiftsOk, numbersOk, replaceOk, redo, replace}
+use Rattle.runform.specs.Call.{scratchPlace, replaceEnd, replaceBy}
+use Rattle.run_checks.specs.Asking.{scratchOf}
 
 -- ---- the checks refuse before any work
 early-shifts : (k : Kept) (q : Request) → Early (shiftsOk rules (present (k .inputs) q) q)

@@ -12,20 +12,20 @@ use Rattle.answers.proofs.Checks.{verdict-passed}
 use Rattle.lists.specs.Floats.{zeros}
 use Rattle.lists.proofs.Tests.{eqb-is}
 use Rattle.shape.specs.Shapes.{shapeOk, pointSize}
-use Rattle.stepping.specs.Zones.{rules}
-use Rattle.asking.specs.Ranks.{rankHeld}
-use Rattle.kept.specs.declared.Run.{Run}
-use Rattle.kept.specs.declared.Ran.{Ran}
-use Rattle.kept.specs.Kept.{Inputs, Summed, Kept, running, keptOf}
-use Rattle.kept.specs.Work.{resum, sumFrom}
-use Rattle.kept.specs.Checks.{rankOk, scratchLent}
-use Rattle.kept.specs.Requests.{newWeights, present, replaceOk, replace}
-use Rattle.kept.specs.Call.{replaceEnd, replaceBy, replaceWeightsCall}
-use Rattle.kept.proofs.Trace.{lent-is}
-use Rattle.kept.proofs.Accepted.{checks-say}
-use Rattle.kept.proofs.Untouched.{slices-are}
-use Rattle.admitting.specs.Asking.{scratchOf}
-use Rattle.reweighing.specs.Weights.{Lent, weightsEnd}
+use Rattle.stepform.specs.Zones.{rules}
+use Rattle.run_checks.specs.Ranks.{rankHeld}
+use Rattle.runform.specs.declared.Run.{Run}
+use Rattle.runform.specs.declared.Ran.{Ran}
+use Rattle.runform.specs.Kept.{Inputs, Summed, Kept, running, keptOf}
+use Rattle.runform.specs.Work.{resum, sumFrom}
+use Rattle.runform.specs.Checks.{rankOk, scratchLent}
+use Rattle.runform.specs.Requests.{newWeights, present, replaceOk, replace}
+use Rattle.runform.specs.Call.{replaceEnd, replaceBy, replaceWeightsCall}
+use Rattle.runform.proofs.Trace.{lent-is}
+use Rattle.runform.proofs.Accepted.{checks-say}
+use Rattle.runform.proofs.Untouched.{slices-are}
+use Rattle.run_checks.specs.Asking.{scratchOf}
+use Rattle.run_work.specs.Weights.{Lent, weightsEnd}
 use Rattle.runs.proofs.Replaced.{replace-goes}
 
 module _ (r : Run) (z : ℕ) (source weights chain carries sums part scratch : List Float) (v : Verdict)

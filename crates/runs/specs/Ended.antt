@@ -6,9 +6,9 @@ use lib.ListN.{replicate, set}
 use Rattle.numbers.specs.Arithmetic.{zero64}
 use Rattle.shape.specs.declared.Shape.{Shape}
 use Rattle.shape.specs.Limits.{mostAxes}
-use Rattle.axes.specs.declared.Axis.{Axis}
-use Rattle.stepping.specs.declared.Settings.{Settings}
-use Rattle.kept.specs.declared.Run.{Run}
+use Rattle.stepform.specs.declared.Axis.{Axis}
+use Rattle.stepform.specs.declared.Settings.{Settings}
+use Rattle.runform.specs.declared.Run.{Run}
 
 -- it keeps nothing yet
 abbrev pub blankRun : Shape → List Axis → Settings → Run

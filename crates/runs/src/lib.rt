@@ -2,18 +2,18 @@
 ghost use mathlib.Core.Path.{_≡_};
 ghost use Prim.Native.Nat.{_<_};
 ghost use Rattle.shape.specs.Limits.{mostAxes};
-ghost use Rattle.kept.specs.Call.{freshCall, replaceCoreCall, replaceAxisCall, replaceWeightsCall};
+ghost use Rattle.runform.specs.Call.{freshCall, replaceCoreCall, replaceAxisCall, replaceWeightsCall};
 ghost use Rattle.runs.specs.Ended.{blankRun, axisRun};
 
 // A run that keeps nothing yet.
 fn blank_run(
     s: shape::Shape,
-    xs: [axes::Axis; shape::MOST_AXES],
-    set: stepping::Settings,
-) -> kept::Run
+    xs: [stepform::Axis; shape::MOST_AXES],
+    set: stepform::Settings,
+) -> runform::Run
     ensures { λ r. ⌜ r ≡ blankRun s xs set ⌝ }
 {
-    kept::Run {
+    runform::Run {
         shape: s,
         axes: xs,
         set,
@@ -27,19 +27,19 @@ fn blank_run(
 // A fresh run: one step of the source, then its inner product with the weights.
 pub fn fresh_run(
     s: shape::Shape,
-    xs: [axes::Axis; shape::MOST_AXES],
-    set: stepping::Settings,
+    xs: [stepform::Axis; shape::MOST_AXES],
+    set: stepform::Settings,
     source: &[f64],
     weights: &[f64],
     chain: &mut [f64],
     carries: &mut [f64],
     sums: &mut [f64],
     scratch: &mut [f64],
-) -> kept::Ran
+) -> runform::Ran
     ensures { λ a. ⌜ record { result = a; chain = now (chain .exit); carries = now (carries .exit); sums = now (sums .exit); scratch = now (scratch .exit) } ≡ freshCall s xs set (now (source .entry)) (now (weights .entry)) (now (chain .entry)) (now (carries .entry)) (now (sums .entry)) (now (scratch .entry)) ⌝ }
 {
     let r = blank_run(s, xs, set);
-    let ok = admitting::checks::fresh_ok(
+    let ok = run_checks::calls::fresh_ok(
         s,
         xs,
         set,
@@ -51,15 +51,15 @@ pub fn fresh_run(
         scratch.len(),
     );
     if let answers::Verdict::Refused(q) = ok {
-        return admitting::refused(q, r);
+        return run_checks::refused(q, r);
     }
-    renewing::take_sources(0, s, source, scratch);
-    renewing::renew(0, r, weights, chain, carries, sums, scratch)
+    run_work::renewal::take_sources(0, s, source, scratch);
+    run_work::renewal::renew(0, r, weights, chain, carries, sums, scratch)
 }
 
 // A new core for zone z: the step and the sums from z on are made anew.
 pub fn replace_core(
-    r: kept::Run,
+    r: runform::Run,
     z: usize,
     source: &mut [f64],
     weights: &[f64],
@@ -68,10 +68,10 @@ pub fn replace_core(
     sums: &mut [f64],
     part: &[f64],
     scratch: &mut [f64],
-) -> kept::Ran
+) -> runform::Ran
     ensures { λ a. ⌜ record { result = a; source = now (source .exit); weights = now (weights .entry); chain = now (chain .exit); carries = now (carries .exit); sums = now (sums .exit); scratch = now (scratch .exit) } ≡ replaceCoreCall r z (now (source .entry)) (now (weights .entry)) (now (chain .entry)) (now (carries .entry)) (now (sums .entry)) (now (part .entry)) (now (scratch .entry)) ⌝ }
 {
-    let ok = admitting::checks::core_ok(
+    let ok = run_checks::calls::core_ok(
         r,
         z,
         source,
@@ -83,21 +83,21 @@ pub fn replace_core(
         scratch.len(),
     );
     if let answers::Verdict::Refused(q) = ok {
-        return admitting::refused(q, r);
+        return run_checks::refused(q, r);
     }
     let s = r.shape;
-    renewing::take_core(z, s, source, part, scratch);
-    let ran = renewing::renew(z, r, weights, chain, carries, sums, scratch);
+    run_work::renewal::take_core(z, s, source, part, scratch);
+    let ran = run_work::renewal::renew(z, r, weights, chain, carries, sums, scratch);
     let made = ran.verdict;
     if let answers::Verdict::Refused(q) = made {
         return ran;
     }
-    renewing::put_core(z, s, part, source);
+    run_work::renewal::put_core(z, s, part, source);
     ran
 }
 
 // The run with a new record for axis z.
-fn with_axis(mut r: kept::Run, z: usize, x: axes::Axis) -> kept::Run
+fn with_axis(mut r: runform::Run, z: usize, x: stepform::Axis) -> runform::Run
     requires { ⌜ z < mostAxes ⌝ }
     ensures { λ a. ⌜ a ≡ axisRun r z x ⌝ }
 {
@@ -109,19 +109,19 @@ fn with_axis(mut r: kept::Run, z: usize, x: axes::Axis) -> kept::Run
 
 // A new axis record for zone z: the step and the sums from z on are made anew.
 pub fn replace_axis(
-    r: kept::Run,
+    r: runform::Run,
     z: usize,
-    x: axes::Axis,
+    x: stepform::Axis,
     source: &[f64],
     weights: &[f64],
     chain: &mut [f64],
     carries: &mut [f64],
     sums: &mut [f64],
     scratch: &mut [f64],
-) -> kept::Ran
+) -> runform::Ran
     ensures { λ a. ⌜ record { result = a; source = now (source .entry); weights = now (weights .entry); chain = now (chain .exit); carries = now (carries .exit); sums = now (sums .exit); scratch = now (scratch .exit) } ≡ replaceAxisCall r z x (now (source .entry)) (now (weights .entry)) (now (chain .entry)) (now (carries .entry)) (now (sums .entry)) (now (scratch .entry)) ⌝ }
 {
-    let ok = new_axis::axis_ok(
+    let ok = run_checks::new_axis::axis_ok(
         r,
         z,
         x,
@@ -133,22 +133,22 @@ pub fn replace_axis(
         scratch.len(),
     );
     if let answers::Verdict::Refused(q) = ok {
-        return admitting::refused(q, r);
+        return run_checks::refused(q, r);
     }
     let s = r.shape;
-    renewing::take_sources(z, s, source, scratch);
+    run_work::renewal::take_sources(z, s, source, scratch);
     let anew = with_axis(r, z, x);
-    let ran = renewing::renew(z, anew, weights, chain, carries, sums, scratch);
+    let ran = run_work::renewal::renew(z, anew, weights, chain, carries, sums, scratch);
     let verdict = ran.verdict;
     if let answers::Verdict::Refused(q) = verdict {
-        return admitting::refused(q, r);
+        return run_checks::refused(q, r);
     }
     ran
 }
 
 // New weights for zone z: the sums from z on and the figure are made anew, and nothing is rounded.
 pub fn replace_weights(
-    r: kept::Run,
+    r: runform::Run,
     z: usize,
     source: &[f64],
     weights: &mut [f64],
@@ -157,10 +157,10 @@ pub fn replace_weights(
     sums: &mut [f64],
     part: &[f64],
     scratch: &mut [f64],
-) -> kept::Ran
+) -> runform::Ran
     ensures { λ a. ⌜ record { result = a; source = now (source .entry); weights = now (weights .exit); chain = now (chain .entry); carries = now (carries .entry); sums = now (sums .exit); scratch = now (scratch .exit) } ≡ replaceWeightsCall r z (now (source .entry)) (now (weights .entry)) (now (chain .entry)) (now (carries .entry)) (now (sums .entry)) (now (part .entry)) (now (scratch .entry)) ⌝ }
 {
-    let ok = admitting::checks::weights_ok(
+    let ok = run_checks::calls::weights_ok(
         r,
         z,
         source,
@@ -172,9 +172,9 @@ pub fn replace_weights(
         scratch.len(),
     );
     if let answers::Verdict::Refused(q) = ok {
-        return admitting::refused(q, r);
+        return run_checks::refused(q, r);
     }
-    let ran = reweighing::resummed(r, z, weights, chain, sums, part);
+    let ran = run_work::weights::resummed(r, z, weights, chain, sums, part);
     lists::fill(scratch, 0.0);
     ran
 }

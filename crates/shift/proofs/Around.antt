@@ -16,12 +16,12 @@ use Rattle.lists.specs.Lists.{tab}
 use Rattle.lists.specs.Floats.{at, sumOn}
 use Rattle.lists.proofs.Cells.{cell-lt, row-end}
 use Rattle.lists.proofs.Loops.{iter-same}
-use Rattle.bands.proofs.Starts.{start-at}
+use Rattle.shift.proofs.Starts.{start-at}
 use Rattle.shape.specs.Cores.{Core, coreWith, entry}
 use Rattle.shape.proofs.Places.{entry-line, block-lines}
-use Rattle.bands.specs.Weights.{cubicBandWeights, bandOn, shiftedAt}
-use Rattle.shift.specs.Shifts.{shifted}
-use Rattle.bands.specs.Starts.{natAt, startsOf, Room, bandIn, entryIn}
+use Rattle.stepform.specs.Weights.{cubicBandWeights, bandOn, shiftedAt}
+use Rattle.stepform.specs.Shifts.{shifted}
+use Rattle.shift.specs.Starts.{natAt, startsOf, Room, bandIn, entryIn}
 use Rattle.shift.specs.Doubled.{twiceOf, blocksOf}
 
 -- a list that has just its length has at least that

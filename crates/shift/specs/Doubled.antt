@@ -6,7 +6,7 @@ use lib.ListN.{length, take, drop}
 use lib.Ieee.{Float}
 use Rattle.lists.specs.Lists.{grid}
 use Rattle.shape.specs.Limits.{mostPoints}
-use Rattle.bands.specs.Starts.{entryIn}
+use Rattle.shift.specs.Starts.{entryIn}
 
 -- what a call that shifts a core is lent: the core's numbers, as many numbers to write, and room for one of its blocks twice
 pub record Lent (core : List Float) (rl n rr : ℕ) (out block : List Float) : Type 0 where

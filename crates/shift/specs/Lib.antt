@@ -1,3 +1,3 @@
-pub mod Shifts
+pub mod Starts
 -- what the inner functions cite
 pub mod Doubled

@@ -1,4 +1,5 @@
 // The shift of one core along its axis, and the scaling of core 0.
+pub mod bands;
 ghost use mathlib.Core.Path.{_≡_};
 ghost use mathlib.Core.Bool.{true};
 ghost use Prim.Native.Nat.{_+_, _*_, _<_, _≤_};
@@ -12,18 +13,13 @@ ghost use Rattle.answers.specs.Outcome.{making, answered, staged};
 ghost use Rattle.lists.specs.Lists.{tab};
 ghost use Rattle.shape.specs.Limits.{mostPoints};
 ghost use Rattle.shape.specs.Cores.{coreWith};
-ghost use Rattle.shift.specs.Shifts.{distance, spacing, shiftOf, reaches, shifted, moveCore, scaled};
+ghost use Rattle.stepform.specs.Shifts.{distance, spacing, shiftOf, reaches, shifted, moveCore, scaled};
 ghost use Rattle.shift.specs.Doubled.{Lent, blocksOf};
-ghost use Rattle.bands.specs.Starts.{Room, entryIn};
-
-// A core stays, or is shifted by a ratio.
-pub enum Shift {
-    Stay,
-    By(f64),
-}
+ghost use Rattle.shift.specs.Starts.{Room, entryIn};
+use stepform::Shift;
 
 // How far a step goes along the axis.
-pub fn distance(x: axes::Axis, tau: f64) -> f64
+pub fn distance(x: stepform::Axis, tau: f64) -> f64
     ensures { λ r. ⌜ r ≡ distance x tau ⌝ }
 {
     let width = numbers::root(x.a * tau);
@@ -31,7 +27,7 @@ pub fn distance(x: axes::Axis, tau: f64) -> f64
 }
 
 // How far apart the points of the axis lie.
-pub fn spacing(x: axes::Axis, n: usize) -> f64
+pub fn spacing(x: stepform::Axis, n: usize) -> f64
     requires { ⌜ n ≤ mostPoints ⌝ }
     ensures { λ r. ⌜ r ≡ spacing x n ⌝ }
 {
@@ -42,7 +38,7 @@ pub fn spacing(x: axes::Axis, n: usize) -> f64
 }
 
 // What a step does to the core of an axis of n points.
-pub fn shift_of(x: axes::Axis, tau: f64, n: usize) -> Shift
+pub fn shift_of(x: stepform::Axis, tau: f64, n: usize) -> Shift
     requires { ⌜ n ≤ mostPoints ⌝ }
     ensures { λ r. ⌜ r ≡ shiftOf x tau n ⌝ }
 {

@@ -7,23 +7,23 @@ use lib.Ieee.{Float}
 use Rattle.answers.specs.declared.Verdict.{Verdict}
 use Rattle.shape.specs.declared.Shape.{Shape}
 use Rattle.lists.proofs.Tables.{length-tab}
-use Rattle.axes.specs.declared.Axis.{Axis}
-use Rattle.axes.specs.Axes.{axisAt, gathered}
-use Rattle.stepping.specs.declared.Settings.{Settings}
-use Rattle.stepping.specs.Call.{stepCall, evolveCall}
-use Rattle.stepping.specs.Over.{stepOver, evolveOver}
-use Rattle.stepping.proofs.Gathers.{step-over, evolve-over}
-use Rattle.evolving.specs.declared.Course.{Course}
+use Rattle.stepform.specs.declared.Axis.{Axis}
+use Rattle.stepform.specs.Axes.{axisAt, gathered}
+use Rattle.stepform.specs.declared.Settings.{Settings}
+use Rattle.stepform.specs.Call.{stepCall, evolveCall}
+use Rattle.checks.specs.Over.{stepOver, evolveOver}
+use Rattle.steps.proofs.Gathers.{step-over, evolve-over}
+use Rattle.stepform.specs.declared.Course.{Course}
 use Rattle.records.specs.declared.given.CAxis.{CAxis}
 use Rattle.records.specs.Given.{axisIn, lentOf}
-use Rattle.rounding.specs.declared.Rounded.{Rounded}
-use Rattle.rounding.specs.Call.{Ended}
-use Rattle.starting.specs.declared.Started.{Started}
-use Rattle.starting.specs.Start.{StartEnded}
-use Rattle.evolving.specs.Held.{Answers}
-use Rattle.pair.specs.declared.Sizes.{Sizes}
-use Rattle.pair.specs.Call.{PairEnded}
-use Rattle.splitting.specs.declared.Paired.{Paired}
+use Rattle.cutform.specs.declared.Rounded.{Rounded}
+use Rattle.cutform.specs.Call.{Ended}
+use Rattle.sumform.specs.declared.Started.{Started}
+use Rattle.sumform.specs.Start.{StartEnded}
+use Rattle.evolution.specs.Held.{Answers}
+use Rattle.pairform.specs.declared.Sizes.{Sizes}
+use Rattle.pairform.specs.Call.{PairEnded}
+use Rattle.pairform.specs.declared.Paired.{Paired}
 use Rattle.fileform.specs.declared.Read.{Read}
 use Rattle.fileform.specs.Calls.{Exit}
 use Rattle.records.specs.declared.told.CRefusal.{CRefusal}

@@ -3,11 +3,11 @@ use mathlib.Core.Path.{_≡_, ap, _∙_}
 use mathlib.Core.List.{List}
 use lib.Ieee.{Float}
 use Rattle.shape.specs.declared.Shape.{Shape}
-use Rattle.axes.specs.declared.Axis.{Axis}
-use Rattle.stepping.specs.declared.Settings.{Settings}
-use Rattle.kept.specs.declared.Run.{Run}
-use Rattle.kept.specs.declared.Ran.{Ran}
-use Rattle.kept.specs.Call.{FreshEnd, ReplaceEnd}
+use Rattle.stepform.specs.declared.Axis.{Axis}
+use Rattle.stepform.specs.declared.Settings.{Settings}
+use Rattle.runform.specs.declared.Run.{Run}
+use Rattle.runform.specs.declared.Ran.{Ran}
+use Rattle.runform.specs.Call.{FreshEnd, ReplaceEnd}
 use Rattle.records.specs.declared.held.CRan.{CRan}
 use Rattle.records.specs.Held.{ranOut}
 use Rattle.zones.specs.Ends.{RunsAs, ReplacesAs}

@@ -4,12 +4,12 @@ use Prim.Native.Nat.{ℕ}
 use mathlib.Core.List.{List}
 use lib.Ieee.{Float}
 use Rattle.answers.specs.declared.Verdict.{Verdict}
-use Rattle.rounding.specs.Call.{Ended}
-use Rattle.starting.specs.Start.{StartEnded}
-use Rattle.pair.specs.Call.{PairEnded}
+use Rattle.cutform.specs.Call.{Ended}
+use Rattle.sumform.specs.Start.{StartEnded}
+use Rattle.pairform.specs.Call.{PairEnded}
 use Rattle.fileform.specs.declared.Read.{Read}
 use Rattle.fileform.specs.Calls.{Exit}
-use Rattle.kept.specs.Call.{FreshEnd, ReplaceEnd}
+use Rattle.runform.specs.Call.{FreshEnd, ReplaceEnd}
 use Rattle.records.specs.declared.told.CRefusal.{CRefusal}
 use Rattle.records.specs.declared.told.CRounded.{CRounded}
 use Rattle.records.specs.declared.told.CFormed.{CFormed}

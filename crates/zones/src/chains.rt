@@ -3,9 +3,9 @@ ghost use mathlib.Core.Path.{_≡_};
 ghost use Rattle.answers.specs.Outcome.{verdictOf};
 ghost use Rattle.shape.specs.Shapes.{chainOk};
 ghost use Rattle.view.specs.View.{viewOf, seen};
-ghost use Rattle.starting.specs.Start.{startCall};
-ghost use Rattle.product.specs.Call.{innerCall};
-ghost use Rattle.rounding.specs.Call.{roundCall};
+ghost use Rattle.sumform.specs.Start.{startCall};
+ghost use Rattle.sumform.specs.Call.{innerCall};
+ghost use Rattle.cutform.specs.Call.{roundCall};
 ghost use Rattle.records.specs.Given.{shapeIn};
 ghost use Rattle.records.specs.Told.{refusalOf, figureOut, seenOut};
 ghost use Rattle.zones.specs.Ends.{EndsAs, StartsAs};
@@ -44,7 +44,7 @@ pub extern "C" fn uyavsker_rank1_separable(
     ensures { λ r. ⌜ StartsAs (startCall (shapeIn s) (now (vectors .entry)) (now (chain .entry))) r (now (chain .exit)) ⌝ }
 {
     let shape = records::given::shape_in(s);
-    told::started_out(starting::rank1_separable(shape, vectors, chain))
+    told::started_out(product::start::rank1_separable(shape, vectors, chain))
 }
 
 #[no_mangle]

@@ -4,7 +4,7 @@ ghost use lib.ListN.{length};
 ghost use Rattle.words.specs.Placed.{placed};
 ghost use Rattle.fileform.specs.Reading.{readCall};
 ghost use Rattle.fileform.specs.Writing.{writeCall};
-ghost use Rattle.listing.specs.Text.{listingOf};
+ghost use Rattle.fileform.specs.Text.{listingOf};
 ghost use Rattle.records.specs.Given.{shapeIn};
 ghost use Rattle.zones.specs.Ends.{ReadsAs, WritesAs};
 use records::given;

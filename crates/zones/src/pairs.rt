@@ -1,5 +1,5 @@
 // Two neighbouring cores contracted and split again.
-ghost use Rattle.pair.specs.Call.{coreOf, pairCall};
+ghost use Rattle.pairform.specs.Call.{coreOf, pairCall};
 ghost use Rattle.records.specs.Given.{sizesIn};
 ghost use Rattle.zones.specs.Ends.{SplitsAs};
 use records::given;

@@ -1,6 +1,6 @@
 // A fresh run, and the replacement of one zone's core, weights or axis record.
 ghost use mathlib.Core.List.{map};
-ghost use Rattle.kept.specs.Call.{freshCall, replaceCoreCall, replaceWeightsCall, replaceAxisCall};
+ghost use Rattle.runform.specs.Call.{freshCall, replaceCoreCall, replaceWeightsCall, replaceAxisCall};
 ghost use Rattle.records.specs.Given.{shapeIn, axisIn, settingsIn};
 ghost use Rattle.records.specs.Held.{runIn};
 ghost use Rattle.zones.specs.Ends.{RunsAs, ReplacesAs};

@@ -1,5 +1,5 @@
 // A step, and steps one after another. The axis records come by value, with how many of them are lent.
-ghost use Rattle.stepping.specs.Call.{stepCall, evolveCall};
+ghost use Rattle.stepform.specs.Call.{stepCall, evolveCall};
 ghost use Rattle.records.specs.Given.{shapeIn, lentOf, settingsIn};
 ghost use Rattle.zones.specs.Ends.{EndsAs};
 use records::given;
@@ -20,7 +20,7 @@ pub extern "C" fn uyavsker_step(
     let shape = given::shape_in(s);
     let settings = given::settings_in(set);
     let list = given::axes_lent(axis, count);
-    told::rounded_out(evolving::step_over(shape, settings, list, count, chain, scratch))
+    told::rounded_out(evolution::step_over(shape, settings, list, count, chain, scratch))
 }
 
 #[no_mangle]
@@ -38,5 +38,5 @@ pub extern "C" fn uyavsker_evolve(
     let shape = given::shape_in(s);
     let course = given::course_in(p);
     let list = given::axes_lent(axis, count);
-    told::rounded_out(evolving::evolve_over(shape, course, list, count, chain, scratch))
+    told::rounded_out(evolution::evolve_over(shape, course, list, count, chain, scratch))
 }

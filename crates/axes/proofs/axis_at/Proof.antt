@@ -41,10 +41,10 @@ use denote.Triple.Table.{entered}
 use denote.Triple.Walked.{says, Stays, stay-none, stay-none-slice, walkOf, goes-none, goes-none-slice, Walks, ends-at, walked, walk-meets}
 use denote.Exit.{yes}
 use Rattle.numbers.specs.Arithmetic.{zero64}
-use Rattle.axes.specs.Axes.{blank, axisAt}
-use Rattle.axes.specs.declared.Axis.{Axis}
-use Rattle.axes.proofs.Axis as T
-use Rattle.axes.proofs.Axis.Laws as T′
+use Rattle.stepform.specs.Axes.{blank, axisAt}
+use Rattle.stepform.specs.declared.Axis.{Axis}
+use Rattle.stepform.proofs.Axis as T
+use Rattle.stepform.proofs.Axis.Laws as T′
 use Rattle.axes.proofs.axis_at.Key.{name as #axes·axis-at}
 use Rattle.axes.proofs.axis_at as f
 use Rattle.axes.proofs.axis_at.Statement as stated

@@ -1,6 +1,6 @@
 -- `axes::axis_finite` meets its contract. Assumes nothing.
 use borrow.Author.Needs.{needs}
-use Rattle.axes.specs.Axes.{axisFinite}
+use Rattle.stepform.specs.Axes.{axisFinite}
 use Rattle.axes.proofs.axis_finite.Statement.{statement}
 use Rattle.axes.proofs.axis_finite.Tie as tie
 

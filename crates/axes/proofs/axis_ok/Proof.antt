@@ -1,6 +1,6 @@
 -- `axes::axis_ok` meets its contract. Assumes nothing.
 use mathlib.Core.Path.{refl}
-use Rattle.axes.specs.Axes.{axisOk}
+use Rattle.stepform.specs.Axes.{axisOk}
 use Rattle.axes.proofs.axis_ok.Statement.{statement}
 use Rattle.axes.proofs.axis_ok.Tie as tie
 

@@ -46,10 +46,10 @@ use denote.Array.{array-makes, Array, array-lawful}
 use denote.Memory.{pointee}
 use Rattle.lists.specs.Lists.{iter, listed}
 use Rattle.shape.specs.Limits.{mostAxes}
-use Rattle.axes.specs.Axes.{axisAt, blanks, gathered}
-use Rattle.axes.specs.declared.Axis.{Axis}
-use Rattle.axes.proofs.Axis as T
-use Rattle.axes.proofs.Axis.Laws as T′
+use Rattle.stepform.specs.Axes.{axisAt, blanks, gathered}
+use Rattle.stepform.specs.declared.Axis.{Axis}
+use Rattle.stepform.proofs.Axis as T
+use Rattle.stepform.proofs.Axis.Laws as T′
 use Rattle.axes.proofs.blanks as blanks′
 use Rattle.axes.proofs.blanks.Symbol as blanks-def
 use Rattle.axes.proofs.blanks.Symbol.{name as #axes·blanks}

@@ -1,5 +1,5 @@
 -- `bond::finish` meets its contract. Assumes nothing.
-use Rattle.values.proofs.Chosen.{chosen-most, chosen-columns}
+use Rattle.bond.proofs.Chosen.{chosen-most, chosen-columns}
 use Rattle.bond.proofs.Staged.{rest-first, rest-second, rest-whole}
 use borrow.Author.Needs.{needs}
 use Rattle.bond.proofs.finish.Statement.{statement}

@@ -2,7 +2,7 @@
 use native.Mathlib.Omega.{arith}
 use borrow.Author.Needs.{needs}
 use Rattle.bond.proofs.Cores.{row-most, gram-is}
-use Rattle.factors.proofs.Finished.{rows-most}
+use Rattle.bond.proofs.Finished.{rows-most}
 use Rattle.bond.proofs.gram.Statement.{statement}
 use Rattle.bond.proofs.gram.Tie as tie
 

@@ -9,7 +9,7 @@ use lib.Ieee.{Float}
 use Rattle.lists.specs.Lists.{iter}
 use Rattle.lists.proofs.Cells.{exacts}
 use Rattle.lists.proofs.Tables.{fill-all}
-use Rattle.columns.specs.Columns.{dot}
+use Rattle.pairform.specs.Columns.{dot}
 use Rattle.columns.specs.Loops.{squares}
 use Rattle.columns.proofs.square.Statement.{statement}
 use Rattle.columns.proofs.square.Tie as tie

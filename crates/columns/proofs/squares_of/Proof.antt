@@ -7,7 +7,7 @@ use Rattle.numbers.specs.Arithmetic.{plus, times}
 use Rattle.lists.specs.Lists.{iter}
 use Rattle.lists.specs.Floats.{cell, sumOn, sumTo}
 use Rattle.lists.proofs.Cells.{exacts}
-use Rattle.columns.specs.Columns.{dot}
+use Rattle.pairform.specs.Columns.{dot}
 use Rattle.columns.proofs.squares_of.Statement.{statement}
 use Rattle.columns.proofs.squares_of.Tie as tie
 

@@ -2,8 +2,8 @@
 use borrow.Author.Needs.{needs}
 use Prim.Native.Nat.{_-_}
 use mathlib.Core.Path.{_∙_}
-use Rattle.slabs.proofs.Columned.{columns-finite}
-use Rattle.splitting.proofs.Pairs.{pair-stop, pair-end}
+use Rattle.pair.proofs.Columned.{columns-finite}
+use Rattle.pair.proofs.Pairs.{pair-stop, pair-end}
 use Rattle.pair.proofs.pair_of.Statement.{statement}
 use Rattle.pair.proofs.pair_of.Tie as tie
 

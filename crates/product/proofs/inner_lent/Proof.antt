@@ -1,7 +1,7 @@
 -- `product::inner_lent` meets its contract. Assumes nothing.
 use borrow.Author.Needs.{needs}
 use Rattle.lists.proofs.Asked.{lengths-asked}
-use Rattle.product.specs.Call.{innerLent}
+use Rattle.sumform.specs.Call.{innerLent}
 use Rattle.product.proofs.inner_lent.Statement.{statement}
 use Rattle.product.proofs.inner_lent.Tie as tie
 

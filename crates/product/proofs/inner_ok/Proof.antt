@@ -2,7 +2,7 @@
 use borrow.Author.Needs.{needs}
 use Rattle.answers.proofs.Checks.{then-stops, then-passes}
 use Rattle.shape.proofs.Shaped.{fits-sizes}
-use Rattle.product.specs.Call.{innerOk}
+use Rattle.sumform.specs.Call.{innerOk}
 use Rattle.product.proofs.Checks.{chain-long, weights-long}
 use Rattle.product.proofs.inner_ok.Statement.{statement}
 use Rattle.product.proofs.inner_ok.Tie as tie

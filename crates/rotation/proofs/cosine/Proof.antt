@@ -1,6 +1,6 @@
 -- `rotation::cosine` meets its contract. Assumes nothing.
 use borrow.Author.Needs.{needs}
-use Rattle.rotation.specs.Rotation.{cosineOf}
+use Rattle.cutform.specs.Rotation.{cosineOf}
 use Rattle.rotation.proofs.cosine.Statement.{statement}
 use Rattle.rotation.proofs.cosine.Tie as tie
 

@@ -1,6 +1,6 @@
 -- `rotation::slope` meets its contract. Assumes nothing.
 use mathlib.Core.Path.{refl}
-use Rattle.rotation.specs.Rotation.{slopeOf}
+use Rattle.cutform.specs.Rotation.{slopeOf}
 use Rattle.rotation.proofs.slope.Statement.{statement}
 use Rattle.rotation.proofs.slope.Tie as tie
 

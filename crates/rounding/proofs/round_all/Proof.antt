@@ -6,7 +6,7 @@ use mathlib.Core.Path.{_≡_, refl, sym, ap, _∙_}
 use lib.ListN.{length}
 use Rattle.shape.specs.Limits.{mostAxes}
 use Rattle.shape.proofs.Shaped.{shaped}
-use Rattle.walking.specs.declared.Walked.{Walked}
+use Rattle.cuts.specs.declared.Walked.{Walked}
 use Rattle.rounding.proofs.round_all.Statement.{statement}
 use Rattle.rounding.proofs.round_all.Tie as tie
 

@@ -2,8 +2,8 @@
 use borrow.Author.Needs.{needs}
 use mathlib.Core.Path.{ap, _∙_}
 use Rattle.lists.specs.Floats.{zeros}
-use Rattle.kept.specs.Kept.{keptOf}
-use Rattle.kept.specs.Requests.{newCore}
+use Rattle.runform.specs.Kept.{keptOf}
+use Rattle.runform.specs.Requests.{newCore}
 use Rattle.runs.proofs.Replaced.{replace-stops}
 use Rattle.runs.proofs.Accepts.{core-asks, core-asked}
 use Rattle.runs.proofs.Renewals.{core-refused, core-ends}

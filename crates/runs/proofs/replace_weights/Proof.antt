@@ -1,8 +1,8 @@
 -- `runs::replace_weights` meets its contract. Assumes nothing.
 use borrow.Author.Needs.{needs}
 use mathlib.Core.Path.{refl}
-use Rattle.kept.specs.Kept.{keptOf}
-use Rattle.kept.specs.Requests.{newWeights}
+use Rattle.runform.specs.Kept.{keptOf}
+use Rattle.runform.specs.Requests.{newWeights}
 use Rattle.runs.proofs.Replaced.{replace-stops}
 use Rattle.runs.proofs.Reweighed.{weights-lent, weights-worked}
 use Rattle.runs.proofs.replace_weights.Statement.{statement}

@@ -1,6 +1,6 @@
 -- `shift::distance` meets its contract. Assumes nothing.
 use borrow.Author.Needs.{needs}
-use Rattle.shift.specs.Shifts.{distance}
+use Rattle.stepform.specs.Shifts.{distance}
 use Rattle.shift.proofs.distance.Statement.{statement}
 use Rattle.shift.proofs.distance.Tie as tie
 

@@ -1,6 +1,6 @@
 -- `shift::scale` meets its contract. Assumes nothing.
 use borrow.Author.Needs.{needs}
-use Rattle.shift.specs.Shifts.{scaled}
+use Rattle.stepform.specs.Shifts.{scaled}
 use Rattle.shift.proofs.Stored.{entries-stored}
 use Rattle.shift.proofs.scale.Statement.{statement}
 use Rattle.shift.proofs.scale.Tie as tie

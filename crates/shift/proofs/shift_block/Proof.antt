@@ -4,8 +4,8 @@ use mathlib.Core.Path.{_≡_}
 use lib.ListN.{length}
 use Rattle.lists.proofs.Turns.{turns}
 use Rattle.lists.proofs.Over.{tabOver, tabs}
-use Rattle.bands.specs.Starts.{entryIn}
-use Rattle.bands.proofs.Starts.{rooms}
+use Rattle.shift.specs.Starts.{entryIn}
+use Rattle.shift.proofs.Starts.{rooms}
 use Rattle.shift.proofs.shift_block.Statement.{statement}
 use Rattle.shift.proofs.shift_block.Tie as tie
 

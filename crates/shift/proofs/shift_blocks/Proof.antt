@@ -8,7 +8,7 @@ use Rattle.lists.proofs.Cells.{row-end}
 use Rattle.lists.proofs.Turns.{turns}
 use Rattle.lists.proofs.Over.{joinOver, joins-none, joins-more, joins-done}
 use Rattle.lists.proofs.Tables.{length-tab}
-use Rattle.bands.specs.Starts.{entryIn}
+use Rattle.shift.specs.Starts.{entryIn}
 use Rattle.shift.specs.Doubled.{twiceOf, blocksOf}
 use Rattle.shift.proofs.Around.{at-least, part-long, room-for, block-shifted}
 use Rattle.shift.proofs.shift_blocks.Statement.{statement}

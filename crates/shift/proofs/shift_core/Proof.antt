@@ -5,7 +5,7 @@ use native.Mathlib.Nat.{mul-assoc}
 use lib.Seq.{length-take-le}
 use borrow.Author.Needs.{needs}
 use Rattle.lists.proofs.Parts.{parts}
-use Rattle.bands.proofs.Starts.{starts-room}
+use Rattle.shift.proofs.Starts.{starts-room}
 use Rattle.shift.proofs.Around.{blocks-are}
 use Rattle.shift.proofs.Backward.{reach-neg}
 use Rattle.shift.proofs.shift_core.Statement.{statement}

@@ -6,9 +6,9 @@ use lib.Ieee.{Float, le, eq}
 use borrow.Author.Needs.{needs}
 use Rattle.numbers.specs.Arithmetic.{over, zero64}
 use Rattle.lists.specs.Lists.{pick}
-use Rattle.axes.specs.declared.Axis.{Axis}
-use Rattle.shift.specs.declared.Shift.the-variants.{Stay, By}
-use Rattle.shift.specs.Shifts.{distance, spacing, shiftOf}
+use Rattle.stepform.specs.declared.Axis.{Axis}
+use Rattle.stepform.specs.declared.Shift.the-variants.{Stay, By}
+use Rattle.stepform.specs.Shifts.{distance, spacing, shiftOf}
 use Rattle.shift.proofs.shift_of.Statement.{statement}
 use Rattle.shift.proofs.shift_of.Tie as tie
 

@@ -6,7 +6,7 @@ use lib.Ieee.{inFloat}
 use borrow.Author.Needs.{needs}
 use borrow.Author.Tests.{le-leb, lt-leb}
 use Rattle.lists.specs.Lists.{pick}
-use Rattle.shift.specs.Shifts.{spacing}
+use Rattle.stepform.specs.Shifts.{spacing}
 use Rattle.shift.proofs.spacing.Statement.{statement}
 use Rattle.shift.proofs.spacing.Tie as tie
 

@@ -5,7 +5,7 @@ use lib.ListN.{length, length-set}
 use borrow.Author.Needs.{needs}
 use Rattle.lists.proofs.Over.{tabOver, tabs-more}
 use Rattle.shape.specs.Limits.{mostAxes}
-use Rattle.axes.specs.Axes.{axisAt}
+use Rattle.stepform.specs.Axes.{axisAt}
 use Rattle.records.specs.Given.{lentOf}
 use Rattle.records.proofs.Lent.{lent-done}
 use Rattle.records.proofs.given.axes_lent.Statement.{statement}

@@ -1,7 +1,7 @@
 -- `zones::chains::uyavsker_inner_separable` meets its contract. Assumes nothing.
 use borrow.Author.Needs.{needs}
 use Rattle.shape.specs.declared.Shape.{Shape}
-use Rattle.product.specs.Call.{innerCall}
+use Rattle.sumform.specs.Call.{innerCall}
 use Rattle.records.specs.Told.{figureOut}
 use Rattle.zones.proofs.Faces.{passed}
 use Rattle.zones.proofs.chains.uyavsker_inner_separable.Statement.{statement}

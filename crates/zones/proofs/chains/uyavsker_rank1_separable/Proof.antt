@@ -1,7 +1,7 @@
 -- `zones::chains::uyavsker_rank1_separable` meets its contract. Assumes nothing.
 use borrow.Author.Needs.{needs}
 use Rattle.shape.specs.declared.Shape.{Shape}
-use Rattle.starting.specs.Start.{startCall}
+use Rattle.sumform.specs.Start.{startCall}
 use Rattle.zones.proofs.Faces.{starts-as}
 use Rattle.zones.proofs.chains.uyavsker_rank1_separable.Statement.{statement}
 use Rattle.zones.proofs.chains.uyavsker_rank1_separable.Tie as tie

@@ -1,7 +1,7 @@
 -- `zones::chains::uyavsker_tt_round` meets its contract. Assumes nothing.
 use borrow.Author.Needs.{needs}
 use Rattle.shape.specs.declared.Shape.{Shape}
-use Rattle.rounding.specs.Call.{roundCall}
+use Rattle.cutform.specs.Call.{roundCall}
 use Rattle.zones.proofs.Faces.{ends-as}
 use Rattle.zones.proofs.chains.uyavsker_tt_round.Statement.{statement}
 use Rattle.zones.proofs.chains.uyavsker_tt_round.Tie as tie

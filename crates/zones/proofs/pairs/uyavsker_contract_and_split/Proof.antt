@@ -1,7 +1,7 @@
 -- `zones::pairs::uyavsker_contract_and_split` meets its contract. Assumes nothing.
 use borrow.Author.Needs.{needs}
-use Rattle.pair.specs.declared.Sizes.{Sizes}
-use Rattle.pair.specs.Call.{coreOf, pairCall}
+use Rattle.pairform.specs.declared.Sizes.{Sizes}
+use Rattle.pairform.specs.Call.{coreOf, pairCall}
 use Rattle.zones.proofs.Faces.{splits-as}
 use Rattle.zones.proofs.pairs.uyavsker_contract_and_split.Statement.{statement}
 use Rattle.zones.proofs.pairs.uyavsker_contract_and_split.Tie as tie

@@ -2,9 +2,9 @@
 use borrow.Author.Needs.{needs}
 use mathlib.Core.List.{List}
 use Rattle.shape.specs.declared.Shape.{Shape}
-use Rattle.axes.specs.declared.Axis.{Axis}
-use Rattle.stepping.specs.declared.Settings.{Settings}
-use Rattle.kept.specs.Call.{freshCall}
+use Rattle.stepform.specs.declared.Axis.{Axis}
+use Rattle.stepform.specs.declared.Settings.{Settings}
+use Rattle.runform.specs.Call.{freshCall}
 use Rattle.zones.proofs.Replaced.{runs-as}
 use Rattle.zones.proofs.replacing.uyavsker_fresh_run.Statement.{statement}
 use Rattle.zones.proofs.replacing.uyavsker_fresh_run.Tie as tie

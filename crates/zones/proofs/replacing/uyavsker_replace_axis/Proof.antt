@@ -1,8 +1,8 @@
 -- `zones::replacing::uyavsker_replace_axis` meets its contract. Assumes nothing.
 use borrow.Author.Needs.{needs}
-use Rattle.axes.specs.declared.Axis.{Axis}
-use Rattle.kept.specs.declared.Run.{Run}
-use Rattle.kept.specs.Call.{replaceAxisCall}
+use Rattle.stepform.specs.declared.Axis.{Axis}
+use Rattle.runform.specs.declared.Run.{Run}
+use Rattle.runform.specs.Call.{replaceAxisCall}
 use Rattle.zones.proofs.Replaced.{axis-replaced-as}
 use Rattle.zones.proofs.replacing.uyavsker_replace_axis.Statement.{statement}
 use Rattle.zones.proofs.replacing.uyavsker_replace_axis.Tie as tie

@@ -1,7 +1,7 @@
 -- `zones::replacing::uyavsker_replace_core` meets its contract. Assumes nothing.
 use borrow.Author.Needs.{needs}
-use Rattle.kept.specs.declared.Run.{Run}
-use Rattle.kept.specs.Call.{replaceCoreCall}
+use Rattle.runform.specs.declared.Run.{Run}
+use Rattle.runform.specs.Call.{replaceCoreCall}
 use Rattle.zones.proofs.Replaced.{replaces-as}
 use Rattle.zones.proofs.replacing.uyavsker_replace_core.Statement.{statement}
 use Rattle.zones.proofs.replacing.uyavsker_replace_core.Tie as tie

@@ -1,7 +1,7 @@
 -- `zones::replacing::uyavsker_replace_weights` meets its contract. Assumes nothing.
 use borrow.Author.Needs.{needs}
-use Rattle.kept.specs.declared.Run.{Run}
-use Rattle.kept.specs.Call.{replaceWeightsCall}
+use Rattle.runform.specs.declared.Run.{Run}
+use Rattle.runform.specs.Call.{replaceWeightsCall}
 use Rattle.zones.proofs.Replaced.{replaces-as}
 use Rattle.zones.proofs.replacing.uyavsker_replace_weights.Statement.{statement}
 use Rattle.zones.proofs.replacing.uyavsker_replace_weights.Tie as tie

@@ -2,9 +2,9 @@
 use borrow.Author.Needs.{needs}
 use mathlib.Core.List.{List}
 use Rattle.shape.specs.declared.Shape.{Shape}
-use Rattle.axes.specs.declared.Axis.{Axis}
-use Rattle.evolving.specs.declared.Course.{Course}
-use Rattle.stepping.specs.Over.{evolveOver}
+use Rattle.stepform.specs.declared.Axis.{Axis}
+use Rattle.stepform.specs.declared.Course.{Course}
+use Rattle.checks.specs.Over.{evolveOver}
 use Rattle.records.specs.Given.{shapeIn, courseIn}
 use Rattle.zones.proofs.Faces.{steps-as, evolve-lent}
 use Rattle.zones.proofs.steps.uyavsker_evolve.Statement.{statement}

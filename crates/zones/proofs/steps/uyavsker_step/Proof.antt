@@ -2,9 +2,9 @@
 use borrow.Author.Needs.{needs}
 use mathlib.Core.List.{List}
 use Rattle.shape.specs.declared.Shape.{Shape}
-use Rattle.axes.specs.declared.Axis.{Axis}
-use Rattle.stepping.specs.declared.Settings.{Settings}
-use Rattle.stepping.specs.Over.{stepOver}
+use Rattle.stepform.specs.declared.Axis.{Axis}
+use Rattle.stepform.specs.declared.Settings.{Settings}
+use Rattle.checks.specs.Over.{stepOver}
 use Rattle.records.specs.Given.{shapeIn, settingsIn}
 use Rattle.zones.proofs.Faces.{steps-as, step-lent}
 use Rattle.zones.proofs.steps.uyavsker_step.Statement.{statement}

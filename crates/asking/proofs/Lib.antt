@@ -1,3 +1,0 @@
-pub mod Bonded
-pub mod Fronts
-pub mod Guards

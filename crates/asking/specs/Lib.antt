@@ -1,3 +1,0 @@
-pub mod Ranks
-pub mod Rooms
-pub mod Slices

@@ -1,0 +1,26 @@
+-- `bond::sweeps::jacobi_sweep` meets its contract. Assumes nothing.
+use Prim.Native.Nat.{_-_, _≤_}
+use mathlib.Core.Path.{_≡_}
+use lib.ListN.{length}
+use Rattle.lists.specs.Walks.{turning}
+use Rattle.lists.proofs.Turns.{turns}
+use Rattle.cutform.specs.Sweeps.{eig, sweep}
+use Rattle.bond.specs.SweepRows.{sweepRow}
+use Rattle.lists.proofs.Stages.{stagings}
+use Rattle.bond.proofs.Swept.{sweep-rows}
+use Rattle.bond.proofs.sweeps.jacobi_sweep.Statement.{statement}
+use Rattle.bond.proofs.sweeps.jacobi_sweep.Tie as tie
+
+abbrev Inv-loop : tie.InvT-loop
+Inv-loop g₀ v₀ n p₀ g v p = (p ≤ n) × (length g ≡ length g₀) × (length v ≡ length v₀) × (sweep n (eig g₀ v₀) ≡ turning (n - p) p (sweepRow n) (eig g v))
+
+abbrev μ-loop : tie.MeasureT-loop
+μ-loop g₀ v₀ n p₀ g v p = n - p
+
+pub jacobi-sweep-spec : {M : Type 1} → statement M
+jacobi-sweep-spec =
+    tie.close
+    (tie.spec Inv-loop μ-loop (λ c. search (turns, sweep-rows)) (λ c κs. search (turns, stagings)) (λ c. search (turns, stagings))
+    (λ c. search (turns, stagings)) (λ c. search (turns, stagings)) (λ c. search (turns, stagings)) (λ c. search (turns, stagings))
+    (λ c. search (turns, stagings)) (λ c. search (turns, stagings)) (λ c. search (turns, stagings)) (λ c. search (turns, stagings))
+    (λ c. search (turns, stagings)) (λ c. search (turns, stagings)))

@@ -1,0 +1,20 @@
+-- `chainfile::contents::body_size` meets its contract. Assumes nothing.
+use borrow.Author.Needs.{needs}
+use Rattle.chainfile.proofs.Headers.{bodies}
+use Rattle.chainfile.proofs.contents.body_size.Statement.{statement}
+use Rattle.chainfile.proofs.contents.body_size.Tie as tie
+
+ruleset ways = (needs, bodies)
+
+pub body-size-spec : {M : Type 1} → statement M
+body-size-spec = tie.close (tie.spec
+    (λ c. search ways)
+    (λ c. search ways)
+    (λ c. search ways)
+    (λ c. search ways)
+    (λ c. search ways)
+    (λ c. search ways)
+    (λ c. search ways)
+    (λ c. search ways)
+    (λ c. search ways)
+    (λ c. search ways))

@@ -1,0 +1,19 @@
+-- `chainfile::contents::header_ok` meets its contract. Assumes nothing.
+use borrow.Author.Needs.{needs}
+use Rattle.chainfile.proofs.Headers.{headed}
+use Rattle.chainfile.proofs.contents.header_ok.Statement.{statement}
+use Rattle.chainfile.proofs.contents.header_ok.Tie as tie
+
+ruleset ways = (needs, headed)
+
+pub header-ok-spec : {M : Type 1} → statement M
+header-ok-spec = tie.close (tie.spec
+    (λ c. search ways)
+    (λ c κs. search ways)
+    (λ c. search ways)
+    (λ c κs. search ways)
+    (λ c. search ways)
+    (λ c κs. search ways)
+    (λ c κs. search ways)
+    (λ c. search ways)
+    (λ c. search ways))

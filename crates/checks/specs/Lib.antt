@@ -1,0 +1,2 @@
+-- what the inner functions cite
+pub mod Over

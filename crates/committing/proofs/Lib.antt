@@ -1,4 +1,0 @@
--- for the code
-pub mod Copied
--- slots
-pub mod Committed

@@ -1,3 +1,0 @@
--- header and table
-pub mod Headers
-pub mod Tables

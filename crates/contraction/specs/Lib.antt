@@ -1,2 +1,0 @@
-pub mod Contract
-pub mod Loops

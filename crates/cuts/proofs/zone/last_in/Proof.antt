@@ -1,0 +1,15 @@
+-- `cuts::last_in` meets its contract. Assumes nothing.
+use borrow.Author.Needs.{needs}
+use Rattle.cuts.proofs.Zoned.{sizes}
+use Rattle.cuts.proofs.zone.last_in.Statement.{statement}
+use Rattle.cuts.proofs.zone.last_in.Tie as tie
+
+ruleset ways = (needs, sizes)
+
+pub last-in-spec : {M : Type 1} → statement M
+last-in-spec = tie.close (tie.spec
+    (λ c. search ways)
+    (λ c. search ways)
+    (λ c κs. search ways)
+    (λ c. search ways)
+    (λ c. search ways))

@@ -1,0 +1,2 @@
+pub mod ZoneSlots
+pub mod Slots

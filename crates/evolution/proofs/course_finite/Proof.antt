@@ -1,0 +1,14 @@
+-- `evolution::course_finite` meets its contract. Assumes nothing.
+use borrow.Author.Needs.{needs}
+use Rattle.evolution.proofs.course_finite.Statement.{statement}
+use Rattle.evolution.proofs.course_finite.Tie as tie
+
+returns : tie.Need-returns
+returns c = cc
+
+pub course-finite-spec : {M : Type 1} → statement M
+course-finite-spec = tie.close (tie.spec
+    (λ c κs. search needs)
+    (λ c κs. search needs)
+    (λ c κs. search needs)
+    returns)

@@ -1,0 +1,14 @@
+-- `evolution::course_mild` meets its contract. Assumes nothing.
+use borrow.Author.Needs.{needs}
+use Rattle.evolution.proofs.course_mild.Statement.{statement}
+use Rattle.evolution.proofs.course_mild.Tie as tie
+
+returns : tie.Need-returns
+returns c = cc
+
+pub course-mild-spec : {M : Type 1} → statement M
+course-mild-spec = tie.close (tie.spec
+    (λ c κs. search needs)
+    (λ c κs. search needs)
+    (λ c κs. search needs)
+    returns)

@@ -1,0 +1,33 @@
+-- `evolution::work` meets its contract. Assumes nothing.
+use borrow.Author.Needs.{needs}
+use Rattle.evolution.proofs.Calls.{came-inside, ok-sizes, finished-as, work-done}
+use native.Mathlib.Omega.{arith}
+use Rattle.evolution.proofs.work.Statement.{statement}
+use Rattle.evolution.proofs.work.Tie as tie
+
+finish-requires : tie.Need-finish-requires
+finish-requires c κs =
+    let at-4 = c .before .before .before .before in
+    let at-9 = at-4 .before .before .before .before .before in (
+      ok-sizes _ (at-9 .pre .0 .0),
+      (
+        came-inside _ _ _ _ _ _ _ _ (at-4 .stepped .ensures),
+        omega (arith, at-9 .pre .1 .0),
+        omega
+            (arith, at-9 .pre .1 .1, at-4 .stepped .kept .1 .1 .1 .1 .1 .0),
+      ),
+    )
+
+returns : tie.Need-returns
+returns c =
+    let at-9 = c .before .before .before .before .before .before .before .before .before in
+    work-done _ _ _ _ _ _ _ _ _ _ _ (at-9 .stepped .kept .1 .1 .1 .1 .1 .0) (at-9 .stepped .ensures)
+    (finished-as _ _ _ _ _ (c .before .before .before .before .finish .ensures))
+
+pub work-spec : {M : Type 1} → statement M
+work-spec = tie.close (tie.spec
+    (λ c κs. search needs)
+    finish-requires
+    (λ c. search needs)
+    (λ c. search needs)
+    returns)

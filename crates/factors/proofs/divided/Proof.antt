@@ -1,9 +1,0 @@
--- `factors::divided` meets its contract. Assumes nothing.
-use mathlib.Core.Path.{refl}
-use Rattle.cutform.specs.Factors.{divided}
-use Rattle.factors.proofs.divided.Statement.{statement}
-use Rattle.factors.proofs.divided.Tie as tie
-
-pub divided-spec : {M : Type 1} → statement M
-unfolding divided
-divided-spec = tie.close (tie.spec (λ c. refl))

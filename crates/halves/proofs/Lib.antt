@@ -1,2 +1,0 @@
--- for the code: both cores, stage by stage
-pub mod Formed

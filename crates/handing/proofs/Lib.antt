@@ -1,2 +1,0 @@
--- slots taken in, and where a commit starts
-pub mod Taken

@@ -1,9 +1,0 @@
--- `measuring::not_below_zero` meets its contract. Assumes nothing.
-use mathlib.Core.Path.{refl}
-use Rattle.measuring.specs.Asked.{notBelowZero}
-use Rattle.measuring.proofs.not_below_zero.Statement.{statement}
-use Rattle.measuring.proofs.not_below_zero.Tie as tie
-
-pub not-below-zero-spec : {M : Type 1} → statement M
-unfolding notBelowZero
-not-below-zero-spec = tie.close (tie.spec (λ c. refl))

@@ -1,8 +1,0 @@
--- `measuring::round_finite` meets its contract. Assumes nothing.
-use borrow.Author.Needs.{needs}
-use Rattle.measuring.proofs.Verdicts.{finite-found}
-use Rattle.measuring.proofs.round_finite.Statement.{statement}
-use Rattle.measuring.proofs.round_finite.Tie as tie
-
-pub round-finite-spec : {M : Type 1} → statement M
-round-finite-spec = tie.close (tie.spec (λ c κs. search needs) (λ c. search (needs, finite-found)) (λ c κs. search needs) (λ c. search (needs, finite-found)) (λ c. search (needs, finite-found)))

@@ -1,2 +1,0 @@
-pub mod Everys
-pub mod Passes

@@ -1,0 +1,66 @@
+-- `pair::parts::cut` meets its contract. Assumes nothing.
+use borrow.Author.Needs.{needs}
+use Prim.Native.Nat.{_-_}
+use mathlib.Core.Path.{_∙_, sym, ap}
+use native.Mathlib.Nat.{mul-le-mul, le-trans}
+use Rattle.cutform.specs.Values.{keptRank}
+use Rattle.pair.proofs.Kept.{rank-within, kept-columns, lent-end, lent-again, lent-some}
+use Rattle.pair.proofs.Formed.{cut-wide, cut-end}
+use Rattle.pair.proofs.parts.cut.Statement.{statement}
+use Rattle.pair.proofs.parts.cut.Tie as tie
+
+returns : tie.Need-returns
+returns c =
+    let at-4 = c .before .before .before .before in
+    rw (c .refused-pair .ensures)
+    (cut-wide _ _ _ _ _ _ _ (at-4 .ranked .ensures .0) (at-4 .ranked .ensures .1) _ (at-4 .ranked .ensures .2) (c .before .if1 .taken) _)
+
+part-form-end : tie.Need-part-form-end
+part-form-end c = lent-end _ (c .before .before .before .before .ranked .last .1 .1 .1 .1 .0) _ _ (c .before .before .ss2 .given) (c .before .before .before .before .before .before .before .before .before .before .before .before .pre .0 .columns)
+
+part-form-end-2 : tie.Need-part-form-end-2
+part-form-end-2 c =
+    lent-end _ (c .before .before .before .before .before .before .ranked .last .1 .1 .1 .0) _ _ (c .before .before .before .before .before .js2 .given)
+    (c .before .before .before .before .before .before .before .before .before .before .before .before .before .before .pre .0 .columns)
+
+form-requires : tie.Need-form-requires
+form-requires c κs =
+    let ordered = lent-again _ (c .before .before .before .before .before .before .before .before .before .ranked .last .1 .1 .1 .0) _ _ (c .before .before .before .before .before .before .before .before .js2 .given) (c .before .before .before .before .before .before .before .before .before .before .before .before .before .before .before .before .before .pre .0 .columns) ∙ c .before .before .before .before .before .before .before .before .before .ranked .ensures .0 in
+    let most = rank-within _ _ _ _ (c .before .before .before .before .before .before .before .before .before .ranked .ensures .2) (c .before .before .before .before .before .before .before .before .before .before .before .before .before .before .before .before .before .pre .0 .some) in (
+      c .before .before .before .before .before .before .before .before .before .before .before .before .before .before .before .before .before .pre .1,
+      c .before .before .before .before .before .before .before .before .before .before .before .before .before .before .before .before .before .pre .2,
+      lent-some _ (c .before .before .before .before .before .before .before .before .before .ranked .last .1 .1 .1 .0) _ _ (c .before .before .before .before .before .before .before .before .js2 .given) (c .before .before .before .before .before .before .before .before .before .before .before .before .before .before .before .before .before .pre .0 .columns) _ most,
+      kept-columns _ _ (c .before .before .before .before .before .before .before .before .before .before .before .before .before .before .before .before .before .pre .3) (c .before .before .before .before .before .before .before .before .before .before .before .before .before .before .before .before .before .pre .4) _ ordered _ most,
+      lent-some _ (c .before .before .before .before .before .before .before .before .before .ranked .last .1 .1 .1 .1 .0) _ _ (c .before .before .before .before .before .before .before .ss2 .given) (c .before .before .before .before .before .before .before .before .before .before .before .before .before .before .before .before .before .pre .0 .columns) _ most,
+      le-trans (mul-le-mul (c .before .before .before .before .before .before .before .before .before .before .before .before .before .before .before .before .before .pre .0 .rows) (c .before .before .before .before .before .before .if1 .left)) (c .before .before .before .before .before .before .before .before .before .before .before .before .before .before .before .before .before .pre .5),
+      le-trans (mul-le-mul (c .before .before .before .before .before .before .if1 .left) (c .before .before .before .before .before .before .before .before .before .before .before .before .before .before .before .before .before .pre .0 .columns)) (c .before .before .before .before .before .before .before .before .before .before .before .before .before .before .before .before .before .pre .6),
+    )
+
+returns-2 : tie.Need-returns-2
+returns-2 c =
+    let ordered = lent-again _ (c .before .before .before .before .before .before .before .before .before .before .before .before .before .before .before .ranked .last .1 .1 .1 .0) _ _ (c .before .before .before .before .before .before .before .before .before .before .before .before .before .before .js2 .given) (c .before .before .before .before .before .before .before .before .before .before .before .before .before .before .before .before .before .before .before .before .before .before .before .pre .0 .columns) in
+    let values = lent-again _ (c .before .before .before .before .before .before .before .before .before .before .before .before .before .before .before .ranked .last .1 .1 .1 .1 .0) _ _ (c .before .before .before .before .before .before .before .before .before .before .before .before .before .ss2 .given) (c .before .before .before .before .before .before .before .before .before .before .before .before .before .before .before .before .before .before .before .before .before .before .before .pre .0 .columns) in
+    rw (c .paired-as .ensures) (cut-end _ _ _ _ _ _ _ (ordered ∙ c .before .before .before .before .before .before .before .before .before .before .before .before .before .before .before .ranked .ensures .0) (values ∙ c .before .before .before .before .before .before .before .before .before .before .before .before .before .before .before .ranked .ensures .1) _ (c .before .before .before .before .before .before .before .before .before .before .before .before .before .before .before .ranked .ensures .2 ∙ ap (keptRank _ _) (sym values)) (c .before .before .before .before .before .before .before .before .before .before .before .before .if1 .left) _ _ (c .before .before .before .before .before .form .ensures))
+
+pub cut-spec : {M : Type 1} → statement M
+cut-spec = tie.close (tie.spec
+    (λ c. search needs)
+    (λ c. search needs)
+    (λ c. search needs)
+    (λ c. search needs)
+    (λ c. search needs)
+    (λ c. search needs)
+    (λ c κs. search needs)
+    (λ c κs. search needs)
+    returns
+    (λ c. search needs)
+    (λ c. search needs)
+    part-form-end
+    (λ c. search needs)
+    (λ c. search needs)
+    part-form-end-2
+    form-requires
+    (λ c κs. search needs)
+    (λ c. search needs)
+    (λ c. search needs)
+    returns-2)

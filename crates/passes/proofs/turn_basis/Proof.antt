@@ -1,0 +1,15 @@
+-- `passes::turn_basis` meets its contract: by its plan the basis stays or is turned. Assumes nothing.
+use borrow.Author.Needs.{needs}
+use Prim.Native.Nat.{_-_}
+use Rattle.passes.proofs.Spun.{by-none, by-turn}
+use Rattle.passes.proofs.turn_basis.Statement.{statement}
+use Rattle.passes.proofs.turn_basis.Tie as tie
+
+ruleset ways = (needs, by-none, by-turn)
+
+pub turn-basis-spec : {M : Type 1} → statement M
+turn-basis-spec = tie.close (tie.spec
+    (λ c. search ways)
+    (λ c κs. search needs)
+    (λ c. search needs)
+    (λ c. search ways))

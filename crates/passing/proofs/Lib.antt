@@ -1,2 +1,0 @@
--- for the code: rotations, passes
-pub mod Rotated

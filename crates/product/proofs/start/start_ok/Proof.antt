@@ -1,0 +1,18 @@
+-- `product::start::start_ok` meets its contract. Assumes nothing.
+use borrow.Author.Needs.{needs}
+use Rattle.answers.proofs.Checks.{then-stops, then-passes}
+use Rattle.sumform.specs.Start.{startOk}
+use Rattle.product.proofs.Starts.{sized-points, vectors-long}
+use Rattle.product.proofs.start.start_ok.Statement.{statement}
+use Rattle.product.proofs.start.start_ok.Tie as tie
+
+pub start-ok-spec : {M : Type 1} → statement M
+unfolding startOk
+start-ok-spec =
+    tie.close
+    (tie.spec (λ c κs. search (needs, then-stops, then-passes, sized-points, vectors-long))
+    (λ c. search (needs, then-stops, then-passes, sized-points, vectors-long)) (λ c. search (needs, then-stops, then-passes, sized-points, vectors-long))
+    (λ c. search (needs, then-stops, then-passes, sized-points, vectors-long)) (λ c κs. search (needs, then-stops, then-passes, sized-points, vectors-long))
+    (λ c. search (needs, then-stops, then-passes, sized-points, vectors-long)) (λ c. search (needs, then-stops, then-passes, sized-points, vectors-long))
+    (λ c. search (needs, then-stops, then-passes, sized-points, vectors-long)) (λ c κs. search (needs, then-stops, then-passes, sized-points, vectors-long))
+    (λ c. search (needs, then-stops, then-passes, sized-points, vectors-long)))

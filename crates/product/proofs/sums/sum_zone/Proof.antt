@@ -1,0 +1,46 @@
+-- `product::sums::sum_zone` meets its contract. Assumes nothing.
+use borrow.Author.Needs.{needs}
+use Rattle.product.proofs.sums.sum_zone.Reads as reads
+use Rattle.product.proofs.sums.sum_zone.Lts as lts
+use Rattle.product.proofs.sums.axis_sums.Reads as axis-sums-reads
+use Rattle.product.proofs.sums.keep_sums.Reads as keep-sums-reads
+use Rattle.product.proofs.sums.left_sums.Reads as left-sums-reads
+use Rattle.product.proofs.Slotted.{left-asks, own-asks}
+use Rattle.product.proofs.Turning.{turn-stops, turn-keeps}
+use mathlib.Core.Path.{_≡_}
+use Prim.Native.Nat.{_-_}
+use native.Mathlib.Omega.{arith}
+use Rattle.answers.specs.declared.Stage.the-variants.{Whole}
+use Rattle.product.proofs.sums.sum_zone.Statement.{statement}
+use Rattle.product.proofs.sums.sum_zone.Tie as tie
+
+left-sums-requires : tie.Need-left-sums-requires
+left-sums-requires c κs = let i = c .before .before .before .before .before .before in let a = left-asks _ _ _ _ _ (i .pre .2) (i .pre .0) in (i .pre .2 .within, (i .pre .0, i .pre .1, a .0, a .1, a .2, a .3))
+
+returns : tie.Need-returns
+returns c = let i = c .before .before .before .before .before .before .before .before .before .before .before .before .before .before in turn-stops _ _ (i .pre .2 .inside) _ _ _ _ _ _ _ (c .before .before .before .before .before .before .before .left-sums .ensures) (c .before .before .before .before .axis-sums .ensures) _ (c .before .stage .given .1) _
+
+keep-sums-requires : tie.Need-keep-sums-requires
+keep-sums-requires c κs = let i = c .before .before .before .before .before .before .before .before .before .before .before .before .before .before .before .before in let a = own-asks _ _ _ _ _ (i .pre .2) (i .pre .0) in (i .pre .2 .within, (i .pre .0, i .pre .1, omega (arith, a .0, c .before .before .before .before .before .before .axis-sums .kept .1 .1 .1 .1 .1 .0, c .before .before .before .before .before .before .before .before .before .left-sums .kept .1 .1 .1 .1 .0), a .1))
+
+returns-2 : tie.Need-returns-2
+returns-2 c = let i = c .before .before .before .before .before .before .before .before .before .before .before .before .before .before .before .before .before .before .before in let h : c .before .before .before .before .before .before .before .before .before .axis-sums .result ≡ Whole = search needs in turn-keeps _ _ (i .pre .2 .inside) _ _ _ _ _ _ _ (c .before .before .before .before .before .before .before .before .before .before .before .before .left-sums .ensures) (c .before .before .before .before .before .before .before .before .before .axis-sums .ensures) h _ (c .before .before .keep-sums .ensures)
+
+pub sum-zone-spec : {M : Type 1} → statement M
+sum-zone-spec = tie.close (tie.spec
+    (λ c. search needs)
+    (λ c. search needs)
+    (λ c. search needs)
+    left-sums-requires
+    (λ c. search needs)
+    (λ c κs. search needs)
+    (λ c. search needs)
+    (λ c. search needs)
+    returns
+    (λ c. search needs)
+    (λ c. search needs)
+    (λ c. search needs)
+    (λ c. search needs)
+    keep-sums-requires
+    (λ c. search needs)
+    returns-2)

@@ -1,4 +1,0 @@
-pub mod Backward
--- for the code: plans, and rotations by them
-pub mod Spun
-pub mod InStep

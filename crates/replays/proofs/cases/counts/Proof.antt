@@ -1,0 +1,26 @@
+-- `replays::cases::counts` meets its contract. Assumes nothing.
+use Prim.Native.Nat.{_-_, _≤_}
+use Rattle.shape.specs.Limits.{mostAxes}
+use borrow.Author.Needs.{needs}
+use Rattle.replays.proofs.cases.counts.Statement.{statement}
+use Rattle.replays.proofs.cases.counts.Tie as tie
+
+abbrev Inv-loop : tie.InvT-loop
+Inv-loop list n all₀ k₀ all k = k ≤ mostAxes
+
+abbrev μ-loop : tie.MeasureT-loop
+μ-loop list n all₀ k₀ all k = mostAxes - k
+
+pub counts-spec : {M : Type 1} → statement M
+counts-spec = tie.close (tie.spec
+    Inv-loop
+    μ-loop
+    (λ c κs. search needs)
+    (λ c. search needs)
+    (λ c. search needs)
+    (λ c. search needs)
+    (λ c κs. search needs)
+    (λ c. search needs)
+    (λ c. search needs)
+    (λ c. search needs)
+    (λ c. search needs))

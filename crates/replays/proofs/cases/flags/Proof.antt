@@ -1,0 +1,25 @@
+-- `replays::cases::flags` meets its contract. Assumes nothing.
+use Prim.Native.Nat.{_-_, _≤_}
+use Rattle.shape.specs.Limits.{mostAxes}
+use borrow.Author.Needs.{needs}
+use Rattle.replays.proofs.cases.flags.Statement.{statement}
+use Rattle.replays.proofs.cases.flags.Tie as tie
+
+abbrev Inv-loop : tie.InvT-loop
+Inv-loop list n all₀ k₀ all k = k ≤ mostAxes
+
+abbrev μ-loop : tie.MeasureT-loop
+μ-loop list n all₀ k₀ all k = mostAxes - k
+
+pub flags-spec : {M : Type 1} → statement M
+flags-spec = tie.close (tie.spec
+    Inv-loop
+    μ-loop
+    (λ c κs. search needs)
+    (λ c. search needs)
+    (λ c. search needs)
+    (λ c κs. search needs)
+    (λ c. search needs)
+    (λ c. search needs)
+    (λ c. search needs)
+    (λ c. search needs))

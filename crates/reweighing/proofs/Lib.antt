@@ -1,3 +1,0 @@
--- what goes where, and the end
-pub mod Placed
-pub mod Ended

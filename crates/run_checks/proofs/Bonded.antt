@@ -1,0 +1,128 @@
+-- The kept ranks by what code finds, and the shape by them. Assumes nothing.
+use mathlib.Core.Path.{_≡_, refl, sym, ap, _∙_, subst}
+use Prim.Native.Nat.{ℕ, zero, suc, _+_, _-_, _≤_, _<_}
+use native.Mathlib.Nat.{le-refl}
+use native.Mathlib.Omega.{arith}
+use mathlib.Core.Bool.{Bool, true, false, cond, _&&_}
+use mathlib.Core.List.{List, []}
+use lib.Dec.{ltb, eqb}
+use lib.ListN.{length, getD, length-set}
+use Rattle.answers.specs.Outcome.{done, _then_, demand, demandEach}
+use Rattle.answers.specs.declared.Refusal.the-variants.{Axes, Size, Bond}
+use Rattle.answers.proofs.Checks.{then-is, each-is}
+use Rattle.lists.proofs.Tests.{ltb-yes, ltb-no, ltb-is, ltb-not, both, eqb-is, eqb-not}
+use Rattle.shape.specs.declared.Shape.{Shape}
+use Rattle.shape.specs.Limits.{mostAxes, mostPoints, within}
+use Rattle.shape.specs.Shapes.{leftOf, rightOf, sizeOk, bondOk, shapeOk}
+use Rattle.shape.specs.Sizes.{Inside}
+use Rattle.shape.specs.Cores.{Core, coreWith, withCore}
+use Rattle.shape.proofs.Shaped.{Shaped, shaped, within-is}
+use Rattle.shape.proofs.Ranks.{left-other, right-other, left-here, right-here}
+use Rattle.run_checks.specs.Ranks.{rankHeld, leftHeld, rightHeld, Ranked}
+
+module _ (s : Shape) (ranks : List ℕ) (k : ℕ) where
+  pub rank-bond : k + 1 < s .d → (b : Bool) → b ≡ within (rightOf s k) (getD ranks k 0) → b ≡ rankHeld s ranks k
+  unfolding rankHeld
+  rank-bond l b e = e ∙ sym (ap (λ (x : Bool). cond x (within (rightOf s k) (getD ranks k 0)) true) (ltb-yes (suc k) (s .d) (omega arith)))
+
+  pub rank-end : s .d ≤ k + 1 → true ≡ rankHeld s ranks k
+  unfolding rankHeld
+  rank-end l = sym (ap (λ (x : Bool). cond x (within (rightOf s k) (getD ranks k 0)) true) (ltb-no (suc k) (s .d) (omega arith)))
+
+  pub right-bond : k + 1 < s .d → getD ranks k 0 ≡ rightHeld s ranks k
+  right-bond l = sym (ap (λ (x : Bool). cond x (getD ranks k 0) (rightOf s k)) (ltb-yes (suc k) (s .d) (omega arith)))
+
+  pub right-end : s .d ≤ k + 1 → rightOf s k ≡ rightHeld s ranks k
+  right-end l = sym (ap (λ (x : Bool). cond x (getD ranks k 0) (rightOf s k)) (ltb-no (suc k) (s .d) (omega arith)))
+
+pub left-first : (ranks : List ℕ) (k : ℕ) → k < 1 → 1 ≡ leftHeld ranks k
+left-first ranks zero l = refl
+left-first ranks (suc k) l = let z : ⊥ = omega arith in absurd z
+
+pub left-next : (ranks : List ℕ) (k : ℕ) → 1 ≤ k → getD ranks (k - 1) 0 ≡ leftHeld ranks k
+left-next ranks zero l = let z : ⊥ = omega arith in absurd z
+left-next ranks (suc k) l = let e : suc k - 1 ≡ k = omega arith in ap (λ (j : ℕ). getD ranks j 0) e
+
+pub both-found : (a b p q : Bool) → a ≡ p → b ≡ q → (a && b) ≡ (p && q)
+both-found a b p q e f = ap (λ (x : Bool). x && b) e ∙ ap (λ (x : Bool). p && x) f
+
+-- ---- the shape, core by core
+pub ranked-none : (s : Shape) (ranks : List ℕ) → length (s .left) ≡ mostAxes → length (s .right) ≡ mostAxes → Ranked s ranks s 0
+ranked-none s ranks a b = record {
+  axes = refl;
+  points = refl;
+  left = λ k l. let z : ⊥ = omega arith in absurd z;
+  right = λ k l. let z : ⊥ = omega arith in absurd z;
+  lefts = a;
+  rights = b;
+}
+
+pub ranked-more : (s : Shape) (ranks : List ℕ) (t : Shape) (k l r n : ℕ) (t' : Shape) → s .d ≤ mostAxes → k < s .d → Ranked s ranks t k → l ≡ leftHeld ranks k → r ≡ rightHeld s ranks k → t' ≡ withCore t k (coreWith l n r []) → Ranked s ranks t' (k + 1)
+ranked-more s ranks t k l r n t' few lt R e f g = subst (λ (x : Shape). Ranked s ranks x (k + 1)) (sym g) (record {
+  axes = R .axes;
+  points = R .points;
+  left = λ j m. here (eqb j k) refl m (λ q. ap (leftOf new) q ∙ left-here t k c (omega (arith, R .lefts)) ∙ e ∙ ap (leftHeld ranks) (sym q)) (λ q o. left-other t k c j q ∙ R .left j o);
+  right = λ j m. here (eqb j k) refl m (λ q. ap (rightOf new) q ∙ right-here t k c (omega (arith, R .rights)) ∙ f ∙ ap (rightHeld s ranks) (sym q)) (λ q o. right-other t k c j q ∙ R .right j o);
+  lefts = length-set (t .left) k l ∙ R .lefts;
+  rights = length-set (t .right) k r ∙ R .rights;
+})
+  where
+    c : Core
+    c = coreWith l n r []
+
+    new : Shape
+    new = withCore t k c
+
+    here : {P : Type 0} {j : ℕ} (b : Bool) → eqb j k ≡ b → j < k + 1 → (j ≡ k → P) → ((j ≡ k → ⊥) → j < k → P) → P
+    here true q m x y = x (eqb-is _ k q)
+    here false q m x y = let o = eqb-not _ k q in y o (omega arith)
+
+pub ranked-all : (s : Shape) (ranks : List ℕ) (t : Shape) (k : ℕ) → Ranked s ranks t k → s .d ≤ k → Ranked s ranks t (s .d)
+ranked-all s ranks t k R l = record { axes = R .axes; points = R .points; left = λ j m. R .left j (omega arith); right = λ j m. R .right j (omega arith); lefts = R .lefts; rights = R .rights }
+
+bonds-pass : (s : Shape) (kept : ℕ → Bool) → shapeOk s kept ≡ done tt → demandEach Bond (λ (k : ℕ). bondOk s k && kept k) (s .d) 0 ≡ done tt
+unfolding shapeOk
+bonds-pass s kept ok =
+    let ends = demand (eqb (leftOf s 0) 1) (Bond 0) then demandEach Bond (λ (k : ℕ). bondOk s k && kept k) (s .d) 0 in
+    let a = then-is (demand (within mostAxes (s .d)) Axes) (demandEach Size (sizeOk s) (s .d) 0 then ends) tt ok in
+    let b = then-is (demandEach Size (sizeOk s) (s .d) 0) ends tt (a .1) in
+    then-is (demand (eqb (leftOf s 0) 1) (Bond 0)) (demandEach Bond (λ (k : ℕ). bondOk s k && kept k) (s .d) 0) tt (b .1) .1
+
+-- ---- a run whose shape and ranks pass has a chain that stands in the room of its source
+module _ (s : Shape) (ranks : List ℕ) (ok : shapeOk s (rankHeld s ranks) ≡ done tt) where
+  abbrev shp : Shaped s
+  shp = shaped s (rankHeld s ranks) ok
+
+  rank-within : (k : ℕ) → k + 1 < s .d → (1 ≤ getD ranks k 0) × (getD ranks k 0 ≤ rightOf s k)
+  rank-within k l =
+      let h = both (bondOk s k) (rankHeld s ranks k) (each-is Bond (λ (i : ℕ). bondOk s i && rankHeld s ranks i) (s .d) 0 (bonds-pass s (rankHeld s ranks) ok) k (omega arith) (omega arith)) .1 in
+      within-is (rightOf s k) (getD ranks k 0) (rank-bond s ranks k l (within (rightOf s k) (getD ranks k 0)) refl ∙ h)
+
+  right-within : (k : ℕ) → k < s .d → (1 ≤ rightHeld s ranks k) × (rightHeld s ranks k ≤ rightOf s k)
+  right-within k l = go (ltb (k + 1) (s .d)) refl
+    where
+      go : (b : Bool) → ltb (k + 1) (s .d) ≡ b → (1 ≤ rightHeld s ranks k) × (rightHeld s ranks k ≤ rightOf s k)
+      go true e = let m = ltb-is (k + 1) (s .d) e in subst (λ (x : ℕ). (1 ≤ x) × (x ≤ rightOf s k)) (right-bond s ranks k m) (rank-within k m)
+      go false e = let m = ltb-not (k + 1) (s .d) e in subst (λ (x : ℕ). (1 ≤ x) × (x ≤ rightOf s k)) (right-end s ranks k m) (shp .right k l, le-refl (rightOf s k))
+
+  left-within : (k : ℕ) → k < s .d → (1 ≤ leftHeld ranks k) × (leftHeld ranks k ≤ leftOf s k)
+  left-within zero l = (le-refl 1, omega (arith, shp .first))
+  left-within (suc k) l = let r = rank-within k (omega arith) in (r .0, omega (arith, r .1, shp .joins k l))
+
+  pub ranked-inside : (t : Shape) → Ranked s ranks t (s .d) → Inside s t
+  ranked-inside t R =
+      let a = R .axes in
+      record {
+        sizes = record {
+          axes = record { least = omega (arith, shp .least); most = omega (arith, shp .most); points = λ k l. subst (λ (x : List ℕ). (1 ≤ getD x k 0) × (getD x k 0 ≤ mostPoints)) (sym (R .points)) (shp .sizes .axes .points k (omega arith)) };
+          left = λ k l. let h : k < s .d = omega arith in let w = left-within k h in let e = R .left k h in (omega (arith, w .0), omega (arith, w .1, shp .sizes .left k h .1));
+          right = λ k l. let h : k < s .d = omega arith in let w = right-within k h in let e = R .right k h in (omega (arith, w .0), omega (arith, w .1, shp .sizes .right k h .1));
+        };
+        axes = R .axes;
+        points = R .points;
+        left = λ k l. let w = left-within k l in let e = R .left k l in omega (arith, w .1);
+        right = λ k l. let w = right-within k l in let e = R .right k l in omega (arith, w .1);
+        joins = λ k l. R .right k (omega arith) ∙ sym (right-bond s ranks k (omega arith)) ∙ sym (R .left (suc k) l);
+        first = R .left 0 (omega (arith, shp .least));
+        last = λ k l. R .right k (omega arith) ∙ sym (right-end s ranks k (omega arith)) ∙ shp .last k l;
+      }

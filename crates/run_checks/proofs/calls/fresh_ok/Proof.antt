@@ -1,0 +1,101 @@
+-- `run_checks::calls::fresh_ok` meets its contract. Assumes nothing.
+use borrow.Author.Needs.{needs}
+use native.Mathlib.Omega.{arith}
+use Rattle.answers.proofs.Checks.{verdict-passed}
+use Rattle.shape.proofs.Shaped.{fits-shaped}
+use Rattle.shape.proofs.Offsets.{entries-most}
+use Rattle.run_checks.proofs.Asks.{lent-says}
+use Rattle.run_checks.proofs.Afresh.{shape-stops, lent-stops, scratch-stops, numbers-stop, fresh-fits}
+use Rattle.run_checks.proofs.calls.fresh_ok.Statement.{statement}
+use Rattle.run_checks.proofs.calls.fresh_ok.Tie as tie
+
+returns : tie.Need-returns
+returns c =
+    let i = c .before .before .before .before .before .before in
+    shape-stops (record { shape = i .args .s; axes = i .args .xs; set = i .args .set; source = i .args .source .now; weights = i .args .weights .now })
+    (i .args .chain) (i .args .carries) (i .args .sums) (i .args .scratch) _ (c .before .before .before .check .ensures) _ (c .before .shaped .given .1)
+
+lent-requires : tie.Need-lent-requires
+lent-requires c κs = fits-shaped _ _ _ (c .before .before .check .ensures) (c .enum-told .given .1) .sizes
+
+returns-2 : tie.Need-returns-2
+returns-2 c =
+    let i = c .before .before .before .before .before .before .before .before .before in
+    lent-stops (record { shape = i .args .s; axes = i .args .xs; set = i .args .set; source = i .args .source .now; weights = i .args .weights .now })
+    (i .args .chain) (i .args .carries) (i .args .sums) (i .args .scratch) _ (c .before .before .before .before .before .before .check .ensures)
+    (c .before .before .before .before .enum-told .given .1) _ (c .before .before .before .lent .ensures) _ (c .before .lent2 .given .1)
+
+entries-requires : tie.Need-entries-requires
+entries-requires c κs = fits-shaped _ _ _ (c .before .before .before .before .before .check .ensures) (c .before .before .before .enum-told .given .1) .sizes
+
+mul-if1 : tie.Need-mul-if1
+mul-if1 c = record { fits = omega (arith, c .entries .ensures, entries-most _ (fits-shaped _ _ _ (c .before .before .before .before .before .before .check .ensures) (c .before .before .before .before .enum-told .given .1) .sizes)) }
+
+add-if1 : tie.Need-add-if1
+add-if1 c = record { fits = omega (arith, c .entries .ensures, entries-most _ (fits-shaped _ _ _ (c .before .before .before .before .before .before .check .ensures) (c .before .before .before .before .enum-told .given .1) .sizes)) }
+
+returns-3 : tie.Need-returns-3
+returns-3 c =
+    let i = c .before .before .before .before .before .before .before .before .before .before in
+    scratch-stops (record { shape = i .args .s; axes = i .args .xs; set = i .args .set; source = i .args .source .now; weights = i .args .weights .now })
+    (i .args .chain) (i .args .carries) (i .args .sums) (i .args .scratch) _ (c .before .before .before .before .before .before .before .check .ensures)
+    (c .before .before .before .before .before .enum-told .given .1) _ (c .before .before .before .before .lent .ensures)
+    (c .before .before .enum-told2 .given .1) _ (c .before .entries .ensures) (c .if1 .taken)
+
+numbers-made-requires : tie.Need-numbers-made-requires
+numbers-made-requires c κs =
+    let l = lent-says _ _ _ _ _ _ (verdict-passed _ _ (c .before .before .before .before .lent .ensures) (c .before .before .enum-told2 .given .1)) in (
+      fits-shaped _ _ _ (c .before .before .before .before .before .before .before .check .ensures)
+          (c .before .before .before .before .before .enum-told .given .1) .sizes,
+      (l .0, l .1),
+    )
+
+returns-4 : tie.Need-returns-4
+returns-4 c =
+    let i = c .before .before .before .before .before .before .before .before .before .before .before .before .before .before in
+    numbers-stop (record { shape = i .args .s; axes = i .args .xs; set = i .args .set; source = i .args .source .now; weights = i .args .weights .now })
+    (i .args .chain) (i .args .carries) (i .args .sums) (i .args .scratch) _
+    (c .before .before .before .before .before .before .before .before .before .before .before .check .ensures)
+    (c .before .before .before .before .before .before .before .before .before .enum-told .given .1) _
+    (c .before .before .before .before .before .before .before .before .lent .ensures) (c .before .before .before .before .before .before .enum-told2 .given .1)
+    _ (c .before .before .before .before .before .entries .ensures) (c .before .before .before .before .if1 .left) _
+    (c .before .before .before .numbers-made .ensures) _ (c .before .numbers .given .1)
+
+reaches-ok-requires : tie.Need-reaches-ok-requires
+reaches-ok-requires c κs = (
+  fits-shaped _ _ _ (c .before .before .before .before .before .before .before .before .before .before .check .ensures)
+      (c .before .before .before .before .before .before .before .before .enum-told .given .1) .sizes .axes,
+  search needs,
+)
+
+returns-5 : tie.Need-returns-5
+returns-5 c =
+    let i = c .before .before .before .before .before .before .before .before .before .before .before .before .before .before in
+    fresh-fits (record { shape = i .args .s; axes = i .args .xs; set = i .args .set; source = i .args .source .now; weights = i .args .weights .now })
+    (i .args .chain) (i .args .carries) (i .args .sums) (i .args .scratch) _
+    (c .before .before .before .before .before .before .before .before .before .before .before .check .ensures)
+    (c .before .before .before .before .before .before .before .before .before .enum-told .given .1) _
+    (c .before .before .before .before .before .before .before .before .lent .ensures) (c .before .before .before .before .before .before .enum-told2 .given .1)
+    _ (c .before .before .before .before .before .entries .ensures) (c .before .before .before .before .if1 .left) _
+    (c .before .before .before .numbers-made .ensures) (c .before .enum-told3 .given .1) _ (c .reaches-ok .ensures)
+
+pub fresh-ok-spec : {M : Type 1} → statement M
+fresh-ok-spec = tie.close (tie.spec
+    (λ c κs. search needs)
+    (λ c. search needs)
+    returns
+    (λ c. search needs)
+    lent-requires
+    (λ c. search needs)
+    returns-2
+    (λ c. search needs)
+    entries-requires
+    mul-if1
+    add-if1
+    returns-3
+    numbers-made-requires
+    (λ c. search needs)
+    returns-4
+    (λ c. search needs)
+    reaches-ok-requires
+    returns-5)

@@ -1,0 +1,111 @@
+-- `run_checks::new_axis::axis_ok` meets its contract. Assumes nothing.
+use borrow.Author.Needs.{needs}
+use Rattle.shape.proofs.Shaped.{shaped}
+use Rattle.runform.specs.Kept.{keptOf}
+use Rattle.run_checks.proofs.InRow.{found-stops, found-says, axis-room, axis-stops, axis-fits}
+use Rattle.stepform.specs.Zones.{rules}
+use Rattle.runform.specs.Requests.{newAxis}
+use Rattle.run_checks.specs.Asking.{scratchOf}
+use native.Mathlib.Omega.{arith}
+use Rattle.shape.proofs.Offsets.{entries-most}
+use Rattle.run_checks.proofs.new_axis.axis_ok.Statement.{statement}
+use Rattle.run_checks.proofs.new_axis.axis_ok.Tie as tie
+
+returns : tie.Need-returns
+returns c =
+    let i = c .before .before .before .before .before .before .before .before .before .before .before in
+    found-stops rules (scratchOf (i .args .r .shape) 5 (i .args .scratch))
+    (keptOf (i .args .r) (i .args .source .now) (i .args .weights .now) (i .args .chain .now) (i .args .carries .now) (i .args .sums .now))
+    (newAxis (i .args .z) (i .args .a)) _ (c .before .before .before .found-ok .ensures) _ (c .before .found .given .1)
+
+entries-requires : tie.Need-entries-requires
+entries-requires c κs =
+    let i = c .before .before .before .before .before .before .before .before .before .before in
+    let f = found-says (keptOf (i .args .r) (i .args .source .now) (i .args .weights .now) (i .args .chain .now) (i .args .carries .now) (i .args .sums .now)) (i .args .z) _ (c .before .before .found-ok .ensures) (c .enum-told .given .1) in
+    shaped _ _ (f .1) .sizes
+
+mul-if1 : tie.Need-mul-if1
+mul-if1 c =
+    let i = c .before .before .before .before .before .before .before .before .before .before .before in
+    let f = found-says (keptOf (i .args .r) (i .args .source .now) (i .args .weights .now) (i .args .chain .now) (i .args .carries .now) (i .args .sums .now)) (i .args .z) _ (c .before .before .before .found-ok .ensures) (c .before .enum-told .given .1) in
+    record { fits = omega (arith, c .entries .ensures, entries-most _ (shaped _ _ (f .1) .sizes)) }
+
+add-if1 : tie.Need-add-if1
+add-if1 c =
+    let i = c .before .before .before .before .before .before .before .before .before .before .before in
+    let f = found-says (keptOf (i .args .r) (i .args .source .now) (i .args .weights .now) (i .args .chain .now) (i .args .carries .now) (i .args .sums .now)) (i .args .z) _ (c .before .before .before .found-ok .ensures) (c .before .enum-told .given .1) in
+    record { fits = omega (arith, c .entries .ensures, entries-most _ (shaped _ _ (f .1) .sizes)) }
+
+returns-2 : tie.Need-returns-2
+returns-2 c =
+    let i = c .before .before .before .before .before .before .before .before .before .before .before .before in
+    axis-room (keptOf (i .args .r) (i .args .source .now) (i .args .weights .now) (i .args .chain .now) (i .args .carries .now) (i .args .sums .now))
+    (i .args .z) (i .args .a) (i .args .scratch) _ (c .before .before .before .before .found-ok .ensures) (c .before .before .enum-told .given .1) _
+    (c .before .entries .ensures) (c .if1 .taken)
+
+numbers-found-requires : tie.Need-numbers-found-requires
+numbers-found-requires c κs =
+    let i = c .before .before .before .before .before .before .before .before .before .before .before .before .before .before in
+    let f = found-says (keptOf (i .args .r) (i .args .source .now) (i .args .weights .now) (i .args .chain .now) (i .args .carries .now) (i .args .sums .now)) (i .args .z) _ (c .before .before .before .before .before .before .found-ok .ensures) (c .before .before .before .before .enum-told .given .1) in
+    ((f .0, f .1), f .2)
+
+returns-3 : tie.Need-returns-3
+returns-3 c =
+    let i = c .before .before .before .before .before .before .before .before .before .before .before .before .before .before .before .before .before .before in
+    axis-stops (keptOf (i .args .r) (i .args .source .now) (i .args .weights .now) (i .args .chain .now) (i .args .carries .now) (i .args .sums .now))
+    (i .args .z) (i .args .a) (i .args .scratch) _ (c .before .before .before .before .before .before .before .before .before .before .found-ok .ensures)
+    (c .before .before .before .before .before .before .before .before .enum-told .given .1) _
+    (c .before .before .before .before .before .before .before .entries .ensures) (c .before .before .before .before .before .before .if1 .left) _ _
+    (c .before .before .before .before .before .axis-finite .ensures) (c .before .before .before .before .axis-ok .ensures) _
+    (c .before .before .before .numbers-found .ensures) _ (c .before .numbers .given .1)
+
+mul-xs : tie.Need-mul-xs
+mul-xs c =
+    let i = c .before .before .before .before .before .before .before .before .before .before .before .before .before .before .before .before .before .before .before in
+    let f = found-says (keptOf (i .args .r) (i .args .source .now) (i .args .weights .now) (i .args .chain .now) (i .args .carries .now) (i .args .sums .now)) (i .args .z) _ (c .before .before .before .before .before .before .before .before .before .before .before .found-ok .ensures) (c .before .before .before .before .before .before .before .before .before .enum-told .given .1) in
+    record { fits = omega (arith, f .0, shaped _ _ (f .1) .most) }
+
+array-set-from-xs : tie.Need-array-set-from-xs
+array-set-from-xs c =
+    let i = c .before .before .before .before .before .before .before .before .before .before .before .before .before .before .before .before .before .before .before in
+    let f = found-says (keptOf (i .args .r) (i .args .source .now) (i .args .weights .now) (i .args .chain .now) (i .args .carries .now) (i .args .sums .now)) (i .args .z) _ (c .before .before .before .before .before .before .before .before .before .before .before .found-ok .ensures) (c .before .before .before .before .before .before .before .before .before .enum-told .given .1) in
+    omega (arith, f .0, shaped _ _ (f .1) .most)
+
+reaches-ok-requires : tie.Need-reaches-ok-requires
+reaches-ok-requires c κs =
+    let i = c .before .before .before .before .before .before .before .before .before .before .before .before .before .before .before .before .before .before .before in
+    let f = found-says (keptOf (i .args .r) (i .args .source .now) (i .args .weights .now) (i .args .chain .now) (i .args .carries .now) (i .args .sums .now)) (i .args .z) _ (c .before .before .before .before .before .before .before .before .before .before .before .found-ok .ensures) (c .before .before .before .before .before .before .before .before .before .enum-told .given .1) in
+    (shaped _ _ (f .1) .sizes .axes, omega (arith, f .0))
+
+returns-4 : tie.Need-returns-4
+returns-4 c =
+    let i = c .before .before .before .before .before .before .before .before .before .before .before .before .before .before .before .before .before .before .before .before in
+    axis-fits (keptOf (i .args .r) (i .args .source .now) (i .args .weights .now) (i .args .chain .now) (i .args .carries .now) (i .args .sums .now))
+    (i .args .z) (i .args .a) (i .args .scratch) _
+    (c .before .before .before .before .before .before .before .before .before .before .before .before .found-ok .ensures)
+    (c .before .before .before .before .before .before .before .before .before .before .enum-told .given .1) _
+    (c .before .before .before .before .before .before .before .before .before .entries .ensures)
+    (c .before .before .before .before .before .before .before .before .if1 .left) _ _
+    (c .before .before .before .before .before .before .before .axis-finite .ensures) (c .before .before .before .before .before .before .axis-ok .ensures) _
+    (c .before .before .before .before .before .numbers-found .ensures) (c .before .before .before .enum-told2 .given .1) _ (c .reaches-ok .ensures)
+
+pub axis-ok-spec : {M : Type 1} → statement M
+axis-ok-spec = tie.close (tie.spec
+    (λ c κs. search needs)
+    (λ c. search needs)
+    returns
+    (λ c. search needs)
+    entries-requires
+    mul-if1
+    add-if1
+    returns-2
+    (λ c κs. search needs)
+    (λ c κs. search needs)
+    numbers-found-requires
+    (λ c. search needs)
+    returns-3
+    (λ c. search needs)
+    mul-xs
+    array-set-from-xs
+    reaches-ok-requires
+    returns-4)

@@ -1,0 +1,44 @@
+-- `run_checks::numeric::numbers_found` meets its contract. Assumes nothing.
+use borrow.Author.Needs.{needs}
+use Rattle.run_checks.proofs.Asks.{numbers-are}
+use Rattle.shape.proofs.Shaped.{shaped}
+use Rattle.runform.specs.Kept.{keptOf}
+use Rattle.run_checks.proofs.numeric.numbers_found.Statement.{statement}
+use Rattle.run_checks.proofs.numeric.numbers_found.Tie as tie
+
+first-bad-number-requires : tie.Need-first-bad-number-requires
+first-bad-number-requires c κs =
+    let at-8 = c .before .before .before .before .before .before .before .before in
+    (at-8 .pre .0 .1, at-8 .pre .1)
+
+with-part-requires : tie.Need-with-part-requires
+with-part-requires c κs = c .before .before .before .before .before .before .before .before .before .pre .0 .0
+
+first-below-zero-requires : tie.Need-first-below-zero-requires
+first-below-zero-requires c κs = shaped _ _ (c .before .before .before .before .before .before .before .before .before .before .pre .0 .1) .most
+
+with-part-requires-2 : tie.Need-with-part-requires-2
+with-part-requires-2 c κs = c .before .before .before .before .before .before .before .before .before .before .before .pre .0 .0
+
+returns : tie.Need-returns
+returns c =
+    let i = c .before .before .before .before .before .before .before .before .before .before .before .before .before .before .before .before in
+    numbers-are (keptOf (i .args .r) (i .args .source .now) (i .args .weights .now) (i .args .chain .now) (i .args .carries .now) (i .args .sums .now))
+    (i .args .z) (i .args .part) (i .args .axis) _ _ _ _ (c .before .before .before .lone-finite .ensures) (c .before .before .is-finite .ensures)
+    (c .before .lone-ok .ensures)
+    (c .numbers-ok .ensures _ _
+    (c .before .before .before .before .before .before .with-part .ensures _
+    (c .before .before .before .before .before .before .before .first-bad-number .ensures))
+    (c .before .before .before .before .with-part2 .ensures _ (c .before .before .before .before .before .first-below-zero .ensures)))
+
+pub numbers-found-spec : {M : Type 1} → statement M
+numbers-found-spec = tie.close (tie.spec
+    first-bad-number-requires
+    with-part-requires
+    first-below-zero-requires
+    with-part-requires-2
+    (λ c κs. search needs)
+    (λ c κs. search needs)
+    (λ c κs. search needs)
+    (λ c κs. search needs)
+    returns)

@@ -1,0 +1,28 @@
+-- `run_checks::ranks::kept_shape` meets its contract. Assumes nothing.
+use borrow.Author.Needs.{needs}
+use Rattle.run_checks.proofs.Bonded.{ranked-none, ranked-more, ranked-all}
+use Prim.Native.Nat.{_-_, _≤_}
+use Rattle.run_checks.specs.Ranks.{Ranked}
+use Rattle.run_checks.proofs.ranks.kept_shape.Statement.{statement}
+use Rattle.run_checks.proofs.ranks.kept_shape.Tie as tie
+
+ruleset ways = (needs, ranked-none, ranked-more, ranked-all)
+
+abbrev Inv-loop : tie.InvT-loop
+Inv-loop s ranks t₀ k₀ t k = (k ≤ s .d) × Ranked s ranks t k
+
+abbrev μ-loop : tie.MeasureT-loop
+μ-loop s ranks t₀ k₀ t k = s .d - k
+
+pub kept-shape-spec : {M : Type 1} → statement M
+kept-shape-spec = tie.close (tie.spec
+    Inv-loop
+    μ-loop
+    (λ c. search ways)
+    (λ c κs. search ways)
+    (λ c κs. search ways)
+    (λ c κs. search ways)
+    (λ c. search ways)
+    (λ c. search ways)
+    (λ c. search ways)
+    (λ c. search ways))

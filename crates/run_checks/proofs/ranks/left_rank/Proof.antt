@@ -1,0 +1,15 @@
+-- `run_checks::ranks::left_rank` meets its contract. Assumes nothing.
+use borrow.Author.Needs.{needs}
+use Rattle.run_checks.proofs.Bonded.{left-first, left-next}
+use Prim.Native.Nat.{_-_}
+use Rattle.run_checks.proofs.ranks.left_rank.Statement.{statement}
+use Rattle.run_checks.proofs.ranks.left_rank.Tie as tie
+
+ruleset ways = (needs, left-first, left-next)
+
+pub left-rank-spec : {M : Type 1} → statement M
+left-rank-spec = tie.close (tie.spec
+    (λ c. search ways)
+    (λ c. search ways)
+    (λ c. search ways)
+    (λ c. search ways))

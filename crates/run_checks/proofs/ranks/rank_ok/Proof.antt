@@ -1,0 +1,19 @@
+-- `run_checks::ranks::rank_ok` meets its contract. Assumes nothing.
+use borrow.Author.Needs.{needs}
+use Rattle.run_checks.proofs.Bonded.{rank-bond, rank-end}
+use Prim.Native.Nat.{_-_}
+use Rattle.run_checks.proofs.ranks.rank_ok.Statement.{statement}
+use Rattle.run_checks.proofs.ranks.rank_ok.Tie as tie
+
+ruleset ways = (needs, rank-bond, rank-end)
+
+pub rank-ok-spec : {M : Type 1} → statement M
+rank-ok-spec = tie.close (tie.spec
+    (λ c. search ways)
+    (λ c. search ways)
+    (λ c. search ways)
+    (λ c. search ways)
+    (λ c. search ways)
+    (λ c κs. search ways)
+    (λ c. search ways)
+    (λ c. search ways))

@@ -1,0 +1,18 @@
+-- `run_checks::ranks::right_rank` meets its contract. Assumes nothing.
+use borrow.Author.Needs.{needs}
+use Rattle.run_checks.proofs.Bonded.{right-bond, right-end}
+use Prim.Native.Nat.{_-_}
+use Rattle.run_checks.proofs.ranks.right_rank.Statement.{statement}
+use Rattle.run_checks.proofs.ranks.right_rank.Tie as tie
+
+ruleset ways = (needs, right-bond, right-end)
+
+pub right-rank-spec : {M : Type 1} → statement M
+right-rank-spec = tie.close (tie.spec
+    (λ c. search ways)
+    (λ c. search ways)
+    (λ c. search ways)
+    (λ c. search ways)
+    (λ c. search ways)
+    (λ c. search ways)
+    (λ c. search ways))

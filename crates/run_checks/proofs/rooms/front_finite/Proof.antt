@@ -1,0 +1,18 @@
+-- `run_checks::rooms::front_finite` meets its contract. Assumes nothing.
+use borrow.Author.Needs.{needs}
+use Rattle.run_checks.proofs.Fronts.{front-found}
+use Prim.Native.Nat.{_-_}
+use Rattle.run_checks.proofs.rooms.front_finite.Statement.{statement}
+use Rattle.run_checks.proofs.rooms.front_finite.Tie as tie
+
+ruleset ways = (needs, front-found)
+
+pub front-finite-spec : {M : Type 1} → statement M
+front-finite-spec = tie.close (tie.spec
+    (λ c. search ways)
+    (λ c. search ways)
+    (λ c. search ways)
+    (λ c. search ways)
+    (λ c. search ways)
+    (λ c κs. search ways)
+    (λ c. search ways))

@@ -1,0 +1,14 @@
+-- `run_checks::rooms::reaches_ok` meets its contract. Assumes nothing.
+use borrow.Author.Needs.{needs}
+use Rattle.run_checks.proofs.Fronts.{far-wrong, far-right}
+use Prim.Native.Nat.{_-_}
+use Rattle.run_checks.proofs.rooms.reaches_ok.Statement.{statement}
+use Rattle.run_checks.proofs.rooms.reaches_ok.Tie as tie
+
+ruleset ways = (needs, far-wrong, far-right)
+
+pub reaches-ok-spec : {M : Type 1} → statement M
+reaches-ok-spec = tie.close (tie.spec
+    (λ c κs. search ways)
+    (λ c. search ways)
+    (λ c. search ways))

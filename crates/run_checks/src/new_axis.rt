@@ -1,0 +1,58 @@
+// All that a new axis record asks of the run that it finds, in its order.
+ghost use mathlib.Core.Path.{_≡_};
+ghost use Rattle.answers.specs.Outcome.{verdictOf};
+ghost use Rattle.stepform.specs.Zones.{rules};
+ghost use Rattle.runform.specs.Kept.{keptOf};
+ghost use Rattle.runform.specs.Requests.{newAxis, replaceOk};
+ghost use Rattle.run_checks.specs.Asking.{scratchOf};
+
+pub fn axis_ok(
+    r: runform::Run,
+    z: usize,
+    a: stepform::Axis,
+    source: &[f64],
+    weights: &[f64],
+    chain: &[f64],
+    carries: &[f64],
+    sums: &[f64],
+    scratch: usize,
+) -> answers::Verdict
+    ensures { λ v. ⌜ v ≡ verdictOf (replaceOk rules (scratchOf (r .shape) 5 scratch) (keptOf r (now (source .entry)) (now (weights .entry)) (now (chain .entry)) (now (carries .entry)) (now (sums .entry))) (newAxis z a)) ⌝ }
+{
+    let s = r.shape;
+    let ranks = r.ranks;
+    let l = crate::found::Lengths {
+        source: source.len(),
+        weights: weights.len(),
+        chain: chain.len(),
+        carries: carries.len(),
+        sums: sums.len(),
+    };
+    let found = crate::found::found_ok(s, ranks, z, l);
+    if let answers::Verdict::Refused(q) = found {
+        return answers::Verdict::Refused(q);
+    }
+    if scratch != 4 * s.entries() + checks::SCRATCH_BESIDE {
+        return answers::Verdict::Refused(answers::Refusal::Length(5));
+    }
+    let finite = axes::axis_finite(a);
+    let mild = axes::axis_ok(a);
+    let numbers = crate::numeric::numbers_found(
+        r,
+        z,
+        finite,
+        mild,
+        source,
+        weights,
+        chain,
+        carries,
+        sums,
+    );
+    if let answers::Verdict::Refused(q) = numbers {
+        return answers::Verdict::Refused(q);
+    }
+    let set = r.set;
+    let mut xs = r.axes;
+    xs[z] = a;
+    crate::rooms::reaches_ok(z, set, s, xs)
+}

@@ -1,0 +1,93 @@
+// The kept ranks: refusal 3, and the shape that a kept chain has by them.
+ghost use mathlib.Core.Path.{_≡_};
+ghost use mathlib.Core.Bool.{_&&_};
+ghost use Prim.Native.Nat.{ℕ, _≤_, _<_};
+ghost use Rattle.answers.specs.Outcome.{verdictOf};
+ghost use Rattle.lists.specs.Lists.{firstNot};
+ghost use Rattle.shape.specs.Limits.{mostAxes};
+ghost use Rattle.shape.specs.Shapes.{bondOk, shapeOk};
+ghost use Rattle.run_checks.specs.Ranks.{rankHeld, leftHeld, rightHeld, Ranked};
+
+// Whether the kept rank of bond k is at least 1 and at most its source's; right of the last core there is none.
+fn rank_ok(s: shape::Shape, ranks: [usize; shape::MOST_AXES], k: usize) -> bool
+    requires { ⌜ (k < s .d) × (s .d ≤ mostAxes) ⌝ }
+    ensures { λ r. ⌜ r ≡ rankHeld s ranks k ⌝ }
+{
+    if k + 1 < s.d {
+        return shape::within(s.right[k], ranks[k]);
+    }
+    true
+}
+
+// The first core whose bond, or its kept rank, does not hold, or d.
+fn first_bad_bond(s: shape::Shape, ranks: [usize; shape::MOST_AXES]) -> usize
+    requires { ⌜ s .d ≤ mostAxes ⌝ }
+    ensures { λ r. ⌜ r ≡ firstNot (λ (k : ℕ). bondOk s k && rankHeld s ranks k) (s .d) ⌝ }
+{
+    let mut k = 0;
+    while k < s.d {
+        let joined = s.bond_ok(k);
+        let kept = rank_ok(s, ranks, k);
+        if !(joined & kept) {
+            return k;
+        }
+        k += 1;
+    }
+    k
+}
+
+// Refusals 1 to 3, of a shape and the ranks that are kept of it.
+pub fn shape_ok(s: shape::Shape, ranks: [usize; shape::MOST_AXES]) -> answers::Verdict
+    ensures { λ r. ⌜ r ≡ verdictOf (shapeOk s (rankHeld s ranks)) ⌝ }
+{
+    let d = s.d;
+    if !shape::within(shape::MOST_AXES, d) {
+        return answers::Verdict::Refused(answers::Refusal::Axes);
+    }
+    let size = s.first_bad_size();
+    if size < d {
+        return answers::Verdict::Refused(answers::Refusal::Size(size));
+    }
+    if s.left[0] != 1 {
+        return answers::Verdict::Refused(answers::Refusal::Bond(0));
+    }
+    let bond = first_bad_bond(s, ranks);
+    if bond < d {
+        return answers::Verdict::Refused(answers::Refusal::Bond(bond));
+    }
+    answers::Verdict::Fits
+}
+
+fn left_rank(ranks: [usize; shape::MOST_AXES], k: usize) -> usize
+    requires { ⌜ k < mostAxes ⌝ }
+    ensures { λ r. ⌜ r ≡ leftHeld ranks k ⌝ }
+{
+    if k < 1 {
+        return 1;
+    }
+    ranks[k - 1]
+}
+
+fn right_rank(s: shape::Shape, ranks: [usize; shape::MOST_AXES], k: usize) -> usize
+    requires { ⌜ (k < s .d) × (s .d ≤ mostAxes) ⌝ }
+    ensures { λ r. ⌜ r ≡ rightHeld s ranks k ⌝ }
+{
+    if k + 1 < s.d {
+        return ranks[k];
+    }
+    s.right[k]
+}
+
+// The shape of the chain that is kept: s with the kept ranks.
+pub fn kept_shape(s: shape::Shape, ranks: [usize; shape::MOST_AXES]) -> shape::Shape
+    requires { ⌜ s .d ≤ mostAxes ⌝ }
+    ensures { λ t. ⌜ Ranked s ranks t (s .d) ⌝ }
+{
+    let mut t = s;
+    let mut k = 0;
+    while k < s.d {
+        t = t.with_core(k, left_rank(ranks, k), right_rank(s, ranks, k));
+        k += 1;
+    }
+    t
+}

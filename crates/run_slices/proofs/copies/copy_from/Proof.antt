@@ -1,0 +1,21 @@
+-- `run_slices::copies::copy_from` meets its contract. Assumes nothing.
+use borrow.Author.Needs.{needs}
+use Rattle.run_slices.proofs.Copied.{copied-from}
+use Rattle.run_slices.proofs.copies.copy_from.Statement.{statement}
+use Rattle.run_slices.proofs.copies.copy_from.Tie as tie
+
+ruleset ways = (needs, copied-from)
+
+pub copy-from-spec : {M : Type 1} → statement M
+copy-from-spec = tie.close (tie.spec
+    (λ c. search needs)
+    (λ c. search needs)
+    (λ c. search needs)
+    (λ c. search needs)
+    (λ c. search needs)
+    (λ c. search needs)
+    (λ c. search needs)
+    (λ c. search needs)
+    (λ c κs. search needs)
+    (λ c. search needs)
+    (λ c. search ways))

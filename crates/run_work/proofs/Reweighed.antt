@@ -1,0 +1,109 @@
+-- The end of new weights by what the sums from their zone on came to. Assumes nothing.
+use mathlib.Core.Path.{_≡_, sym, ap, _∙_}
+use Prim.Native.Nat.{ℕ, _-_, _≤_, _<_}
+use native.Mathlib.Omega.{arith}
+use mathlib.Core.Bool.{Bool}
+use mathlib.Core.List.{List, _++_, map}
+use lib.ListN.{length, take, drop, take-append-drop}
+use lib.Ieee.{Float}
+use Rattle.numbers.specs.Arithmetic.{zero64}
+use Rattle.answers.specs.declared.Part.the-variants.{Sum}
+use Rattle.answers.specs.declared.Refusal.{Refusal}
+use Rattle.answers.specs.declared.Verdict.{Verdict}
+use Rattle.answers.specs.declared.Verdict.the-variants.{Fits, Refused}
+use Rattle.answers.specs.Outcome.{Answer, done, refused, bind, answered}
+use Rattle.answers.proofs.Outcomes.{bind-assoc, bind-done, done-inj}
+use Rattle.lists.specs.Lists.{pick, listed}
+use Rattle.lists.specs.Slots.{offset, put}
+use Rattle.lists.specs.Walks.{walk}
+use Rattle.lists.specs.Floats.{at, zeros, stored}
+use Rattle.lists.proofs.Slots.{offset-mono, write-before}
+use Rattle.shape.specs.declared.Shape.{Shape}
+use Rattle.shape.specs.Shapes.{leftOf, pointSize}
+use Rattle.shape.specs.Cores.{Core}
+use Rattle.sumform.specs.Contract.{contract}
+use Rattle.sumform.specs.Product.{contractAt, sumAxis}
+use Rattle.cutform.specs.Call.{scratchAfter}
+use Rattle.sumform.specs.Sums.{sumSize, sumsLeft, weighedIn, sumsFrom}
+use Rattle.stepform.specs.Zones.{rules}
+use Rattle.run_checks.specs.Ranks.{Ranked}
+use Rattle.steps.proofs.Late.{Late, late-done, late-making, late-bind, late-walk}
+use Rattle.runform.specs.declared.Run.{Run}
+use Rattle.runform.specs.declared.Ran.{Ran}
+use Rattle.runform.specs.Kept.{Summed, Kept, running, keptOf}
+use Rattle.runform.specs.Work.{sumFrom}
+use Rattle.runform.specs.Requests.{newWeights, present}
+use Rattle.runform.specs.Call.{ReplaceEnd, replaceEnd}
+use Rattle.run_checks.proofs.Resums.{resum-is}
+use Rattle.run_work.specs.Weights.{weightsEnd}
+
+-- ---- sums are refused with 9 alone
+late-axis : (k : ℕ) (eta : List Float) (p : Core × List Float) → Late (sumAxis k eta p)
+unfolding sumAxis contractAt
+late-axis k eta p = late-bind _ _ (late-making Sum k (stored (contract (p .0) (p .1) eta))) (λ e. late-done (e, tt))
+
+module _ (s t : Shape) (work weights : List Float) (z : ℕ) (sums : List Float) where
+  pub late-sums : Late (sumsFrom s t work weights z sums)
+  unfolding sumsFrom
+  late-sums = late-bind _ _ (late-walk sumAxis late-axis z (sumsLeft s (leftOf t z) sums z) (listed (s .d - z) z (weighedIn s t work weights))) (λ tr. late-done _)
+
+  -- what stands before zone z is as it was
+  pub sums-before : (p : List Float) → sumsFrom s t work weights z sums ≡ done p → z ≤ s .d → offset (sumSize s) (s .d) ≤ length sums → take (offset (sumSize s) z) p ≡ take (offset (sumSize s) z) sums
+  unfolding sumsFrom
+  sums-before p e l h =
+      let b = bind-done (walk sumAxis z (sumsLeft s (leftOf t z) sums z) (listed (s .d - z) z (weighedIn s t work weights))) _ p e in
+      let rows = map (λ (r : List Float × Unit {0}). r .0) (b .0) in
+      ap (take (offset (sumSize s) z)) (sym (done-inj (b .2)))
+      ∙ write-before (sumSize s) zero64 (s .d) z rows sums (omega (arith, offset-mono (sumSize s) z (s .d) l))
+
+-- ---- the sums that a run has at its end
+abbrev summedAs : Shape → List Float → Summed
+summedAs s l = record { sums = l; figure = at l (offset (sumSize s) (s .d - 1)) }
+
+sum-from-is : (k : Kept) (t : Shape) → Ranked (k .inputs .shape) (k .stepped .ranks) t (k .inputs .shape .d) → (z : ℕ) → z < k .inputs .shape .d
+    → sumFrom rules k z ≡ bind (sumsFrom (k .inputs .shape) t (k .stepped .chain) (k .inputs .weights) z (k .summed .sums)) (λ l. done (running (k .inputs) (k .stepped) (summedAs (k .inputs .shape) l)))
+unfolding sumFrom
+sum-from-is k t R z lt =
+    let S = sumsFrom (k .inputs .shape) t (k .stepped .chain) (k .inputs .weights) z (k .summed .sums) in
+    ap (λ (o : Answer Summed). bind o (λ u. done (running (k .inputs) (k .stepped) u))) (resum-is (k .inputs) (k .stepped) t R (k .summed) z lt)
+    ∙ bind-assoc S (λ l. done (summedAs (k .inputs .shape) l)) (λ u. done (running (k .inputs) (k .stepped) u))
+
+module _ (r : Run) (z : ℕ) (weights chain sums part : List Float) (t : Shape) (R : Ranked (r .shape) (r .ranks) t (r .shape .d)) (lt : z < r .shape .d) (v : Verdict) (p : List Float)
+    (e : sumsFrom (r .shape) t chain (put (pointSize (r .shape)) z part weights) z sums ≡ answered v p) (source carries scratch : List Float) where
+  abbrev before : Kept
+  before = keptOf r source weights chain carries sums
+
+  abbrev anew : Kept
+  anew = running (present (before .inputs) (newWeights z part)) (before .stepped) (before .summed)
+
+  abbrev end : ReplaceEnd
+  end = weightsEnd r z source weights chain carries sums part scratch
+
+  opened : end ≡ replaceEnd before scratch (bind (answered v p) (λ l. done (running (anew .inputs) (anew .stepped) (summedAs (r .shape) l))))
+  unfolding weightsEnd
+  opened =
+      ap (replaceEnd before scratch) (sum-from-is anew t R z lt ∙ ap (λ (o : Answer (List Float)). bind o (λ l. done (running (anew .inputs) (anew .stepped) (summedAs (r .shape) l)))) e)
+
+  pub resum-stops : (q : Refusal) → v ≡ Refused q → (a : Ran) → a ≡ record { verdict = Refused q; run = r }
+      → record { result = a; source = source; weights = weights; chain = chain; carries = carries; sums = sums; scratch = zeros (length scratch) } ≡ end
+  unfolding replaceEnd scratchAfter answered pick
+  resum-stops q h a f =
+      let o : sumsFrom (r .shape) t chain (put (pointSize (r .shape)) z part weights) z sums ≡ refused q = e ∙ ap (λ (w : Verdict). answered w p) h in
+      let b = late-sums (r .shape) t chain (put (pointSize (r .shape)) z part weights) z sums q o in
+      ap (λ (x : Ran). record { result = x; source = source; weights = weights; chain = chain; carries = carries; sums = sums; scratch = zeros (length scratch) }) f
+      ∙ sym
+      (opened
+      ∙ ap (λ (w : Verdict). replaceEnd before scratch (bind (answered w p) (λ l. done (running (anew .inputs) (anew .stepped) (summedAs (r .shape) l))))) h
+      ∙ ap (λ (y : Bool). record { result = record { verdict = Refused q; run = r }; source = source; weights = weights; chain = chain; carries = carries; sums = sums; scratch = pick y scratch (zeros (length scratch)) }) b)
+
+  -- x and y are the weights and the sums at the end, and f is the figure
+  pub resum-ends : v ≡ Fits → offset (sumSize (r .shape)) (r .shape .d) ≤ length sums → (x y : List Float) (f : Float) (a : Ran)
+      → x ≡ put (pointSize (r .shape)) z part weights → y ≡ take (offset (sumSize (r .shape)) z) sums ++ drop (offset (sumSize (r .shape)) z) p → f ≡ at y (offset (sumSize (r .shape)) (r .shape .d - 1))
+      → a ≡ record { verdict = Fits; run = record { shape = r .shape; axes = r .axes; set = r .set; ranks = r .ranks; sweeps = r .sweeps; settled = r .settled; figure = f } }
+      → record { result = a; source = source; weights = x; chain = chain; carries = carries; sums = y; scratch = zeros (length scratch) } ≡ end
+  unfolding replaceEnd scratchAfter answered
+  resum-ends h held x y f a g i j l =
+      let o : sumsFrom (r .shape) t chain (put (pointSize (r .shape)) z part weights) z sums ≡ done p = e ∙ ap (λ (w : Verdict). answered w p) h in
+      let n = offset (sumSize (r .shape)) z in
+      let b : y ≡ p = i ∙ ap (λ (u : List Float). u ++ drop n p) (sym (sums-before (r .shape) t chain (put (pointSize (r .shape)) z part weights) z sums p o (omega arith) held)) ∙ take-append-drop n p in
+      rw (l, j, g, b) (sym (opened ∙ ap (λ (w : Verdict). replaceEnd before scratch (bind (answered w p) (λ l. done (running (anew .inputs) (anew .stepped) (summedAs (r .shape) l))))) h))

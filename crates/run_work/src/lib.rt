@@ -1,0 +1,3 @@
+pub mod again;
+pub mod renewal;
+pub mod weights;

@@ -1,0 +1,201 @@
+-- Runs at the edges of their rules: two flaws at once, what others spoilt, every length, unused room, and what a refused fresh run leaves. Definitions only.
+use Prim.Native.Nat.{ℕ}
+use mathlib.Core.Path.{_≡_}
+use mathlib.Core.Bool.{true, false}
+use mathlib.Core.List.{List, [], _∷_, _++_}
+use lib.IntN.{pos, negsuc}
+use lib.ListN.{replicate}
+use lib.Ieee.{Float, fin, nan}
+use Rattle.numbers.specs.Arithmetic.{zero64, one64, two64}
+use Rattle.answers.specs.declared.Part.the-variants.{Spectrum}
+use Rattle.answers.specs.declared.Refusal.{Refusal}
+use Rattle.answers.specs.declared.Refusal.the-variants.{Reach, Stored}
+use Rattle.answers.specs.declared.Verdict.the-variants.{Refused}
+use Rattle.lists.specs.Floats.{zeros}
+use Rattle.shape.specs.declared.Shape.{Shape}
+use Rattle.shape.specs.Limits.{scratchFor}
+use Rattle.stepform.specs.declared.Axis.{Axis}
+use Rattle.stepform.specs.declared.Settings.{Settings}
+use Rattle.stepform.specs.Zones.{rules}
+use Rattle.runform.specs.Kept.{Kept, keptOf}
+use Rattle.runform.specs.Requests.{Request, newCore, newAxis, newWeights}
+use Rattle.runform.specs.Call.{FreshEnd, freshCall, replaceBy}
+use Rattle.runform.specs.Sequence.{keptAfter}
+use Rattle.runform.specs.Cases.{number, bits, shapeOf, axisOf, axes, D, weights, settings, shown, after, new, Case, case}
+
+abbrev minus-one : Float
+minus-one = fin true 1 (pos 0)
+
+abbrev minus-nought : Float
+minus-nought = fin true 0 (pos 0)
+
+abbrev still : Axis
+still = axisOf zero64 zero64
+
+-- a record of a shift that is too far
+abbrev far : Axis
+far = axisOf zero64 (number 1 40)
+
+abbrev axesOf : Axis → Axis → List Axis
+axesOf x y = x ∷ y ∷ replicate 14 still
+
+abbrev setOf : Float → Float → Float → Settings
+setOf tau c eps = record { tau = tau; c = c; eps = eps }
+
+-- eps 0.75
+abbrev set : Settings
+set = settings (fin false 3 (negsuc 1))
+
+-- ---- fresh runs over D, lent slices that are not +0
+abbrev dust : List Float
+dust = replicate (scratchFor 6) one64
+
+abbrev ending : List Axis → Settings → List Float → List Float → FreshEnd
+ending xs t source points = freshCall (shapeOf 2 1) xs t source points (replicate 6 nan) (replicate 4 nan) (replicate 3 nan) dust
+
+abbrev freshly : List Axis → Settings → List Float → List Float → List ℕ
+freshly xs t source points =
+    let e = ending xs t source points in
+    shown (keptOf (e .result .run) source points (e .chain) (e .carries) (e .sums)) (e .result .verdict)
+
+-- D with x for its last number, which is core 1's
+abbrev D-with : Float → List Float
+D-with x = number 3 0 ∷ zero64 ∷ zero64 ∷ number 1 2 ∷ one64 ∷ x ∷ []
+
+-- with slices of these lengths
+abbrev lent : ℕ → ℕ → ℕ → ℕ → ℕ → ℕ → List ℕ
+lent a b c d e f =
+    let g = freshCall (shapeOf 2 1) axes set (zeros a) (zeros b) (zeros c) (zeros d) (zeros e) (zeros f) in
+    shown (keptOf (g .result .run) D weights (g .chain) (g .carries) (g .sums)) (g .result .verdict)
+
+-- ---- D as it is kept at eps 0.75, of rank 1; others may have written to any of this
+abbrev holding : Shape → List Axis → Settings → List Float → ℕ → Float → Kept
+holding s xs t points r figure = record {
+  inputs = record { shape = s; axes = xs; set = t; source = D; weights = points };
+  stepped = record {
+    ranks = r ∷ replicate 15 0;
+    sweeps = replicate 16 0;
+    settled = true ∷ replicate 15 false;
+    chain = zero64 ∷ one64 ∷ minus-nought ∷ minus-nought ∷ number 1 2 ∷ minus-nought ∷ [];
+    carries = zero64 ∷ number 1 2 ∷ minus-nought ∷ minus-nought ∷ [];
+  };
+  summed = record { sums = two64 ∷ minus-nought ∷ number 1 3 ∷ []; figure = figure };
+}
+
+abbrev spoilt : List Axis → Settings → List Float → Kept
+spoilt xs t points = holding (shapeOf 2 1) xs t points 1 (number 1 3)
+
+abbrev well : Kept
+well = spoilt axes set weights
+
+-- what is told of each of the three replacements of zone 1, none of which has a flaw of its own
+abbrev each : Kept → List ℕ
+each k = after k (newCore 1 new) ++ (after k (newAxis 1 still) ++ after k (newWeights 1 (one64 ∷ [])))
+
+abbrev thrice : ℕ → ℕ → List ℕ
+thrice n p = n ∷ p ∷ n ∷ p ∷ n ∷ p ∷ []
+
+-- each of them with a NaN
+abbrev eachNaN : Kept → List ℕ
+eachNaN k = after k (newCore 1 (nan ∷ one64 ∷ [])) ++ (after k (newAxis 1 (axisOf zero64 nan)) ++ after k (newWeights 1 (nan ∷ [])))
+
+-- of zone 2, which isn't there, and of parts that are too long
+abbrev eachBeyond : Kept → List ℕ
+eachBeyond k = after k (newCore 2 (zeros 9)) ++ (after k (newAxis 2 still) ++ after k (newWeights 2 (zeros 9)))
+
+-- with scratch of another length
+abbrev short : Request → List ℕ
+short q = let e = replaceBy rules well q (zeros 1) in shown (keptAfter e) (e .result .verdict)
+
+-- rank 1, the figure, chain, carries and sums, with o in unused room
+abbrev rankOne : Float → List ℕ
+rankOne o = 1 ∷ bits (number 1 3 ∷ zero64 ∷ one64 ∷ o ∷ o ∷ number 1 2 ∷ o ∷ zero64 ∷ number 1 2 ∷ o ∷ o ∷ two64 ∷ o ∷ number 1 3 ∷ [])
+
+-- ---- what fresh runs give
+unfoldable pub freshEdges : List Case
+freshEdges =
+    -- 6 before 7
+    case (freshly axes (setOf minus-one zero64 zero64) D (one64 ∷ two64 ∷ nan ∷ [])) (6 ∷ 1 ∷ [])
+    ∷ case (freshly (axesOf (axisOf minus-one zero64) still) set (D-with nan) weights) (6 ∷ 1 ∷ [])
+    ∷ case (freshly axes (setOf zero64 nan minus-one) D weights) (6 ∷ 0 ∷ [])
+    -- 7 before 8
+    ∷ case (freshly (axesOf far (axisOf minus-one zero64)) set D weights) (7 ∷ 1 ∷ [])
+    -- the slices: source, weights, chain, carries, sums, scratch
+    ∷ case (lent 7 4 7 5 4 1) (5 ∷ 0 ∷ [])
+    ∷ case (lent 6 4 7 5 4 1) (5 ∷ 1 ∷ [])
+    ∷ case (lent 6 3 7 5 4 1) (5 ∷ 2 ∷ [])
+    ∷ case (lent 6 3 6 5 4 1) (5 ∷ 3 ∷ [])
+    ∷ case (lent 6 3 6 4 4 1) (5 ∷ 4 ∷ [])
+    ∷ case (lent 6 3 6 4 3 1) (5 ∷ 5 ∷ [])
+    -- unused room is +0, whatever was there
+    ∷ case (freshly axes set D weights) (rankOne zero64)
+    ∷ []
+
+-- ---- what replacements give
+unfoldable pub replacedEdges : List Case
+replacedEdges =
+    -- 1, 2 and 3 before 4, 4 before 5
+    case (eachBeyond (holding (shapeOf 0 1) axes set weights 1 (number 1 3))) (thrice 1 0)
+    ∷ case (eachBeyond (holding (shapeOf 2 65) axes set weights 1 (number 1 3))) (thrice 2 1)
+    ∷ case (eachBeyond (holding (shapeOf 2 1) axes set weights 3 (number 1 3))) (thrice 3 0)
+    ∷ case (eachBeyond well) (thrice 4 0)
+    -- scratch comes last
+    ∷ case (short (newCore 1 new)) (5 ∷ 6 ∷ [])
+    ∷ case (short (newAxis 1 still)) (5 ∷ 5 ∷ [])
+    ∷ case (short (newWeights 1 (one64 ∷ []))) (5 ∷ 6 ∷ [])
+    -- 6 at the lowest zone, be it the new part's or not
+    ∷ case (eachNaN (spoilt axes set (one64 ∷ nan ∷ one64 ∷ []))) (thrice 6 0)
+    ∷ case (after (spoilt axes set (one64 ∷ two64 ∷ nan ∷ [])) (newCore 0 (replicate 4 nan))) (6 ∷ 0 ∷ [])
+    -- 6 before 7: of the settings, of another axis, and of the new record
+    ∷ case (eachNaN (spoilt axes (setOf one64 zero64 minus-one) weights)) (thrice 6 1)
+    ∷ case (eachNaN (spoilt (axesOf (axisOf minus-one zero64) still) set weights)) (thrice 6 1)
+    ∷ case (after (spoilt axes set (one64 ∷ two64 ∷ nan ∷ [])) (newAxis 0 (axisOf minus-one zero64))) (6 ∷ 1 ∷ [])
+    -- what is held is asked too: the settings, the figure, the records, also one that is to be replaced
+    ∷ case (each (spoilt axes (setOf nan zero64 zero64) weights)) (thrice 6 0)
+    ∷ case (each (spoilt axes (setOf one64 nan zero64) weights)) (thrice 6 0)
+    ∷ case (each (spoilt axes (setOf one64 zero64 nan) weights)) (thrice 6 0)
+    ∷ case (each (holding (shapeOf 2 1) axes set weights 1 nan)) (thrice 6 0)
+    ∷ case (each (spoilt (axesOf still (axisOf nan zero64)) set weights)) (thrice 6 1)
+    ∷ case (each (spoilt axes (setOf minus-one zero64 zero64) weights)) (thrice 7 0)
+    ∷ case (each (spoilt axes (setOf one64 zero64 minus-one) weights)) (thrice 7 0)
+    ∷ case (each (spoilt (axesOf (axisOf minus-one zero64) still) set weights)) (thrice 7 0)
+    ∷ case (each (spoilt (axesOf still (axisOf minus-one zero64)) set weights)) (thrice 7 1)
+    -- unused room of what is made anew is +0
+    ∷ case (after well (newCore 0 (number 3 0 ∷ zero64 ∷ zero64 ∷ number 1 2 ∷ []))) (rankOne zero64)
+    -- new weights make no shift: never 8, which a new core of the same zone gives
+    ∷ case (after (spoilt (axesOf far far) set weights) (newCore 0 (zeros 4))) (8 ∷ 0 ∷ [])
+    ∷ case (after (spoilt (axesOf far far) set weights) (newWeights 1 (one64 ∷ []))) (rankOne minus-nought)
+    ∷ []
+
+-- ---- a refused fresh run: the record has what was given and zeros, chain, carries and sums are as they were
+abbrev leavesNothing : Refusal → List Axis → Settings → List Float → List Float → Type 0
+leavesNothing r xs t source after =
+    ending xs t source weights
+    ≡ record {
+      result = record {
+        verdict = Refused r;
+        run = record {
+          shape = shapeOf 2 1;
+          axes = xs;
+          set = t;
+          ranks = replicate 16 0;
+          sweeps = replicate 16 0;
+          settled = replicate 16 false;
+          figure = zero64;
+        };
+      };
+      chain = replicate 6 nan;
+      carries = replicate 4 nan;
+      sums = replicate 3 nan;
+      scratch = after;
+    }
+
+-- the square of its fourth number is not finite
+abbrev huge : List Float
+huge = one64 ∷ one64 ∷ one64 ∷ number 1 600 ∷ one64 ∷ one64 ∷ []
+
+-- by a check, which leaves scratch as it was, and in the work, which leaves it all +0
+abbrev pub RefusedFresh : Type 0
+RefusedFresh =
+    leavesNothing (Reach 1) (axesOf still far) (setOf one64 two64 minus-nought) D dust
+    × leavesNothing (Stored Spectrum 0 3) (axesOf still (axisOf zero64 one64)) (setOf one64 zero64 one64) huge (zeros (scratchFor 6))

@@ -1,0 +1,128 @@
+-- A kept run in memory: what it is made from, what it keeps, and what it holds for each zone. Definitions only.
+use Prim.Native.Nat.{ℕ, zero, suc, _-_, _*_}
+use mathlib.Core.Bool.{false}
+use mathlib.Core.List.{List}
+use lib.ListN.{take, replicate}
+use lib.Ieee.{Float}
+use Rattle.numbers.specs.Arithmetic.{zero64}
+use Rattle.lists.specs.Lists.{listed}
+use Rattle.lists.specs.Slots.{offset, slot}
+use Rattle.lists.specs.Floats.{zeros}
+use Rattle.shape.specs.declared.Shape.{Shape}
+use Rattle.shape.specs.Limits.{mostAxes}
+use Rattle.shape.specs.Shapes.{pointsOf, rightOf, atBond, coreSize, entriesOf}
+use Rattle.shape.specs.Cores.{Core, coreWith, coreAt, pointsAt}
+use Rattle.stepform.specs.declared.Axis.{Axis}
+use Rattle.cutform.specs.Rounding.{Carry, none, some}
+use Rattle.cutform.specs.Keeping.{Stepped, carrySize, rankAt}
+use Rattle.sumform.specs.Product.{startSums}
+use Rattle.sumform.specs.Sums.{sumSize}
+use Rattle.stepform.specs.declared.Settings.{Settings}
+use Rattle.stepform.specs.Zones.{Zone, zone, axisAt}
+use Rattle.runform.specs.declared.Run.{Run}
+
+-- what a run is made from
+pub record Inputs : Type 0 where
+  pub shape : Shape
+  pub axes : List Axis
+  pub set : Settings
+  pub source : List Float
+  pub weights : List Float
+
+-- what it keeps of the inner product; of the step it keeps what `Stepped` has
+pub record Summed : Type 0 where
+  pub sums : List Float
+  pub figure : Float
+
+pub record Kept : Type 0 where
+  pub inputs : Inputs
+  pub stepped : Stepped
+  pub summed : Summed
+
+abbrev pub running : Inputs → Stepped → Summed → Kept
+running i t u = record { inputs = i; stepped = t; summed = u }
+
+-- ---- in memory it is a record by value and five slices: source, weights, chain, carries, sums
+abbrev pub keptOf : Run → List Float → List Float → List Float → List Float → List Float → Kept
+keptOf r source weights chain carries sums = record {
+  inputs = record { shape = r .shape; axes = r .axes; set = r .set; source = source; weights = weights };
+  stepped = record { ranks = r .ranks; sweeps = r .sweeps; settled = r .settled; chain = chain; carries = carries };
+  summed = record { sums = sums; figure = r .figure };
+}
+
+abbrev pub recordOf : Kept → Run
+recordOf k = record {
+  shape = k .inputs .shape;
+  axes = k .inputs .axes;
+  set = k .inputs .set;
+  ranks = k .stepped .ranks;
+  sweeps = k .stepped .sweeps;
+  settled = k .stepped .settled;
+  figure = k .summed .figure;
+}
+
+-- ---- all slots of carries, and of sums
+abbrev pub allCarries : Shape → ℕ
+allCarries s = offset (carrySize s) (s .d)
+
+abbrev pub allSums : Shape → ℕ
+allSums s = offset (sumSize s) (s .d)
+
+-- a run that keeps nothing yet, over slices as they are
+unfoldable pub bare : Inputs → List Float → List Float → List Float → Kept
+bare i chain carries sums = record {
+  inputs = i;
+  stepped = record { ranks = replicate mostAxes 0; sweeps = replicate mostAxes 0; settled = replicate mostAxes false; chain = chain; carries = carries };
+  summed = record { sums = sums; figure = zero64 };
+}
+
+-- and with every slot +0
+unfoldable pub blank : Inputs → Kept
+blank i = bare i (zeros (entriesOf (i .shape))) (zeros (allCarries (i .shape))) (zeros (allSums (i .shape)))
+
+-- ---- what it is made from, zone by zone
+unfoldable pub zoneAt : Inputs → ℕ → Zone
+zoneAt i k = zone (coreAt (i .shape) (i .source) k) (axisAt (i .axes) k)
+
+-- the zones from z on
+abbrev pub zonesFrom : Inputs → ℕ → List Zone
+zonesFrom i z = listed (i .shape .d - z) z (zoneAt i)
+
+-- ---- what it holds, zone by zone: the used room of each slot
+-- the kept ranks left and right of core k
+abbrev pub leftRank : Stepped → ℕ → ℕ
+leftRank t zero = 1
+leftRank t (suc k) = rankAt t k
+
+abbrev pub rightRank : Shape → Stepped → ℕ → ℕ
+rightRank s t k = atBond s k (rankAt t k) (rightOf s k)
+
+unfoldable pub keptCore : Shape → Stepped → ℕ → Core
+keptCore s t k =
+    let l = leftRank t k in
+    let n = pointsOf s k in
+    let r = rightRank s t k in
+    coreWith l n r (take (l * n * r) (slot (coreSize s) k (t .chain)))
+
+-- the carry of bond k, and the carry left of zone z
+abbrev pub keptCarry : Shape → Stepped → ℕ → List Float
+keptCarry s t k = take (rankAt t k * rightOf s k) (slot (carrySize s) k (t .carries))
+
+unfoldable pub carryAt : Shape → Stepped → ℕ → Carry
+carryAt s t zero = none
+carryAt s t (suc k) = some (rankAt t k) (keptCarry s t k)
+
+-- the sums of axis k, and the sums left of zone z
+abbrev pub keptSums : Shape → Stepped → Summed → ℕ → List Float
+keptSums s t u k = take (rightRank s t k) (slot (sumSize s) k (u .sums))
+
+unfoldable pub sumsAt : Shape → Stepped → Summed → ℕ → List Float
+sumsAt s t u zero = startSums
+sumsAt s t u (suc k) = keptSums s t u k
+
+-- core k with its axis' weights, and those from z on
+unfoldable pub weighedAt : Inputs → Stepped → ℕ → Core × List Float
+weighedAt i t k = (keptCore (i .shape) t k, pointsAt (i .shape) (i .weights) k)
+
+abbrev pub weighedFrom : Inputs → Stepped → ℕ → List (Core × List Float)
+weighedFrom i t z = listed (i .shape .d - z) z (weighedAt i t)

@@ -1,0 +1,12 @@
+-- `shift::bands::cubic_band_weights` meets its contract. Assumes nothing.
+use mathlib.Core.Path.{refl}
+use Rattle.stepform.specs.Weights.{cubicBandWeights}
+use Rattle.shift.proofs.bands.cubic_band_weights.Statement.{statement}
+use Rattle.shift.proofs.bands.cubic_band_weights.Tie as tie
+
+returns : tie.Need-returns
+unfolding cubicBandWeights
+returns c = refl
+
+pub cubic-band-weights-spec : {M : Type 1} → statement M
+cubic-band-weights-spec = tie.close (tie.spec returns)

@@ -1,3 +1,0 @@
-pub mod Slabs
--- for the code: its columns
-pub mod Columned

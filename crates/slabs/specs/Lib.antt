@@ -1,2 +1,0 @@
-pub mod Slabs
-pub mod Loops

@@ -1,0 +1,7 @@
+pub mod Weights
+pub mod Axes
+pub mod Shifts
+pub mod Zones
+pub mod Steps
+pub mod Call
+pub mod Claims

@@ -1,0 +1,13 @@
+pub mod Fronts
+pub mod Standings
+pub mod Scalings
+pub mod Gathers
+pub mod Everys
+pub mod Passes
+pub mod Reshapes
+pub mod Traces
+pub mod Steps
+pub mod Evolves
+pub mod Asked
+pub mod Taken
+pub mod Late

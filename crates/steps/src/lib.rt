@@ -1,0 +1,138 @@
+// A step of the zones from any one on, in place, and steps one after another over a whole chain.
+pub mod moves;
+pub mod shifts;
+ghost use mathlib.Core.Path.{_≡_};
+ghost use mathlib.Core.Bool.{true, false};
+ghost use Prim.Native.Nat.{ℕ, _-_, _≤_, _<_};
+ghost use lib.ListN.{length};
+ghost use Rattle.answers.specs.declared.Verdict.the-variants.{Fits, Refused};
+ghost use Rattle.answers.specs.Outcome.{answered, done};
+ghost use Rattle.lists.specs.Lists.{tab};
+ghost use Rattle.shape.specs.Shapes.{chainOk, entriesOf};
+ghost use Rattle.shape.specs.Sizes.{Inside};
+ghost use Rattle.shape.specs.Cores.{standing, coresOf};
+ghost use Rattle.cuts.specs.Slots.{AtZone, heldBy};
+ghost use Rattle.stepform.specs.Steps.{step, stepsAndOne};
+ghost use Rattle.checks.specs.Over.{axisReaches, Stands, Rooms};
+ghost use Rattle.rounding.specs.Slots.{unrounded};
+ghost use Rattle.steps.specs.Held.{stepHeld, Came, Placed, Ready};
+
+// The most numbers that one block of a core has twice.
+pub const MOST_BLOCK: usize = 2 * (shape::MOST_POINTS * shape::MOST_RANK);
+
+fn refused_walk(q: answers::Refusal, t: shape::Shape) -> cuts::Walked
+    ensures { λ r. ⌜ r .verdict ≡ Refused q ⌝ }
+{
+    cuts::Walked {
+        verdict: answers::Verdict::Refused(q),
+        shape: t,
+        ranks: [0; shape::MOST_AXES],
+        sweeps: [0; shape::MOST_AXES],
+        settled: [false; shape::MOST_AXES],
+    }
+}
+
+// A step of the zones from z on, from what w holds left of z: shifts, scaling, rounding.
+pub fn step_from(
+    z: usize,
+    s: shape::Shape,
+    w: cuts::Walked,
+    set: stepform::Settings,
+    xs: [stepform::Axis; shape::MOST_AXES],
+    work: &mut [f64],
+    carries: &mut [f64],
+    room: &mut [f64],
+    block: &mut [f64],
+) -> cuts::Walked
+    requires { ⌜ (Stands s (w .shape) (now work)) × (Rooms (now room) (now block)) ⌝ }
+    requires { ⌜ (z ≤ s .d) × ((k : ℕ) → z ≤ k → k < s .d → axisReaches set s xs k ≡ true) ⌝ }
+    requires { ⌜ (w .verdict ≡ Fits) × AtZone s z z (w .shape) (heldBy w (now work) (now carries)) ⌝ }
+    ensures { λ r. ⌜ (stepHeld set s z xs (w .shape) (heldBy w (now (work .entry)) (now (carries .entry)))
+        ≡ answered (r .verdict) (r .shape, heldBy r (now (work .exit)) (now (carries .exit)))) × (z ≡ 0 → r .verdict ≡ Fits → Inside s (r .shape)) ⌝ }
+{
+    let t = w.shape;
+    let moved = shifts::move_from(z, s, t, set, xs, work, room, block);
+    if let answers::Verdict::Refused(q) = moved {
+        return refused_walk(q, t);
+    }
+    cuts::round_from(z, s, w, set.eps, work, carries, room)
+}
+
+// A step of a whole chain of shape t.
+fn one_step(
+    s: shape::Shape,
+    t: shape::Shape,
+    set: stepform::Settings,
+    xs: [stepform::Axis; shape::MOST_AXES],
+    work: &mut [f64],
+    carries: &mut [f64],
+    room: &mut [f64],
+    block: &mut [f64],
+) -> cuts::Walked
+    requires { ⌜ Ready set s xs (now carries) (now room) (now block) ⌝ }
+    requires { ⌜ Placed s t (now work) ⌝ }
+    ensures { λ r. ⌜ Came (step set xs (tab (s .d) (standing s t (now (work .entry))))) s t (r .verdict) (r .shape) (r .sweeps) (r .settled) (now (work .exit)) ⌝ }
+{
+    step_from(
+        0,
+        s,
+        rounding::unrounded(t),
+        set,
+        xs,
+        work,
+        carries,
+        room,
+        block,
+    )
+}
+
+// A step, and m more, each from the chain that the last one left.
+fn steps_in(
+    m: usize,
+    s: shape::Shape,
+    set: stepform::Settings,
+    xs: [stepform::Axis; shape::MOST_AXES],
+    work: &mut [f64],
+    carries: &mut [f64],
+    room: &mut [f64],
+    block: &mut [f64],
+) -> cuts::Walked
+    requires { ⌜ Ready set s xs (now carries) (now room) (now block) ⌝ }
+    requires { ⌜ Placed s s (now work) ⌝ }
+    ensures { λ r. ⌜ Came (stepsAndOne m set xs (tab (s .d) (standing s s (now (work .entry))))) s s (r .verdict) (r .shape) (r .sweeps) (r .settled) (now (work .exit)) ⌝ }
+{
+    let mut t = s;
+    let mut left = m;
+    while 0 < left {
+        let w = one_step(s, t, set, xs, work, carries, room, block);
+        let verdict = w.verdict;
+        if let answers::Verdict::Refused(q) = verdict {
+            return w;
+        }
+        let next = w.shape;
+        t = next;
+        left -= 1;
+    }
+    one_step(s, t, set, xs, work, carries, room, block)
+}
+
+// The chain taken into scratch, then a step of it and m more there.
+pub fn stepped(
+    m: usize,
+    s: shape::Shape,
+    set: stepform::Settings,
+    xs: [stepform::Axis; shape::MOST_AXES],
+    chain: &[f64],
+    scratch: &mut [f64],
+) -> cuts::Walked
+    requires { ⌜ (chainOk s ≡ done tt) × ((k : ℕ) → k < s .d → axisReaches set s xs k ≡ true) ⌝ }
+    requires { ⌜ (length (now chain) ≡ entriesOf s) × (entriesOf s ≤ length (now scratch)) ⌝ }
+    ensures { λ r. ⌜ Came (stepsAndOne m set xs (coresOf s (now (chain .entry)))) s s (r .verdict) (r .shape) (r .sweeps) (r .settled) (now (scratch .exit)) ⌝ }
+{
+    let mut carries = [0.0; rounding::MOST_CARRIES];
+    let mut room = [0.0; rounding::MOST_CORE];
+    let mut block = [0.0; MOST_BLOCK];
+    let entries = chain.len();
+    lists::copy(chain, &mut scratch[0..entries]);
+    steps_in(m, s, set, xs, scratch, &mut carries, &mut room, &mut block)
+}

@@ -1,0 +1,4 @@
+pub mod Signs
+pub mod Units
+pub mod Examples
+pub mod Edges

@@ -1,2 +1,0 @@
-pub mod Rotations
-pub mod Swept

@@ -1,8 +1,0 @@
--- `sweeps::put` meets its contract. Assumes nothing.
-use borrow.Author.Needs.{needs}
-use Rattle.lists.proofs.Cells.{exacts}
-use Rattle.sweeps.proofs.put.Statement.{statement}
-use Rattle.sweeps.proofs.put.Tie as tie
-
-pub put-spec : {M : Type 1} → statement M
-put-spec = tie.close (tie.spec (λ c. search (needs, exacts)) (λ c. search (needs, exacts)) (λ c. search (needs, exacts)) (λ c. search (needs, exacts)) (λ c. search (needs, exacts)) (λ c. search (needs, exacts)))

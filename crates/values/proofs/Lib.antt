@@ -1,2 +1,0 @@
-pub mod Ranked
-pub mod Chosen

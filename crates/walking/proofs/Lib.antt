@@ -1,3 +1,0 @@
-pub mod Bonds
-pub mod From
-pub mod Stands
