@@ -5,7 +5,9 @@ use native.Mathlib.Omega.{arith}
 use Rattle.answers.specs.declared.Part.{Part}
 use Rattle.answers.specs.declared.Verdict.{Verdict}
 use Rattle.answers.specs.declared.Verdict.the-variants.{Fits, Refused}
-use Rattle.answers.specs.Outcome.{Outcome, done, refused, bind, Answer, Made, making, answered, verdictOf}
+use Rattle.answers.specs.declared.Stage.{Stage}
+use Rattle.answers.specs.declared.Stage.the-variants.{Whole, Spilt}
+use Rattle.answers.specs.Outcome.{Outcome, done, refused, bind, Answer, Made, making, answered, staged, storedIn, verdictOf}
 
 pub done-inj : {E A : Type 0} {x y : A} → _≡_ {A = Outcome E A} (done x) (done y) → x ≡ y
 done-inj h = cc
@@ -49,6 +51,12 @@ module _ {A B : Type 0} where
 
 -- ---- the code's verdict with what it holds
 module _ {A : Type 0} where
+  -- a stage's answer as the call's, whatever it made
+  pub stored-answered : (part : Part) (k : ℕ) (s : Stage) (v : Verdict) (a : A) → v ≡ storedIn part k s → making part k (staged s a) ≡ answered v a
+  unfolding answered staged
+  stored-answered part k Whole v a e = ap (λ (x : Verdict). answered x a) (sym e)
+  stored-answered part k (Spilt i) v a e = ap (λ (x : Verdict). answered x a) (sym e)
+
   pub answered-fits : (a : A) → answered Fits a ≡ done a
   unfolding answered
   answered-fits a = refl

@@ -70,6 +70,10 @@ unfoldable pub staged : {A : Type 0} → Stage → A → Made A
 staged Whole a = done a
 staged (Spilt i) a = refused i
 
+-- the call's verdict on a stage that made this part for core k
+abbrev pub storedIn : Part → ℕ → Stage → Verdict
+storedIn part k s = verdictOf (making part k (staged s (tt {0})))
+
 -- what an outcome holds, or z
 abbrev pub heldOr : {E A : Type 0} → A → Outcome E A → A
 heldOr z (done a) = a

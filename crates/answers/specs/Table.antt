@@ -1,9 +1,10 @@
 -- The scope's table of refusals: the number and the place of each. Definitions only.
+use mathlib.Core.Path.{_≡_}
 use Prim.Native.Nat.{ℕ}
-use mathlib.Core.Bool.{Bool, _||_}
-use lib.Dec.{leb, eqb}
+use mathlib.Core.Bool.{Bool, true, false}
 use Rattle.answers.specs.declared.Refusal.{Refusal}
 use Rattle.answers.specs.declared.Refusal.the-variants.{Axes, Size, Bond, Zone, Length, Number, Setting, Reach, Stored, PairRank, File}
+use Rattle.answers.specs.Outcome.{Answer, refused}
 
 abbrev pub numberOf : Refusal → ℕ
 numberOf Axes = 1
@@ -33,4 +34,18 @@ placeOf (File b) = b
 
 -- one that a check gives before any work: it leaves scratch unwritten
 abbrev pub beforeWork : Refusal → Bool
-beforeWork r = leb (numberOf r) 8 || eqb (numberOf r) 11
+beforeWork Axes = true
+beforeWork (Size k) = true
+beforeWork (Bond k) = true
+beforeWork Zone = true
+beforeWork (Length i) = true
+beforeWork (Number k) = true
+beforeWork (Setting k) = true
+beforeWork (Reach k) = true
+beforeWork (Stored part k i) = false
+beforeWork PairRank = false
+beforeWork (File b) = true
+
+-- refused by the work alone, never by a check before it
+abbrev pub Late : {A : Type 0} → Answer A → Type 0
+Late o = (q : Refusal) → o ≡ refused q → beforeWork q ≡ false

@@ -1,6 +1,7 @@
 // What a call answers: the refusals of the scope's table, one case a row, and whether there was one.
 ghost use mathlib.Core.Path.{_≡_};
-ghost use Rattle.answers.specs.Table.{numberOf, placeOf};
+ghost use Rattle.answers.specs.Outcome.{storedIn};
+ghost use Rattle.answers.specs.Table.{numberOf, placeOf, beforeWork};
 
 // What was being made where a number to be stored isn't finite.
 pub enum Part {
@@ -85,5 +86,34 @@ pub fn place(r: Refusal) -> usize
         Refusal::Stored(part, k, i) => k,
         Refusal::PairRank => 0,
         Refusal::File(b) => b,
+    }
+}
+
+// Whether a check gives it before any work.
+pub fn before_work(r: Refusal) -> bool
+    ensures { λ b. ⌜ b ≡ beforeWork r ⌝ }
+{
+    match r {
+        Refusal::Axes => true,
+        Refusal::Size(k) => true,
+        Refusal::Bond(k) => true,
+        Refusal::Zone => true,
+        Refusal::Length(i) => true,
+        Refusal::Number(k) => true,
+        Refusal::Setting(k) => true,
+        Refusal::Reach(k) => true,
+        Refusal::Stored(part, k, i) => false,
+        Refusal::PairRank => false,
+        Refusal::File(b) => true,
+    }
+}
+
+// What a call answers of a stage that makes this part for this core.
+pub fn stored_in(stage: Stage, part: Part, core: usize) -> Verdict
+    ensures { λ r. ⌜ r ≡ storedIn part core stage ⌝ }
+{
+    match stage {
+        Stage::Whole => Verdict::Fits,
+        Stage::Spilt(i) => Verdict::Refused(Refusal::Stored(part, core, i)),
     }
 }

@@ -25,7 +25,7 @@ pub fn axis_ok(x: Axis) -> bool
 }
 
 // What stands where a list has no record.
-const BLANK: Axis = Axis {
+pub const BLANK: Axis = Axis {
     a: 0.0,
     b: 0.0,
     xmin: 0.0,

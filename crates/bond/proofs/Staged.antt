@@ -17,10 +17,11 @@ use Rattle.lists.specs.Floats.{stored}
 use Rattle.lists.proofs.Parts.{part-again}
 use Rattle.lists.proofs.Stages.{stored-staged, staged-on, staged-stop}
 use Rattle.shape.specs.Cores.{Core, coreWith}
+use Rattle.cutform.specs.declared.Cutting.{Cutting}
 use Rattle.cutform.specs.Sweeps.{eig, Swept, swept, diagonalized}
 use Rattle.cutform.specs.Rotation.{eye}
 use Rattle.cutform.specs.Values.{singulars, order, sorted, keptRank}
-use Rattle.cutform.specs.Bonds.{gram, Bond, cutBond}
+use Rattle.cutform.specs.Bonds.{gram, CutCore, cutBond}
 use Rattle.cutform.specs.Factors.{leftFactor, carryOf}
 use Rattle.bond.specs.Stages.{sweptOf, restOf}
 use Rattle.bond.specs.FactorRows.{Factors, factorsOf}
@@ -51,54 +52,61 @@ module _ (part : Part) (k : ℕ) where
   both (refused i) b of K = refl
 
 -- ---- the cut
-module _ (k : ℕ) (eps : Float) (c : Core) where
+module _ (k : ℕ) (cutting : Cutting) (c : Core) where
   abbrev pair : List Float → List Float → Factors
   pair u x = record { left = u; carry = x }
 
   abbrev chosen : List Float → Chosen
-  chosen sv = let ss = sorted (c .rr) sv in record { rank = keptRank eps (c .rr) ss; order = order (c .rr) sv; values = ss }
+  chosen sv = let ss = sorted (c .rr) sv in record { rank = keptRank (cutting .eps) (c .rr) ss; order = order (c .rr) sv; values = ss }
 
-  made : Swept → Chosen → Factors → Answer Bond
-  made w q f = done (record { core = coreWith (c .rl) (c .n) (q .rank) (f .left); sweeps = w .count; settles = w .settles; carry = f .carry })
+  abbrev whole : Swept → Chosen → Factors → CutCore
+  whole w q f = record {
+    core = coreWith (c .rl) (c .n) (q .rank) (f .left);
+    bond = record { rank = q .rank; sweeps = w .count; settled = w .settles };
+    carry = f .carry;
+  }
 
-  last : Swept → Chosen → Answer Bond
+  made : Swept → Chosen → Factors → Answer CutCore
+  made w q f = done (whole w q f)
+
+  last : Swept → Chosen → Answer CutCore
   last w q = bind (making Factor k (factorsOf c (q .rank) (q .values) (q .order) (w .eig .v))) (made w q)
 
-  cut-stages : cutBond k eps c ≡ bind (making Spectrum k (sweptOf c)) (restOf k eps c)
+  cut-stages : cutBond k cutting c ≡ bind (making Spectrum k (sweptOf c)) (restOf k cutting c)
   unfolding cutBond sweptOf restOf chosenOf factorsOf made last
   cut-stages =
       bind-cong (making Spectrum k (stored (gram c))) _ _
-      (λ g a. bind-cong (making Spectrum k (diagonalized (c .rr) (eig g (eye (c .rr))))) _ (restOf k eps c)
+      (λ g a. bind-cong (making Spectrum k (diagonalized (c .rr) (eig g (eye (c .rr))))) _ (restOf k cutting c)
       (λ w b. bind-cong (making Spectrum k (stored (singulars (c .rr) (w .eig .g)))) _ (λ sv. last w (chosen sv))
       (λ sv e. let q = chosen sv in both Factor k (stored (leftFactor c (q .rank) (q .values) (q .order) (w .eig .v))) (stored (carryOf (c .rr) (q .rank) (q .values) (q .order) (w .eig .v))) pair (made w q))
       ∙ two Spectrum k (stored (singulars (c .rr) (w .eig .g))) (λ sv. done (chosen sv)) (last w)))
-      ∙ two Spectrum k (stored (gram c)) (λ g. diagonalized (c .rr) (eig g (eye (c .rr)))) (restOf k eps c)
+      ∙ two Spectrum k (stored (gram c)) (λ g. diagonalized (c .rr) (eig g (eye (c .rr)))) (restOf k cutting c)
 
   module _ (s : Stage) (w : Swept) (ew : sweptOf c ≡ staged s w) where
-    pub cut-stop : (i : ℕ) (b : Bond) → s ≡ Spilt i → cutBond k eps c ≡ answered (Refused (Stored Spectrum k i)) b
+    pub cut-stop : (i : ℕ) (b : CutCore) → s ≡ Spilt i → cutBond k cutting c ≡ answered (Refused (Stored Spectrum k i)) b
     unfolding staged answered
     cut-stop i b h = cut-stages ∙ rw (ew, h)
 
-    pub cut-on : s ≡ Whole → (o : Answer Bond) → restOf k eps c w ≡ o → cutBond k eps c ≡ o
+    pub cut-on : s ≡ Whole → (o : Answer CutCore) → restOf k cutting c w ≡ o → cutBond k cutting c ≡ o
     unfolding staged
     cut-on h o e = cut-stages ∙ rw (ew, h) e
 
   -- ---- what follows the sweeps
-  module _ (w : Swept) (s : Stage) (q : Chosen) (eq : chosenOf eps (c .rr) (w .eig .g) ≡ staged s q) where
-    pub rest-first : (i : ℕ) (b : Bond) → s ≡ Spilt i → restOf k eps c w ≡ answered (Refused (Stored Spectrum k i)) b
+  module _ (w : Swept) (s : Stage) (q : Chosen) (eq : chosenOf (cutting .eps) (c .rr) (w .eig .g) ≡ staged s q) where
+    pub rest-first : (i : ℕ) (b : CutCore) → s ≡ Spilt i → restOf k cutting c w ≡ answered (Refused (Stored Spectrum k i)) b
     unfolding restOf staged answered
     rest-first i b h = rw (eq, h)
 
     module _ (h : s ≡ Whole) (t : Stage) (f : Factors) (ef : factorsOf c (q .rank) (q .values) (q .order) (w .eig .v) ≡ staged t f) where
-      opened : restOf k eps c w ≡ bind (making Factor k (staged t f)) (made w q)
+      opened : restOf k cutting c w ≡ bind (making Factor k (staged t f)) (made w q)
       unfolding restOf staged made
       opened = rw (eq, h, ef)
 
-      pub rest-second : (i : ℕ) (b : Bond) → t ≡ Spilt i → restOf k eps c w ≡ answered (Refused (Stored Factor k i)) b
+      pub rest-second : (i : ℕ) (b : CutCore) → t ≡ Spilt i → restOf k cutting c w ≡ answered (Refused (Stored Factor k i)) b
       unfolding staged answered
       rest-second i b e = opened ∙ rw e
 
-      pub rest-whole : t ≡ Whole → restOf k eps c w ≡ answered Fits (record { core = coreWith (c .rl) (c .n) (q .rank) (f .left); sweeps = w .count; settles = w .settles; carry = f .carry })
+      pub rest-whole : t ≡ Whole → restOf k cutting c w ≡ answered Fits (whole w q f)
       unfolding staged answered made
       rest-whole e = opened ∙ rw e
 

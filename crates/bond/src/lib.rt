@@ -4,7 +4,6 @@ pub mod strips;
 pub mod sweeps;
 pub mod values;
 ghost use mathlib.Core.Path.{_≡_};
-ghost use mathlib.Core.Bool.{false};
 ghost use mathlib.Core.List.{_++_};
 ghost use Prim.Native.Nat.{_*_, _≤_};
 ghost use lib.ListN.{length, take, drop};
@@ -14,8 +13,8 @@ ghost use Rattle.answers.specs.Outcome.{staged, answered};
 ghost use Rattle.shape.specs.Limits.{mostRank};
 ghost use Rattle.shape.specs.Cores.{coreWith};
 ghost use Rattle.cutform.specs.Sweeps.{eig, swept};
-ghost use Rattle.cutform.specs.Bonds.{gram, cutBond, absorb};
-ghost use Rattle.bond.specs.Stages.{sweptOf, restOf};
+ghost use Rattle.cutform.specs.Bonds.{gram, noBond, cutBond, absorb};
+ghost use Rattle.bond.specs.Stages.{sweptOf, restOf, cutInto};
 
 // The Gram matrix of a core's rows.
 pub fn gram(core: &[f64], rl: usize, n: usize, rr: usize, g: &mut [f64])
@@ -64,33 +63,42 @@ fn swept_within(
     swept_gram(core, rl, n, rr, &mut g[0..e], &mut v[0..e])
 }
 
-// What a cut came to: where it fits, the rank kept, the sweeps made, and whether the sum was small at their end.
+// What a cut came to, and where it fits what is said of its bond.
 pub struct BondCut {
     pub verdict: answers::Verdict,
-    pub rank: usize,
-    pub sweeps: usize,
-    pub settles: bool,
+    pub bond: cutform::Bond,
 }
 
-fn cut_refused(part: answers::Part, k: usize, i: usize) -> BondCut
-    ensures { λ r. ⌜ r ≡ record { verdict = Refused (Stored part k i); rank = 0; sweeps = 0; settles = false } ⌝ }
+// What is said where no bond was cut.
+pub fn no_bond() -> cutform::Bond
+    ensures { λ r. ⌜ r ≡ noBond ⌝ }
 {
-    BondCut {
-        verdict: answers::Verdict::Refused(answers::Refusal::Stored(part, k, i)),
+    cutform::Bond {
         rank: 0,
         sweeps: 0,
-        settles: false,
+        settled: false,
     }
 }
 
-fn cut_made(rank: usize, sweeps: usize, settles: bool) -> BondCut
-    ensures { λ r. ⌜ r ≡ record { verdict = Fits; rank = rank; sweeps = sweeps; settles = settles } ⌝ }
+fn cut_refused(part: answers::Part, k: usize, i: usize) -> BondCut
+    ensures { λ r. ⌜ r ≡ record { verdict = Refused (Stored part k i); bond = noBond } ⌝ }
+{
+    BondCut {
+        verdict: answers::Verdict::Refused(answers::Refusal::Stored(part, k, i)),
+        bond: no_bond(),
+    }
+}
+
+fn cut_made(rank: usize, sweeps: usize, settled: bool) -> BondCut
+    ensures { λ r. ⌜ r ≡ record { verdict = Fits; bond = record { rank = rank; sweeps = sweeps; settled = settled } } ⌝ }
 {
     BondCut {
         verdict: answers::Verdict::Fits,
-        rank,
-        sweeps,
-        settles,
+        bond: cutform::Bond {
+            rank,
+            sweeps,
+            settled,
+        },
     }
 }
 
@@ -101,7 +109,7 @@ fn finish(
     rl: usize,
     n: usize,
     rr: usize,
-    eps: f64,
+    cutting: cutform::Cutting,
     count: usize,
     settles: bool,
     v: &[f64],
@@ -111,11 +119,13 @@ fn finish(
 ) -> BondCut
     requires { ⌜ (length (now core) ≡ rl * n * rr) × (1 ≤ rr) × (rr ≤ mostRank) × (rr * rr ≤ length (now v)) × (rr * rr ≤ length (now g))
         × (rr * rr ≤ length (now carry)) × (length (now core) ≤ length (now room)) ⌝ }
-    ensures { λ r. ⌜ restOf k eps (coreWith rl n rr (now (core .entry))) (swept count settles (eig (take (rr * rr) (now (g .entry))) (take (rr * rr) (now (v .entry))))) ≡ answered (r .verdict) (record { core = coreWith rl n (r .rank) (take (rl * n * r .rank) (now (core .exit))); sweeps = r .sweeps; settles = r .settles; carry = take (r .rank * rr) (now (carry .exit)) }) ⌝ }
+    ensures { λ r. ⌜ restOf k cutting (coreWith rl n rr (now (core .entry)))
+        (swept count settles (eig (take (rr * rr) (now (g .entry))) (take (rr * rr) (now (v .entry)))))
+        ≡ answered (r .verdict) (cutInto rl n rr (r .bond) (now (core .exit)) (now (carry .exit))) ⌝ }
 {
     let mut ss = [0.0; shape::MOST_RANK];
     let mut js = [0; shape::MOST_RANK];
-    let kept = values::keep(g, rr, eps, &mut ss, &mut js);
+    let kept = values::keep(g, rr, cutting.eps, &mut ss, &mut js);
     let stage = kept.stage;
     if let answers::Stage::Spilt(i) = stage {
         return cut_refused(answers::Part::Spectrum, k, i);
@@ -135,7 +145,7 @@ fn cut(
     rl: usize,
     n: usize,
     rr: usize,
-    eps: f64,
+    cutting: cutform::Cutting,
     carry: &mut [f64],
     room: &mut [f64],
     g: &mut [f64],
@@ -143,8 +153,8 @@ fn cut(
 ) -> BondCut
     requires { ⌜ (length (now core) ≡ rl * n * rr) × (1 ≤ rl) × (1 ≤ n) × (1 ≤ rr) × (rr ≤ mostRank) × (rr * rr ≤ length (now g))
         × (rr * rr ≤ length (now v)) × (rr * rr ≤ length (now carry)) × (length (now core) ≤ length (now room)) ⌝ }
-    ensures { λ r. ⌜ cutBond k eps (coreWith rl n rr (now (core .entry)))
-        ≡ answered (r .verdict) (record { core = coreWith rl n (r .rank) (take (rl * n * r .rank) (now (core .exit))); sweeps = r .sweeps; settles = r .settles; carry = take (r .rank * rr) (now (carry .exit)) }) ⌝ }
+    ensures { λ r. ⌜ cutBond k cutting (coreWith rl n rr (now (core .entry)))
+        ≡ answered (r .verdict) (cutInto rl n rr (r .bond) (now (core .exit)) (now (carry .exit))) ⌝ }
 {
     let s = swept_within(core, rl, n, rr, g, v);
     let stage = s.stage;
@@ -157,7 +167,7 @@ fn cut(
         rl,
         n,
         rr,
-        eps,
+        cutting,
         s.count,
         s.settles,
         v,
@@ -175,18 +185,18 @@ pub fn cut_bond(
     rl: usize,
     n: usize,
     rr: usize,
-    eps: f64,
+    cutting: cutform::Cutting,
     carry: &mut [f64],
     room: &mut [f64],
 ) -> BondCut
     requires { ⌜ (length (now core) ≡ rl * n * rr) × (1 ≤ rl) × (1 ≤ n) × (1 ≤ rr) × (rr ≤ mostRank) × (rr * rr ≤ length (now carry))
         × (length (now core) ≤ length (now room)) ⌝ }
-    ensures { λ r. ⌜ cutBond k eps (coreWith rl n rr (now (core .entry)))
-        ≡ answered (r .verdict) (record { core = coreWith rl n (r .rank) (take (rl * n * r .rank) (now (core .exit))); sweeps = r .sweeps; settles = r .settles; carry = take (r .rank * rr) (now (carry .exit)) }) ⌝ }
+    ensures { λ r. ⌜ cutBond k cutting (coreWith rl n rr (now (core .entry)))
+        ≡ answered (r .verdict) (cutInto rl n rr (r .bond) (now (core .exit)) (now (carry .exit))) ⌝ }
 {
     let mut g = [0.0; shape::MOST_RANK * shape::MOST_RANK];
     let mut v = [0.0; shape::MOST_RANK * shape::MOST_RANK];
-    cut(core, k, rl, n, rr, eps, carry, room, &mut g, &mut v)
+    cut(core, k, rl, n, rr, cutting, carry, room, &mut g, &mut v)
 }
 
 // A carry of r rows taken into a core from the left, at the front of out.

@@ -48,9 +48,9 @@ fn row(b: &[f64], p: usize, q: usize, a: &[f64], w: usize, c: usize, out: &mut [
     ensures { λ _. ⌜ now (out .exit) ≡ storedFrom e w (dotAt (now (b .entry)) p q (now (a .entry)) w c) (now (out .entry)) ⌝ }
 {
     let mut j = 0;
-    while j + 8 <= w {
-        strip(b, p, q, a, w, c, j, 8, out, e + j);
-        j += 8;
+    while j + lists::STRIP <= w {
+        strip(b, p, q, a, w, c, j, lists::STRIP, out, e + j);
+        j += lists::STRIP;
     }
     while j + 4 <= w {
         strip(b, p, q, a, w, c, j, 4, out, e + j);

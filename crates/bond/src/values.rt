@@ -9,7 +9,7 @@ ghost use Rattle.lists.specs.Lists.{count};
 ghost use Rattle.lists.specs.Floats.{at, allFinite};
 ghost use Rattle.shape.specs.Limits.{mostRank};
 ghost use Rattle.bond.specs.Chosen.{chosenOf};
-ghost use Rattle.cutform.specs.Values.{singularOf, singulars, rankIn, order, sorted, thresholdOf, keptRank};
+ghost use Rattle.cutform.specs.Values.{singularOf, singulars, placeIn, order, sorted, thresholdOf, keptRank};
 
 // The root of a diagonal entry, +0 where it isn't above zero.
 fn singular(x: f64) -> f64
@@ -66,7 +66,7 @@ fn count_equal(l: &[f64], n: usize, x: f64) -> usize
 // Where value i stands once they are sorted: after the larger ones, and the equal ones before it.
 fn place_of(sv: &[f64], n: usize, i: usize) -> usize
     requires { ⌜ (length (now sv) ≡ n) × (i < n) ⌝ }
-    ensures { λ r. ⌜ r ≡ rankIn n (now (sv .entry)) i ⌝ }
+    ensures { λ r. ⌜ r ≡ placeIn n (now (sv .entry)) i ⌝ }
 {
     let x = sv[i];
     count_above(sv, n, x) + count_equal(sv, i, x)

@@ -17,7 +17,7 @@ use Rattle.answers.specs.Outcome.{Answer, Check, _then_, demand, verdictOf}
 use Rattle.answers.proofs.Checks.{demand-yes, demand-no}
 use Rattle.lists.proofs.Tests.{both, eqb-yes, eqb-no, leb-yes, not-no, not-yes}
 use Rattle.shape.specs.declared.Shape.{Shape}
-use Rattle.shape.specs.Limits.{mostAxes, mostPoints, mostRank, within}
+use Rattle.shape.specs.Limits.{mostAxes, mostPoints, mostRank, mostCore, within}
 use Rattle.shape.specs.Shapes.{leftOf, pointsOf, rightOf, sizeOk, coreSize}
 use Rattle.shape.proofs.Shaped.{within-is}
 use Rattle.words.specs.Bytes.{numberAt, u16At, u32At}
@@ -99,7 +99,7 @@ module _ (s : Shape) (k : ℕ) (ok : sizeOk s k ≡ true) where
   rows : leftOf s k * pointsOf s k ≤ mostRank * mostPoints
   rows = mul-le-mul (within-is mostRank (leftOf s k) (parts .0) .1) (within-is mostPoints (pointsOf s k) (both _ (within mostRank (rightOf s k)) (parts .1) .0) .1)
 
-  whole : leftOf s k * pointsOf s k * rightOf s k ≤ 4096
+  whole : leftOf s k * pointsOf s k * rightOf s k ≤ mostCore
   whole = mul-le-mul rows (within-is mostRank (rightOf s k) (both (within mostPoints (pointsOf s k)) _ (parts .1) .1) .1)
 
   pub rows-small : Fits' w64 (leftOf s k * pointsOf s k)
@@ -111,7 +111,7 @@ module _ (s : Shape) (k : ℕ) (ok : sizeOk s k ≡ true) where
   pub body-small : Fits' w64 (8 * (leftOf s k * pointsOf s k * rightOf s k))
   body-small = record { fits = omega (arith, whole) }
 
-  pub body-counts : (8 * (leftOf s k * pointsOf s k * rightOf s k) ≡ 8 * coreSize s k) × (8 * (leftOf s k * pointsOf s k * rightOf s k) ≤ 32768)
+  pub body-counts : (8 * (leftOf s k * pointsOf s k * rightOf s k) ≡ 8 * coreSize s k) × (8 * (leftOf s k * pointsOf s k * rightOf s k) ≤ 8 * mostCore)
   unfolding coreSize
   body-counts = (refl, omega (arith, whole))
 

@@ -24,7 +24,7 @@ use Rattle.lists.specs.Walks.{turning}
 use Rattle.lists.proofs.Tables.{length-tab, tab-none, tab-more}
 use Rattle.lists.proofs.Slots.{fit-whole}
 use Rattle.shape.specs.declared.Shape.{Shape}
-use Rattle.shape.specs.Limits.{mostAxes}
+use Rattle.shape.specs.Limits.{mostAxes, mostCore}
 use Rattle.shape.specs.Shapes.{sizeOk, coreSize}
 use Rattle.shape.proofs.Shaped.{within-is}
 use Rattle.words.specs.Bytes.{u16At}
@@ -70,7 +70,7 @@ module _ (bytes : List ℕ) (s : Shape) where
   pub record AtEntry (start k : ℕ) : Type 0 where
     pub most : k ≤ s .d
     pub here : start ≡ bodyStart s k
-    pub small : start ≤ 200 + k * 32768
+    pub small : start ≤ 8 + 12 * mostAxes + k * (8 * mostCore)
     pub rest : all ≡ turning (s .d - k) k turn tt
 
   pub entries-none : s .d ≤ mostAxes → AtEntry (8 + 12 * s .d) 0
@@ -93,7 +93,7 @@ module _ (bytes : List ℕ) (s : Shape) where
       pub entry-sized : v ≡ Fits → sizeOk s k ≡ true
       entry-sized h = entry-is bytes s k (verdict-passed (entryOk bytes s k) v e h) .sizes
 
-      pub entries-more : v ≡ Fits → (x : ℕ) → (x ≡ 8 * coreSize s k) × (x ≤ 32768) → AtEntry (start + x) (k + 1)
+      pub entries-more : v ≡ Fits → (x : ℕ) → (x ≡ 8 * coreSize s k) × (x ≤ 8 * mostCore) → AtEntry (start + x) (k + 1)
       unfolding bodyStart offset
       entries-more h x g =
           let b : start ≡ 8 + 12 * s .d + 8 * offset (coreSize s) k = A .here in
@@ -105,7 +105,7 @@ module _ (bytes : List ℕ) (s : Shape) where
             rest = opened ∙ ap (λ (c : Check). c then turning (s .d - (k + 1)) (k + 1) turn tt) (verdict-passed (entryOk bytes s k) v e h);
           }
 
-  pub start-fits : (start k x : ℕ) → AtEntry start k → k < s .d → s .d ≤ mostAxes → x ≤ 32768 → Fits' w64 (start + x)
+  pub start-fits : (start k x : ℕ) → AtEntry start k → k < s .d → s .d ≤ mostAxes → x ≤ 8 * mostCore → Fits' w64 (start + x)
   start-fits start k x A lt few h = record { fits = omega (arith, A .small) }
 
 -- ---- an answer by the verdict of a check before it

@@ -7,7 +7,7 @@ ghost use Rattle.answers.specs.Outcome.{done, refused, verdictOf};
 ghost use Rattle.lists.specs.Lists.{tab};
 ghost use Rattle.lists.specs.Slots.{fit};
 ghost use Rattle.lists.specs.Walks.{turning};
-ghost use Rattle.shape.specs.Limits.{mostAxes};
+ghost use Rattle.shape.specs.Limits.{mostAxes, mostCore};
 ghost use Rattle.shape.specs.Shapes.{sizeOk, coreSize};
 ghost use Rattle.words.specs.Bytes.{u16At};
 ghost use Rattle.fileform.specs.File.{entryStart, bodyStart};
@@ -108,7 +108,7 @@ fn entry_ok(bytes: &[u8], s: shape::Shape, k: usize, start: usize) -> Verdict
 // How many bytes the body of core k has.
 fn body_size(s: shape::Shape, k: usize) -> usize
     requires { ⌜ (k < mostAxes) × (sizeOk s k ≡ true) ⌝ }
-    ensures { λ r. ⌜ (r ≡ 8 * coreSize s k) × (r ≤ 32768) ⌝ }
+    ensures { λ r. ⌜ (r ≡ 8 * coreSize s k) × (r ≤ 8 * mostCore) ⌝ }
 {
     8 * (s.left[k] * s.n[k] * s.right[k])
 }

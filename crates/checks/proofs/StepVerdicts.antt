@@ -1,4 +1,4 @@
--- The checks of a step by what code finds, and that the records by value stand for those that were lent. Assumes nothing.
+-- The checks of a step by what code finds. Assumes nothing.
 use mathlib.Core.Path.{_≡_, refl, ap, _∙_}
 use Prim.Native.Nat.{ℕ, _≤_, _<_}
 use mathlib.Core.Bool.{Bool, true, false, not}
@@ -23,7 +23,8 @@ use Rattle.shape.specs.Shapes.{pointsOf}
 use Rattle.stepform.specs.declared.Shift.{Shift}
 use Rattle.stepform.specs.Shifts.{shiftOf, reaches}
 use Rattle.stepform.specs.declared.Settings.{Settings}
-use Rattle.checks.specs.Over.{axisReaches, zonesFinite, settingsOk}
+use Rattle.stepform.specs.Zones.{rules}
+use Rattle.stepform.specs.Call.{reachesAt, axisReaches, zonesFinite, settingsOk}
 
 -- ---- a check with more behind it, by what code found of a flag, a number, a first place
 module _ (o : Check) (r : Refusal) where
@@ -65,8 +66,9 @@ module _ (s : Shape) (xs : List Axis) (chain : List Float) (i j : ℕ)
 pub ruleset zones-found = (core-wrong, zones-right, axis-wrong)
 
 -- x is the record of axis k, y the shift of its core
-pub reaches-found : (t : Settings) (s : Shape) (xs : List Axis) (k : ℕ) (x : Axis) (y : Shift) (b : Bool) → x ≡ axisAt xs k → y ≡ shiftOf x (t .tau) (pointsOf s k) → b ≡ reaches y → b ≡ axisReaches t s xs k
-unfolding axisReaches
+pub reaches-found : (t : Settings) (s : Shape) (xs : List Axis) (k : ℕ) (x : Axis) (y : Shift) (b : Bool)
+    → x ≡ axisAt xs k → y ≡ shiftOf x (t .tau) (pointsOf s k) → b ≡ reaches y → b ≡ axisReaches t s xs k
+unfolding reachesAt rules
 reaches-found t s xs k x y b e f g = g ∙ ap reaches f ∙ ap (λ (z : Axis). reaches (shiftOf z (t .tau) (pointsOf s k))) e
 
 -- i is the first axis whose a is below zero, j the first whose shift is too far

@@ -6,10 +6,7 @@ ghost use lib.ListN.{length};
 ghost use Rattle.answers.specs.Outcome.{verdictOf};
 ghost use Rattle.shape.specs.Shapes.{entriesOf};
 ghost use Rattle.shape.specs.Sizes.{SizesWithin};
-ghost use Rattle.cutform.specs.Asked.{lengthsOk, notBelowZero, roundFinite, roundOk};
-
-// What scratch has beside four times the chain's numbers.
-pub const SCRATCH_BESIDE: usize = 2048;
+ghost use Rattle.cutform.specs.Asked.{lengthsOk, notBelowZero, cuttingFinite, cuttingOk, roundFinite, roundOk};
 
 // Refusal 5: the chain is slice i, scratch slice j.
 pub fn lengths_ok(
@@ -26,7 +23,7 @@ pub fn lengths_ok(
     if chain != entries {
         return answers::Verdict::Refused(answers::Refusal::Length(i));
     }
-    if scratch != 4 * entries + SCRATCH_BESIDE {
+    if scratch != shape::scratch_for(entries) {
         return answers::Verdict::Refused(answers::Refusal::Length(j));
     }
     answers::Verdict::Fits
@@ -38,14 +35,32 @@ pub fn not_below_zero(x: f64) -> bool
     !(x < 0.0)
 }
 
-// Refusal 6: eps, then the first core with a number that isn't finite.
-fn round_finite(s: shape::Shape, eps: f64, chain: &[f64]) -> answers::Verdict
+// What 6 asks of how a cut is made.
+pub fn cutting_finite(cutting: cutform::Cutting) -> bool
+    ensures { λ r. ⌜ r ≡ cuttingFinite cutting ⌝ }
+{
+    numbers::is_finite(cutting.eps)
+}
+
+// What 7 asks of it.
+pub fn cutting_ok(cutting: cutform::Cutting) -> bool
+    ensures { λ r. ⌜ r ≡ cuttingOk cutting ⌝ }
+{
+    not_below_zero(cutting.eps)
+}
+
+// Refusal 6: how it is cut, then the first core with a number that isn't finite.
+fn round_finite(
+    s: shape::Shape,
+    cutting: cutform::Cutting,
+    chain: &[f64],
+) -> answers::Verdict
     requires { ⌜ SizesWithin s ⌝ }
     requires { ⌜ entriesOf s ≤ length (now chain) ⌝ }
-    ensures { λ r. ⌜ r ≡ verdictOf (roundFinite s eps (now (chain .entry))) ⌝ }
+    ensures { λ r. ⌜ r ≡ verdictOf (roundFinite s cutting (now (chain .entry))) ⌝ }
 {
     let d = s.d;
-    if !numbers::is_finite(eps) {
+    if !cutting_finite(cutting) {
         return answers::Verdict::Refused(answers::Refusal::Number(0));
     }
     let core = s.first_not_finite_core(chain);
@@ -56,8 +71,13 @@ fn round_finite(s: shape::Shape, eps: f64, chain: &[f64]) -> answers::Verdict
 }
 
 // All that a rounding asks.
-pub fn round_ok(s: shape::Shape, eps: f64, chain: &[f64], scratch: usize) -> answers::Verdict
-    ensures { λ r. ⌜ r ≡ verdictOf (roundOk s eps (now (chain .entry)) scratch) ⌝ }
+pub fn round_ok(
+    s: shape::Shape,
+    cutting: cutform::Cutting,
+    chain: &[f64],
+    scratch: usize,
+) -> answers::Verdict
+    ensures { λ r. ⌜ r ≡ verdictOf (roundOk s cutting (now (chain .entry)) scratch) ⌝ }
 {
     let shaped = s.check();
     if let answers::Verdict::Refused(r) = shaped {
@@ -67,11 +87,11 @@ pub fn round_ok(s: shape::Shape, eps: f64, chain: &[f64], scratch: usize) -> ans
     if let answers::Verdict::Refused(r) = lent {
         return answers::Verdict::Refused(r);
     }
-    let finite = round_finite(s, eps, chain);
+    let finite = round_finite(s, cutting, chain);
     if let answers::Verdict::Refused(r) = finite {
         return answers::Verdict::Refused(r);
     }
-    if !not_below_zero(eps) {
+    if !cutting_ok(cutting) {
         return answers::Verdict::Refused(answers::Refusal::Setting(0));
     }
     answers::Verdict::Fits

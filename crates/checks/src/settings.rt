@@ -8,7 +8,27 @@ ghost use Rattle.shape.specs.Limits.{mostAxes};
 ghost use Rattle.shape.specs.Shapes.{entriesOf};
 ghost use Rattle.shape.specs.Sizes.{PointsWithin, SizesWithin};
 ghost use Rattle.stepform.specs.Axes.{axisFinite, axisOk, axisAt};
-ghost use Rattle.checks.specs.Over.{axisReaches, zonesFinite, settingsOk, overOk};
+ghost use Rattle.stepform.specs.Lone.{loneFinite, loneOk};
+ghost use Rattle.stepform.specs.Call.{axisReaches, zonesFinite, settingsOk, stepOk};
+
+// What 6 asks of the lone settings.
+pub fn lone_finite(set: stepform::Settings) -> bool
+    ensures { λ r. ⌜ r ≡ loneFinite set ⌝ }
+{
+    let tau = numbers::is_finite(set.tau);
+    let c = numbers::is_finite(set.c);
+    let cutting = set.cutting;
+    tau & (c & crate::cutting_finite(cutting))
+}
+
+// What 7 asks of them.
+pub fn lone_ok(set: stepform::Settings) -> bool
+    ensures { λ r. ⌜ r ≡ loneOk set ⌝ }
+{
+    let tau = crate::not_below_zero(set.tau);
+    let cutting = set.cutting;
+    tau & crate::cutting_ok(cutting)
+}
 
 // The first axis with a number that isn't finite, or d.
 pub fn first_not_finite(d: usize, xs: [stepform::Axis; shape::MOST_AXES]) -> usize
@@ -127,7 +147,7 @@ pub fn step_ok(
     chain: &[f64],
     scratch: usize,
 ) -> answers::Verdict
-    ensures { λ r. ⌜ r ≡ verdictOf (overOk lone mild set s count xs (now (chain .entry)) scratch) ⌝ }
+    ensures { λ r. ⌜ r ≡ verdictOf (stepOk lone mild set s count xs (now (chain .entry)) scratch) ⌝ }
 {
     let shaped = s.check();
     if let answers::Verdict::Refused(r) = shaped {

@@ -11,14 +11,14 @@ use lib.Ieee.{Float, nan, inf, fin, binary64, up, down, unlike, odd, units, roun
 use lib.Ieee.Fits.{up-pos, down-pos, round-is, mul-fits}
 use lib.Ieee.Order.{drop, kept, round-mono}
 use lib.Ieee.Positive.{above-of-le, le→cross}
-use Rattle.numbers.specs.Arithmetic.{times, over, zero64}
+use Rattle.numbers.specs.Arithmetic.{times, over, zero64, tolerance64}
 use Rattle.numbers.specs.Magnitude.{magnitudeOf}
 use Rattle.numbers.specs.Root.{NearestRoot, rootOf}
 use Rattle.numbers.specs.Value.{unitsIn}
 use Rattle.numbers.proofs.Values.{round-neg}
 use Rattle.numbers.proofs.Theorems.{root-right, units-exact}
 use Rattle.lists.proofs.Tests.{holds, passes, fails, ltb-is, ltb-no, eqb-no}
-use Rattle.pairform.specs.Columns.{tolerance64, skipped}
+use Rattle.pairform.specs.Columns.{skipped}
 
 -- ---- plain numbers
 -- r / t is at most twice the root of p / q; u and U are the two in units of 1 / w

@@ -10,7 +10,7 @@ use lib.ListN.{length, getD, set, take, drop, length-set, length-drop}
 use lib.Seq.{getD-set-same, getD-set-other, getD-take, getD-drop, length-take-le}
 use lib.Ieee.{Float, nan, binary64, le}
 use lib.Ieee.Fits.{mul-fits}
-use Rattle.numbers.specs.Arithmetic.{times, over, zero64}
+use Rattle.numbers.specs.Arithmetic.{times, over, zero64, tolerance64}
 use Rattle.numbers.specs.Finite.{finite}
 use Rattle.numbers.specs.Magnitude.{magnitudeOf}
 use Rattle.numbers.specs.Root.{rootOf}
@@ -26,8 +26,8 @@ use Rattle.lists.proofs.Tests.{eqb-is, eqb-not, eqb-no, both}
 use Rattle.cutform.specs.Rotation.{turnedAt}
 use Rattle.rotation.specs.Pairs.{turnPairs}
 use Rattle.rotation.proofs.Turned.{rows-turned}
-use Rattle.pairform.specs.Columns.{turnStored, dot, tolerance64, skipped}
-use Rattle.columns.specs.Loops.{squares, Elsewhere}
+use Rattle.pairform.specs.Columns.{turnStored, dot, skipped}
+use Rattle.columns.specs.Loops.{squares, FiniteElsewhere}
 use Rattle.columns.proofs.Finite.{grid-finite}
 
 -- ---- whether a pair is skipped
@@ -81,7 +81,7 @@ module _ (m n p q : ℕ) (c s : Float) (l u : List Float) where
         ∙ getD-grid n m (λ (i j : ℕ). turnedAt p q c s (λ (k : ℕ). cell m l k j) i) col row nan h g
         ∙ rw (eqb-no col p d, eqb-no col q f)
 
-    pub turned-elsewhere : length l ≡ n * m → allFinite l ≡ true → Elsewhere m n p q u
+    pub turned-elsewhere : length l ≡ n * m → allFinite l ≡ true → FiniteElsewhere m n p q u
     turned-elsewhere long fine col row h g d f = ap finite (turned-other col row h g d f) ∙ finite-getD l (col * m + row) nan (cell-lt col n m row (length l) h g (le-of-eq (sym long))) fine
 
     pub turned-squares : (ss : List Float) → ss ≡ squares m n l → (k : ℕ) → k < n → ¬ (k ≡ p) → ¬ (k ≡ q) → at ss k ≡ dot m u k k
@@ -89,7 +89,7 @@ module _ (m n p q : ℕ) (c s : Float) (l u : List Float) where
     turned-squares ss es k h d f = squares-at m n l ss es k h ∙ sym (sum-same m (λ (row : ℕ). times (cell m u k row) (cell m u k row)) (λ (row : ℕ). times (cell m l k row) (cell m l k row)) (λ row g. rw (turned-other k row h g d f)))
 
 -- ---- where all but two columns are known to be finite, those two decide
-module _ (m n p q : ℕ) (a : List Float) (long : length a ≡ n * m) (hp : p < n) (hq : q < n) (rest : Elsewhere m n p q a) where
+module _ (m n p q : ℕ) (a : List Float) (long : length a ≡ n * m) (hp : p < n) (hq : q < n) (rest : FiniteElsewhere m n p q a) where
   abbrev part : ℕ → List Float
   part k = take (k * m + m - k * m) (drop (k * m) a)
 

@@ -14,5 +14,5 @@ unfoldable pub squares : ℕ → ℕ → List Float → List Float
 squares m n a = tab n (λ (col : ℕ). dot m a col col)
 
 -- n columns of m numbers but p and q are finite
-abbrev pub Elsewhere : ℕ → ℕ → ℕ → ℕ → List Float → Type 0
-Elsewhere m n p q a = (col row : ℕ) → col < n → row < m → ¬ (col ≡ p) → ¬ (col ≡ q) → finite (cell m a col row) ≡ true
+abbrev pub FiniteElsewhere : ℕ → ℕ → ℕ → ℕ → List Float → Type 0
+FiniteElsewhere m n p q a = (col row : ℕ) → col < n → row < m → ¬ (col ≡ p) → ¬ (col ≡ q) → finite (cell m a col row) ≡ true

@@ -7,7 +7,7 @@ ghost use Rattle.answers.specs.Outcome.{stageOf};
 ghost use Rattle.lists.specs.Floats.{at, allFinite, stored};
 ghost use Rattle.rotation.specs.Pairs.{turnPairs};
 ghost use Rattle.pairform.specs.Columns.{turnStored, dot, skipped};
-ghost use Rattle.columns.specs.Loops.{squares, Elsewhere};
+ghost use Rattle.columns.specs.Loops.{squares, FiniteElsewhere};
 
 // The sum over the rows, ascending, of column p times column q.
 pub fn dot(a: &[f64], m: usize, n: usize, p: usize, q: usize) -> f64
@@ -174,7 +174,7 @@ pub fn stored_squared(
     q: usize,
     ss: &[f64],
 ) -> answers::Stage
-    requires { ⌜ (length (now a) ≡ n * m) × (p < n) × (q < n) × Elsewhere m n p q (now a) × (now ss ≡ squares m n (now a)) × (length (now ss) ≡ n) ⌝ }
+    requires { ⌜ (length (now a) ≡ n * m) × (p < n) × (q < n) × FiniteElsewhere m n p q (now a) × (now ss ≡ squares m n (now a)) × (length (now ss) ≡ n) ⌝ }
     ensures { λ r. ⌜ r ≡ stageOf (stored (now (a .entry))) ⌝ }
 {
     let first = numbers::is_finite(ss[p]);
@@ -187,7 +187,7 @@ pub fn stored_squared(
 
 // The same by a look at both columns.
 pub fn stored_but(a: &[f64], m: usize, n: usize, p: usize, q: usize) -> answers::Stage
-    requires { ⌜ (length (now a) ≡ n * m) × (p < n) × (q < n) × Elsewhere m n p q (now a) ⌝ }
+    requires { ⌜ (length (now a) ≡ n * m) × (p < n) × (q < n) × FiniteElsewhere m n p q (now a) ⌝ }
     ensures { λ r. ⌜ r ≡ stageOf (stored (now (a .entry))) ⌝ }
 {
     let first = column_finite(a, m, n, p);

@@ -16,7 +16,7 @@ use Rattle.lists.proofs.Tests.{ltb-yes, ltb-no}
 use Rattle.lists.proofs.Slots.{offset-suc}
 use Rattle.lists.proofs.Written.{getD-slot}
 use Rattle.shape.specs.declared.Shape.{Shape}
-use Rattle.shape.specs.Limits.{mostAxes, mostRank}
+use Rattle.shape.specs.Limits.{mostRank, mostCarries}
 use Rattle.shape.specs.Shapes.{rightOf}
 use Rattle.shape.specs.Sizes.{SizesWithin}
 use Rattle.shape.proofs.Offsets.{offset-more, offset-most}
@@ -80,7 +80,7 @@ module _ (s : Shape) (k : ℕ) where
     pub carry-fits : Fits w64 (rightOf s k * rightOf s k)
     carry-fits = let r = w .right k l .1 in record { fits = omega (arith, mul-le-mul r r) }
 
-pub carries-most : (s : Shape) → SizesWithin s → (k : ℕ) → k ≤ s .d → offset (carrySize s) k ≤ mostAxes * (mostRank * mostRank)
+pub carries-most : (s : Shape) → SizesWithin s → (k : ℕ) → k ≤ s .d → offset (carrySize s) k ≤ mostCarries
 carries-most s w k l = omega (arith, offset-most (carrySize s) (mostRank * mostRank) k (λ j m. carry-most s j w (omega arith)), w .axes .most)
 
 pub carry-offset-fits : (s : Shape) → SizesWithin s → (k m t x : ℕ) → k < m → m ≤ s .d → t ≡ offset (carrySize s) k → x ≡ carrySize s k → Fits w64 (t + x)

@@ -1,8 +1,8 @@
--- The counts and the flags that `tt_round` answers are those of the stated iteration, bond by bond, and so for every call that ends as it does. Assumes nothing.
+-- The sweeps that `tt_round` answers are those of the stated iteration, bond by bond, and so for every call that ends as it does. Assumes nothing.
 use mathlib.Core.Path.{_≡_, refl, sym, _∙_, subst}
 use Prim.Native.Nat.{ℕ, zero, suc, _≤_, _<_}
 use native.Mathlib.Omega.{arith}
-use mathlib.Core.Bool.{true, false}
+use mathlib.Core.Bool.{true}
 use mathlib.Core.List.{List, [], _∷_, _++_}
 use lib.ListN.{length, getD, replicate, length-replicate, getD-replicate, List·getD-eq-default}
 use lib.Seq.{getD-take}
@@ -19,7 +19,9 @@ use Rattle.shape.specs.Limits.{mostAxes}
 use Rattle.shape.specs.Shapes.{chainOk}
 use Rattle.shape.specs.Cores.{Core, coreAt, coresOf}
 use Rattle.shape.proofs.Shaped.{shaped}
-use Rattle.cutform.specs.Rounding.{Carry, none, Cut, rounding, countsIn, flagsIn}
+use Rattle.cutform.specs.declared.Cutting.{Cutting}
+use Rattle.cutform.specs.Bonds.{noBond}
+use Rattle.cutform.specs.Rounding.{Carry, none, Cut, rounding, bondsIn}
 use Rattle.cutform.specs.Claims.{BondCounted, coreIn, RoundCounted}
 use Rattle.cutform.proofs.CountedBonds.{rounding-counted}
 use Rattle.cutform.specs.Call.{endedBy, roundOk, roundCall}
@@ -47,26 +49,24 @@ module _ (s : Shape) (chain scratch : List Float) where
   ended-fits (done cuts) e = (cuts, refl)
   ended-fits (refused r) e = let z : _≡_ {A = ℕ} 0 1 = cc in absurd (omega arith)
 
-  -- and where that was a rounding of the cores cs, its counts and flags are the rounding's
-  pub ended-counted : (eps : Float) (cs : List Core) (o : Answer (List (Carry × Cut))) (cuts : List (Carry × Cut)) → length cs ≤ mostAxes → o ≡ done cuts → rounding eps cs ≡ done cuts
-      → RoundCounted eps cs (endedBy s chain scratch o .result .sweeps) (endedBy s chain scratch o .result .settled)
+  -- and where that was a rounding of the cores cs, its sweeps are the rounding's
+  pub ended-counted : (cutting : Cutting) (cs : List Core) (o : Answer (List (Carry × Cut))) (cuts : List (Carry × Cut)) → length cs ≤ mostAxes → o ≡ done cuts
+      → rounding cutting cs ≡ done cuts → RoundCounted cutting cs (endedBy s chain scratch o .result .bonds)
   unfolding endedBy
-  ended-counted eps cs o cuts most e ran =
-      let R = rounding-counted eps cs cuts ran in
-      let end : RoundCounted eps cs (fit 0 mostAxes (countsIn cuts)) (fit false mostAxes (flagsIn cuts)) = record {
+  ended-counted cutting cs o cuts most e ran =
+      let R = rounding-counted cutting cs cuts ran in
+      let end : RoundCounted cutting cs (fit noBond mostAxes (bondsIn cuts)) = record {
         cuts = R .cuts;
         ran = R .ran;
-        bond = λ k lt.
-            subst (λ (n : ℕ). BondCounted k (stateAt none (R .cuts) k) (coreIn cs k) n (getD (fit false mostAxes (flagsIn cuts)) k false)) (sym (in-array 0 mostAxes (countsIn cuts) k (omega arith)))
-            (subst (BondCounted k (stateAt none (R .cuts) k) (coreIn cs k) (getD (countsIn cuts) k 0)) (sym (in-array false mostAxes (flagsIn cuts) k (omega arith))) (R .bond k lt));
+        bond = λ k lt. subst (BondCounted k (stateAt none (R .cuts) k) (coreIn cs k)) (sym (in-array noBond mostAxes (bondsIn cuts) k (omega arith))) (R .bond k lt);
       } in
-      subst (λ (x : Answer (List (Carry × Cut))). RoundCounted eps cs (endedBy s chain scratch x .result .sweeps) (endedBy s chain scratch x .result .settled)) (sym e) end
+      subst (λ (x : Answer (List (Carry × Cut))). RoundCounted cutting cs (endedBy s chain scratch x .result .bonds)) (sym e) end
 
 -- THE CALL
-pub round-counted : (s : Shape) (eps : Float) (chain scratch : List Float) → roundCall s eps chain scratch .result .verdict ≡ Fits
-    → RoundCounted eps (coresOf s chain) (roundCall s eps chain scratch .result .sweeps) (roundCall s eps chain scratch .result .settled)
+pub round-counted : (s : Shape) (cutting : Cutting) (chain scratch : List Float) → roundCall s cutting chain scratch .result .verdict ≡ Fits
+    → RoundCounted cutting (coresOf s chain) (roundCall s cutting chain scratch .result .bonds)
 unfolding roundCall roundOk
-round-counted s eps chain scratch e =
+round-counted s cutting chain scratch e =
     let A = ended-fits s chain scratch _ e in
-    let B = then-is (roundOk s eps chain (length scratch)) (rounding eps (coresOf s chain)) (A .0) (A .1) in
-    ended-counted s chain scratch eps (coresOf s chain) _ (A .0) (cores-most s chain (then-is (chainOk s) _ tt (B .0) .0)) (A .1) (B .1)
+    let B = then-is (roundOk s cutting chain (length scratch)) (rounding cutting (coresOf s chain)) (A .0) (A .1) in
+    ended-counted s chain scratch cutting (coresOf s chain) _ (A .0) (cores-most s chain (then-is (chainOk s) _ tt (B .0) .0)) (A .1) (B .1)

@@ -12,18 +12,21 @@ use Rattle.lists.specs.Floats.{allFinite, stored}
 use Rattle.lists.proofs.Floats.{making-stored}
 use Rattle.shape.specs.Cores.{Core, coreWith}
 use Rattle.shape.proofs.Places.{block-length}
-use Rattle.cutform.specs.Bonds.{Bond, cutBond, absorb}
+use Rattle.cutform.specs.declared.Bond.{Bond}
+use Rattle.cutform.specs.declared.Cutting.{Cutting}
+use Rattle.cutform.specs.Bonds.{CutCore, cutBond, absorb}
 use Rattle.cutform.proofs.Made.{CutFrom, cut-from}
 use Rattle.cutform.specs.Rounding.{Carry, none, some, Cut, takenIn, cutIf, roundCore}
 
--- a carry out of a core with right rank rr
-pub record Carried (rr : ℕ) (s : Carry) : Type 0 where
-  pub rank : ℕ
+-- what a cut of a core with right rank rr hands on, and what is said of its bond
+pub record Carried (rr : ℕ) (r : Carry × Cut) : Type 0 where
+  pub bond : Bond
   pub numbers : List Float
-  pub «is» : s ≡ some rank numbers
-  pub least : 1 ≤ rank
-  pub most : rank ≤ rr
-  pub long : length numbers ≡ rank * rr
+  pub bonds : r .1 .bonds ≡ bond ∷ []
+  pub «is» : r .0 ≡ some (bond .rank) numbers
+  pub least : 1 ≤ bond .rank
+  pub most : bond .rank ≤ rr
+  pub long : length numbers ≡ bond .rank * rr
   pub fine : allFinite numbers ≡ true
 
 abbrev pub volume : Core → ℕ
@@ -60,42 +63,51 @@ taken k (some r b) c d h =
     subst (Taken (some r b) c) (done-inj (A .2)) t
 
 -- ---- and the cut
-abbrev handed : Bond → Carry × Cut
-handed b = (some (b .core .rr) (b .carry), record { core = b .core; counts = b .sweeps ∷ []; flags = b .settles ∷ [] })
+abbrev handed : CutCore → Carry × Cut
+handed b = (some (b .bond .rank) (b .carry), record { core = b .core; bonds = b .bond ∷ [] })
 
-module _ (k : ℕ) (eps : Float) (c : Core) (r : Carry × Cut) (h : cutIf true k eps c ≡ done r) where
-  behind : (b : Bond) × (cutBond k eps c ≡ done b) × (_≡_ {A = Answer (Carry × Cut)} (done (handed b)) (done r))
-  behind = bind-done (cutBond k eps c) (λ b. done (handed b)) r h
+module _ (k : ℕ) (cutting : Cutting) (c : Core) (r : Carry × Cut) (h : cutIf true k cutting c ≡ done r) where
+  behind : (b : CutCore) × (cutBond k cutting c ≡ done b) × (_≡_ {A = Answer (Carry × Cut)} (done (handed b)) (done r))
+  behind = bind-done (cutBond k cutting c) (λ b. done (handed b)) r h
 
   is-cut : handed (behind .0) ≡ r
   is-cut = done-inj (behind .2)
 
   cut-made : CutFrom c (behind .0)
-  cut-made = cut-from k eps c (behind .0) (behind .1)
+  cut-made = cut-from k cutting c (behind .0) (behind .1)
 
-  cut-carried : 1 ≤ c .rr → Carried (c .rr) (r .0)
+  cut-carried : 1 ≤ c .rr → Carried (c .rr) r
   cut-carried one =
       let b = behind .0 in
       let B = cut-made in
-      record { rank = b .core .rr; numbers = b .carry; «is» = ap (λ (x : Carry × Cut). x .0) (sym is-cut); least = B .least; most = B .most one; long = B .carry-long; fine = B .carry-fine }
+      record {
+        bond = b .bond;
+        numbers = b .carry;
+        bonds = ap (λ (x : Carry × Cut). x .1 .bonds) (sym is-cut);
+        «is» = ap (λ (x : Carry × Cut). x .0) (sym is-cut);
+        least = B .least;
+        most = B .most one;
+        long = B .carry-long;
+        fine = B .carry-fine;
+      }
 
   cut-fine : allFinite (r .1 .core .entries) ≡ true
   cut-fine = ap (λ (x : Carry × Cut). allFinite (x .1 .core .entries)) (sym is-cut) ∙ cut-made .fine
 
   cut-of : CutOf true none c r
-  cut-of = let B = cut-made in subst (CutOf true none c) is-cut (record { left = B .left; points = B .points; right = refl; long = B .long })
+  cut-of = let B = cut-made in subst (CutOf true none c) is-cut (record { left = B .left; points = B .points; right = B .kept; long = B .long })
 
-last-is : (k : ℕ) (eps : Float) (c : Core) (r : Carry × Cut) → cutIf false k eps c ≡ done r → c ≡ r .1 .core
-last-is k eps c r h = ap (λ (x : Carry × Cut). x .1 .core) (done-inj h)
+last-is : (k : ℕ) (cutting : Cutting) (c : Core) (r : Carry × Cut) → cutIf false k cutting c ≡ done r → c ≡ r .1 .core
+last-is k cutting c r h = ap (λ (x : Carry × Cut). x .1 .core) (done-inj h)
 
-either-fine : (more : Bool) (k : ℕ) (eps : Float) (c : Core) (r : Carry × Cut) → allFinite (c .entries) ≡ true → cutIf more k eps c ≡ done r → allFinite (r .1 .core .entries) ≡ true
-either-fine true k eps c r f h = cut-fine k eps c r h
-either-fine false k eps c r f h = ap (λ (x : Core). allFinite (x .entries)) (sym (last-is k eps c r h)) ∙ f
+either-fine : (more : Bool) (k : ℕ) (cutting : Cutting) (c : Core) (r : Carry × Cut) → allFinite (c .entries) ≡ true → cutIf more k cutting c ≡ done r → allFinite (r .1 .core .entries) ≡ true
+either-fine true k cutting c r f h = cut-fine k cutting c r h
+either-fine false k cutting c r f h = ap (λ (x : Core). allFinite (x .entries)) (sym (last-is k cutting c r h)) ∙ f
 
-either-of : (more : Bool) (k : ℕ) (eps : Float) (c : Core) (r : Carry × Cut) → length (c .entries) ≡ volume c → cutIf more k eps c ≡ done r → CutOf more none c r
-either-of true k eps c r f h = cut-of k eps c r h
-either-of false k eps c r f h =
-    let p = sym (last-is k eps c r h) in
+either-of : (more : Bool) (k : ℕ) (cutting : Cutting) (c : Core) (r : Carry × Cut) → length (c .entries) ≡ volume c → cutIf more k cutting c ≡ done r → CutOf more none c r
+either-of true k cutting c r f h = cut-of k cutting c r h
+either-of false k cutting c r f h =
+    let p = sym (last-is k cutting c r h) in
     record { left = ap (λ (x : Core). x .rl) p; points = ap (λ (x : Core). x .n) p; right = ap (λ (x : Core). x .rr) p; long = subst (λ (x : Core). length (x .entries) ≡ volume x) (sym p) f }
 
 -- a cut of the core d, into which the carry s of c was taken
@@ -108,23 +120,23 @@ cut-taken more s c d r T C = record {
 }
 
 -- ---- both
-module _ (eps : Float) (k : ℕ) (s : Carry) (c : Core) (r : Carry × Cut) where
-  pub round-fine : (more : Bool) → allFinite (c .entries) ≡ true → roundCore eps more k s c ≡ done r → allFinite (r .1 .core .entries) ≡ true
+module _ (cutting : Cutting) (k : ℕ) (s : Carry) (c : Core) (r : Carry × Cut) where
+  pub round-fine : (more : Bool) → allFinite (c .entries) ≡ true → roundCore cutting more k s c ≡ done r → allFinite (r .1 .core .entries) ≡ true
   unfolding roundCore
   round-fine more f h =
-      let A = bind-done (takenIn k s c) (λ d. cutIf more k eps d) r h in
-      either-fine more k eps (A .0) r (taken k s c (A .0) (A .1) .fine f) (A .2)
+      let A = bind-done (takenIn k s c) (λ d. cutIf more k cutting d) r h in
+      either-fine more k cutting (A .0) r (taken k s c (A .0) (A .1) .fine f) (A .2)
 
-  pub round-carried : 1 ≤ c .rr → roundCore eps true k s c ≡ done r → Carried (c .rr) (r .0)
+  pub round-carried : 1 ≤ c .rr → roundCore cutting true k s c ≡ done r → Carried (c .rr) r
   unfolding roundCore
   round-carried one h =
-      let A = bind-done (takenIn k s c) (λ d. cutIf true k eps d) r h in
+      let A = bind-done (takenIn k s c) (λ d. cutIf true k cutting d) r h in
       let same = taken k s c (A .0) (A .1) .right in
-      subst (λ (n : ℕ). Carried n (r .0)) same (cut-carried k eps (A .0) r (A .2) (subst (λ (n : ℕ). 1 ≤ n) (sym same) one))
+      subst (λ (n : ℕ). Carried n r) same (cut-carried k cutting (A .0) r (A .2) (subst (λ (n : ℕ). 1 ≤ n) (sym same) one))
 
-  pub round-of : (more : Bool) → length (c .entries) ≡ volume c → roundCore eps more k s c ≡ done r → CutOf more s c r
+  pub round-of : (more : Bool) → length (c .entries) ≡ volume c → roundCore cutting more k s c ≡ done r → CutOf more s c r
   unfolding roundCore
   round-of more f h =
-      let A = bind-done (takenIn k s c) (λ d. cutIf more k eps d) r h in
+      let A = bind-done (takenIn k s c) (λ d. cutIf more k cutting d) r h in
       let T = taken k s c (A .0) (A .1) in
-      cut-taken more s c (A .0) r T (either-of more k eps (A .0) r (T .long f) (A .2))
+      cut-taken more s c (A .0) r T (either-of more k cutting (A .0) r (T .long f) (A .2))

@@ -8,7 +8,5 @@ pub mod Ranked
 pub mod Made
 pub mod Cuts
 pub mod BondSlots
--- the checks, and the chain packed
-pub mod Early
 -- its counts
 pub mod CountedCall

@@ -3,44 +3,46 @@ use mathlib.Core.Path.{_≡_, refl, sym, ap, _∙_, subst}
 use Prim.Native.Nat.{ℕ, _*_, _≤_}
 use mathlib.Core.Bool.{true}
 use lib.ListN.{length}
-use lib.Ieee.{Float}
 use Rattle.answers.specs.Outcome.{done}
 use Rattle.lists.specs.Floats.{allFinite}
 use Rattle.lists.proofs.Tables.{length-grid}
 use Rattle.lists.proofs.Floats.{stored-is}
 use Rattle.shape.specs.Cores.{Core, coreWith}
 use Rattle.shape.proofs.Places.{block-length}
+use Rattle.cutform.specs.declared.Cutting.{Cutting}
 use Rattle.cutform.specs.Values.{sorted, keptRank}
 use Rattle.cutform.proofs.Ranked.{rank-least, rank-most}
-use Rattle.cutform.specs.Bonds.{Bond, cutBond}
+use Rattle.cutform.specs.Bonds.{CutCore, cutBond}
 use Rattle.cutform.specs.Factors.{leftFactor, carryOf}
 use Rattle.cutform.proofs.Stages.{stages}
 
 -- the core c cut
-pub record CutFrom (c : Core) (b : Bond) : Type 0 where
+pub record CutFrom (c : Core) (b : CutCore) : Type 0 where
   pub left : b .core .rl ≡ c .rl
   pub points : b .core .n ≡ c .n
-  pub least : 1 ≤ b .core .rr
-  pub most : 1 ≤ c .rr → b .core .rr ≤ c .rr
+  pub kept : b .core .rr ≡ b .bond .rank
+  pub least : 1 ≤ b .bond .rank
+  pub most : 1 ≤ c .rr → b .bond .rank ≤ c .rr
   pub long : length (b .core .entries) ≡ b .core .rl * b .core .n * b .core .rr
   pub fine : allFinite (b .core .entries) ≡ true
-  pub carry-long : length (b .carry) ≡ b .core .rr * c .rr
+  pub carry-long : length (b .carry) ≡ b .bond .rank * c .rr
   pub carry-fine : allFinite (b .carry) ≡ true
 
-pub cut-from : (k : ℕ) (eps : Float) (c : Core) (b : Bond) → cutBond k eps c ≡ done b → CutFrom c b
+pub cut-from : (k : ℕ) (cutting : Cutting) (c : Core) (b : CutCore) → cutBond k cutting c ≡ done b → CutFrom c b
 unfolding leftFactor carryOf
-cut-from k eps c b h =
-    let S = stages k eps c b h in
+cut-from k cutting c b h =
+    let S = stages k cutting c b h in
     let ss = sorted (c .rr) (S .values) in
-    let r = keptRank eps (c .rr) ss in
+    let r = keptRank (cutting .eps) (c .rr) ss in
     let U = stored-is _ (S .left) (S .lefts) in
     let Y = stored-is _ (S .carry) (S .carries) in
-    let x : Bond = record { core = coreWith (c .rl) (c .n) r (S .left); sweeps = S .swept .count; settles = S .swept .settles; carry = S .carry } in
+    let x : CutCore = record { core = coreWith (c .rl) (c .n) r (S .left); bond = record { rank = r; sweeps = S .swept .count; settled = S .swept .settles }; carry = S .carry } in
     let f : CutFrom c x = record {
       left = refl;
       points = refl;
-      least = rank-least eps (c .rr) ss;
-      most = rank-most eps (c .rr) ss;
+      kept = refl;
+      least = rank-least (cutting .eps) (c .rr) ss;
+      most = rank-most (cutting .eps) (c .rr) ss;
       long = ap length (sym (U .0)) ∙ block-length (c .rl) (c .n) r _;
       fine = U .1;
       carry-long = ap length (sym (Y .0)) ∙ length-grid r (c .rr) _;

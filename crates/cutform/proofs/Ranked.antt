@@ -20,7 +20,7 @@ use Rattle.lists.proofs.Ranks.{Strict, rank, rank-rises, rank-within, rank-apar
 use Rattle.lists.proofs.Tables.{length-tab, getD-tab, tab-is, listed-same, fill-all}
 use Rattle.lists.proofs.Turns.{iter-done}
 use Rattle.lists.proofs.Tests.{ltb-yes, ltb-is, both, fails, below-or-not}
-use Rattle.cutform.specs.Values.{rankIn, indexAt, order, sorted, thresholdOf, keptRank}
+use Rattle.cutform.specs.Values.{placeIn, indexAt, order, sorted, thresholdOf, keptRank}
 
 module _ (n : ℕ) (sv : List Float) (long : length sv ≡ n) (fine : allFinite sv ≡ true) where
   -- value k stands before value i
@@ -82,39 +82,39 @@ module _ (n : ℕ) (sv : List Float) (long : length sv ≡ n) (fine : allFinite 
           (lt-or-eq (at sv i) (at sv j) (good i a) (good j b))
 
   -- the place of a value is how many stand before it
-  place : (i : ℕ) → i < n → rankIn n sv i ≡ rank n before strict i
-  unfolding rankIn before
+  place : (i : ℕ) → i < n → placeIn n sv i ≡ rank n before strict i
+  unfolding placeIn before
   place i a =
       ap (λ (m : ℕ). count (λ (j : ℕ). lt (at sv i) (at sv j)) n + m) (count-below (λ (j : ℕ). eq (at sv j) (at sv i)) i n (le-of-lt a))
       ∙ count-either (λ (j : ℕ). lt (at sv i) (at sv j)) (λ (j : ℕ). eq (at sv j) (at sv i) && ltb j i) n
       (λ j l h g. lt-not-eq (at sv i) (at sv j) (good i a) (good j l) h (eq-swap (at sv j) (at sv i) (good j l) (good i a) (both (eq (at sv j) (at sv i)) (ltb j i) g .0)))
 
-  pub rank-lt : (i : ℕ) → i < n → rankIn n sv i < n
+  pub rank-lt : (i : ℕ) → i < n → placeIn n sv i < n
   rank-lt i a = let e = place i a in let h = rank-within n before strict i a in omega arith
 
-  pub rank-own : (i j : ℕ) → i < n → j < n → rankIn n sv i ≡ rankIn n sv j → i ≡ j
+  pub rank-own : (i j : ℕ) → i < n → j < n → placeIn n sv i ≡ placeIn n sv j → i ≡ j
   rank-own i j a b e = rank-apart n before strict i j a b (sym (place i a) ∙ e ∙ place j b)
 
   pub index-lt : (r : ℕ) → r < n → indexAt n sv r < n
   unfolding indexAt
-  index-lt r l = place-found n (rankIn n sv) rank-lt rank-own r l .within
+  index-lt r l = place-found n (placeIn n sv) rank-lt rank-own r l .within
 
-  pub rank-index : (r : ℕ) → r < n → rankIn n sv (indexAt n sv r) ≡ r
+  pub rank-index : (r : ℕ) → r < n → placeIn n sv (indexAt n sv r) ≡ r
   unfolding indexAt
-  rank-index r l = place-is n (rankIn n sv) rank-lt rank-own r l
+  rank-index r l = place-is n (placeIn n sv) rank-lt rank-own r l
 
-  pub index-rank : (i : ℕ) → i < n → indexAt n sv (rankIn n sv i) ≡ i
+  pub index-rank : (i : ℕ) → i < n → indexAt n sv (placeIn n sv i) ≡ i
   unfolding indexAt
-  index-rank i l = place-only n (rankIn n sv) rank-lt rank-own i l
+  index-rank i l = place-only n (placeIn n sv) rank-lt rank-own i l
 
   -- ---- for the loops: indices stored each at its place are the order, and the values at them are sorted
-  pub order-is : (k : ℕ) (js l : List ℕ) → l ≡ iter k (λ (i : ℕ) (t : List ℕ). set t (rankIn n sv i) i) js → k ≤ n → n ≤ k → length js ≡ n → l ≡ order n sv
+  pub order-is : (k : ℕ) (js l : List ℕ) → l ≡ iter k (λ (i : ℕ) (t : List ℕ). set t (placeIn n sv i) i) js → k ≤ n → n ≤ k → length js ≡ n → l ≡ order n sv
   unfolding order
   order-is k js l e p q m =
-      iter-done (λ (i : ℕ) (t : List ℕ). set t (rankIn n sv i) i) js k n l e p q
-      ∙ tab-is n (indexAt n sv) 0 (altered 0 (rankIn n sv) (λ i x. i) js n) (altered-length 0 (rankIn n sv) (λ i x. i) js n ∙ m)
-      (λ r h. ap (λ (y : ℕ). getD (altered 0 (rankIn n sv) (λ i x. i) js n) y 0) (sym (rank-index r h))
-      ∙ altered-at 0 (rankIn n sv) (λ i x. i) js n rank-own (λ i a. let z = rank-lt i a in omega arith) n (indexAt n sv r) (le-refl n) (index-lt r h))
+      iter-done (λ (i : ℕ) (t : List ℕ). set t (placeIn n sv i) i) js k n l e p q
+      ∙ tab-is n (indexAt n sv) 0 (altered 0 (placeIn n sv) (λ i x. i) js n) (altered-length 0 (placeIn n sv) (λ i x. i) js n ∙ m)
+      (λ r h. ap (λ (y : ℕ). getD (altered 0 (placeIn n sv) (λ i x. i) js n) y 0) (sym (rank-index r h))
+      ∙ altered-at 0 (placeIn n sv) (λ i x. i) js n rank-own (λ i a. let z = rank-lt i a in omega arith) n (indexAt n sv r) (le-refl n) (index-lt r h))
 
   pub order-long : (js : List ℕ) → js ≡ order n sv → length js ≡ n
   unfolding order
@@ -165,8 +165,8 @@ module _ (n : ℕ) (sv : List Float) (long : length sv ≡ n) (fine : allFinite 
     ties = λ r s l b h. ties r s l b (sym (ap (λ (x : Float). eq x (at (sorted n sv) s)) (sorted-at r (omega arith)) ∙ ap (eq (at sv (indexAt n sv r))) (sorted-at s b)) ∙ h);
     taken = λ r l. sorted-at r l ∙ ap (at sv) (sym (order-at (order n sv) refl r l));
     within = λ r l. order-lt (order n sv) refl r l;
-    once = λ r s a b e. sym (rank-index r a) ∙ ap (rankIn n sv) (sym (order-at (order n sv) refl r a) ∙ e ∙ order-at (order n sv) refl s b) ∙ rank-index s b;
-    all = λ i l. (rankIn n sv i, rank-lt i l, order-at (order n sv) refl (rankIn n sv i) (rank-lt i l) ∙ index-rank i l);
+    once = λ r s a b e. sym (rank-index r a) ∙ ap (placeIn n sv) (sym (order-at (order n sv) refl r a) ∙ e ∙ order-at (order n sv) refl s b) ∙ rank-index s b;
+    all = λ i l. (placeIn n sv i, rank-lt i l, order-at (order n sv) refl (placeIn n sv i) (rank-lt i l) ∙ index-rank i l);
   }
     where
       ties : (r s : ℕ) → r < s → s < n → eq (at sv (indexAt n sv r)) (at sv (indexAt n sv s)) ≡ true → getD (order n sv) r 0 < getD (order n sv) s 0
@@ -181,7 +181,7 @@ module _ (n : ℕ) (sv : List Float) (long : length sv ≡ n) (fine : allFinite 
           not-back r s l b a g h =
               below-or-not (indexAt n sv s) (indexAt n sv r)
               (λ k. let z = place-rises r s a b (earlier (indexAt n sv s) (indexAt n sv r) (eq-swap (at sv (indexAt n sv r)) (at sv (indexAt n sv s)) (good (indexAt n sv r) (index-lt r a)) (good (indexAt n sv s) (index-lt s b)) h) k) in omega arith)
-              (λ k. let e : indexAt n sv r ≡ indexAt n sv s = omega arith in let z = sym (rank-index r a) ∙ ap (rankIn n sv) e ∙ rank-index s b in omega arith)
+              (λ k. let e : indexAt n sv r ≡ indexAt n sv s = omega arith in let z = sym (rank-index r a) ∙ ap (placeIn n sv) e ∙ rank-index s b in omega arith)
 
 -- ---- how many are kept
 module _ (eps : Float) (n : ℕ) (ss : List Float) (least : Float) (k : ℕ) (e : least ≡ thresholdOf eps (at ss 0)) (d : k ≡ count (λ (j : ℕ). lt least (at ss j)) n) where

@@ -10,31 +10,35 @@ use Rattle.lists.specs.Floats.{stored}
 use Rattle.lists.proofs.Floats.{making-stored}
 use Rattle.shape.specs.Cores.{Core, coreWith}
 use Rattle.cutform.specs.Rotation.{eye}
+use Rattle.cutform.specs.declared.Cutting.{Cutting}
 use Rattle.cutform.specs.Sweeps.{eig, Swept, diagonalized}
 use Rattle.cutform.specs.Values.{singulars, order, sorted, keptRank}
 use Rattle.cutform.specs.Factors.{leftFactor, carryOf}
-use Rattle.cutform.specs.Bonds.{gram, Bond, cutBond}
+use Rattle.cutform.specs.Bonds.{gram, CutCore, cutBond}
 
-pub record Stages (eps : Float) (c : Core) (b : Bond) : Type 0 where
+pub record Stages (cutting : Cutting) (c : Core) (b : CutCore) : Type 0 where
   pub swept : Swept
   pub values : List Float
   pub left : List Float
   pub carry : List Float
   pub sweeping : diagonalized (c .rr) (eig (gram c) (eye (c .rr))) ≡ done swept
-  pub lefts : let ss = sorted (c .rr) values in stored (leftFactor c (keptRank eps (c .rr) ss) ss (order (c .rr) values) (swept .eig .v)) ≡ done left
-  pub carries : let ss = sorted (c .rr) values in stored (carryOf (c .rr) (keptRank eps (c .rr) ss) ss (order (c .rr) values) (swept .eig .v)) ≡ done carry
-  pub end : record { core = coreWith (c .rl) (c .n) (keptRank eps (c .rr) (sorted (c .rr) values)) left; sweeps = swept .count; settles = swept .settles; carry = carry } ≡ b
+  pub lefts : let ss = sorted (c .rr) values in let r = keptRank (cutting .eps) (c .rr) ss in
+      stored (leftFactor c r ss (order (c .rr) values) (swept .eig .v)) ≡ done left
+  pub carries : let ss = sorted (c .rr) values in let r = keptRank (cutting .eps) (c .rr) ss in
+      stored (carryOf (c .rr) r ss (order (c .rr) values) (swept .eig .v)) ≡ done carry
+  pub end : let r = keptRank (cutting .eps) (c .rr) (sorted (c .rr) values) in
+      record { core = coreWith (c .rl) (c .n) r left; bond = record { rank = r; sweeps = swept .count; settled = swept .settles }; carry = carry } ≡ b
 
-pub stages : (k : ℕ) (eps : Float) (c : Core) (b : Bond) → cutBond k eps c ≡ done b → Stages eps c b
+pub stages : (k : ℕ) (cutting : Cutting) (c : Core) (b : CutCore) → cutBond k cutting c ≡ done b → Stages cutting c b
 unfolding cutBond
-stages k eps c b h =
+stages k cutting c b h =
     let A = bind-done (making Spectrum k (stored (gram c))) _ b h in
     let B = bind-done (making Spectrum k (diagonalized (c .rr) (eig (A .0) (eye (c .rr))))) _ b (A .2) in
     let w = B .0 in
     let C = bind-done (making Spectrum k (stored (singulars (c .rr) (w .eig .g)))) _ b (B .2) in
     let js = order (c .rr) (C .0) in
     let ss = sorted (c .rr) (C .0) in
-    let r = keptRank eps (c .rr) ss in
+    let r = keptRank (cutting .eps) (c .rr) ss in
     let D = bind-done (making Factor k (stored (leftFactor c r ss js (w .eig .v)))) _ b (C .2) in
     let E = bind-done (making Factor k (stored (carryOf (c .rr) r ss js (w .eig .v)))) _ b (D .2) in
     record {

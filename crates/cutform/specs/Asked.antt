@@ -14,6 +14,7 @@ use Rattle.shape.specs.declared.Shape.{Shape}
 use Rattle.shape.specs.Limits.{scratchFor}
 use Rattle.shape.specs.Shapes.{chainOk, entriesOf}
 use Rattle.shape.specs.Cores.{coreAt}
+use Rattle.cutform.specs.declared.Cutting.{Cutting}
 
 -- 5: the chain has exactly N numbers, scratch exactly 4N + 2,048; the chain is slice i, scratch slice j
 unfoldable pub lengthsOk : Shape → ℕ → ℕ → ℕ → ℕ → Check
@@ -27,14 +28,21 @@ coreFinite s l k = allFinite (coreAt s l k .entries)
 unfoldable pub notBelowZero : Float → Bool
 notBelowZero x = not (lt x zero64)
 
--- 6: eps, then the cores
-unfoldable pub roundFinite : Shape → Float → List Float → Check
-roundFinite s eps chain = demand (finite eps) (Number 0) then demandEach Number (coreFinite s chain) (s .d) 0
+-- 6 and 7 of how a cut is made
+unfoldable pub cuttingFinite : Cutting → Bool
+cuttingFinite cutting = finite (cutting .eps)
+
+unfoldable pub cuttingOk : Cutting → Bool
+cuttingOk cutting = notBelowZero (cutting .eps)
+
+-- 6: how it is cut, then the cores
+unfoldable pub roundFinite : Shape → Cutting → List Float → Check
+roundFinite s cutting chain = demand (cuttingFinite cutting) (Number 0) then demandEach Number (coreFinite s chain) (s .d) 0
 
 -- scratch by its length alone
-unfoldable pub roundOk : Shape → Float → List Float → ℕ → Check
-roundOk s eps chain scratch =
+unfoldable pub roundOk : Shape → Cutting → List Float → ℕ → Check
+roundOk s cutting chain scratch =
     chainOk s
     then lengthsOk s 0 (length chain) 1 scratch
-    then roundFinite s eps chain
-    then demand (notBelowZero eps) (Setting 0)
+    then roundFinite s cutting chain
+    then demand (cuttingOk cutting) (Setting 0)

@@ -1,5 +1,4 @@
 -- The call `tt_round`: its answer, and what it leaves in the chain's slice and in scratch; its checks are passed on. Definitions only.
-use mathlib.Core.Bool.{false}
 use mathlib.Core.List.{List}
 use lib.ListN.{length, replicate}
 use lib.Ieee.{Float}
@@ -13,8 +12,10 @@ use Rattle.shape.specs.declared.Shape.{Shape}
 use Rattle.shape.specs.Limits.{mostAxes}
 use Rattle.shape.specs.Cores.{coresOf, chainAfter, reshaped}
 use Rattle.cutform.specs.declared.Rounded.{Rounded}
-use Rattle.cutform.specs.Rounding.{Carry, Cut, rounding, coresIn, countsIn, flagsIn}
-unfoldable pub use Rattle.cutform.specs.Asked.{lengthsOk, coreFinite, notBelowZero, roundFinite, roundOk}
+use Rattle.cutform.specs.declared.Cutting.{Cutting}
+use Rattle.cutform.specs.Bonds.{noBond}
+use Rattle.cutform.specs.Rounding.{Carry, Cut, rounding, coresIn, bondsIn}
+unfoldable pub use Rattle.cutform.specs.Asked.{lengthsOk, coreFinite, notBelowZero, cuttingFinite, cuttingOk, roundFinite, roundOk}
 
 -- ---- what a call that rounds a chain answers and leaves, by its outcome
 pub record Ended : Type 0 where
@@ -29,15 +30,16 @@ scratchAfter w (refused r) = pick (beforeWork r) w (zeros (length w))
 
 unfoldable pub endedBy : Shape → List Float → List Float → Answer (List (Carry × Cut)) → Ended
 endedBy s l w (done tr) = record {
-  result = record { verdict = Fits; shape = reshaped 0 s (coresIn tr); sweeps = fit 0 mostAxes (countsIn tr); settled = fit false mostAxes (flagsIn tr) };
+  result = record { verdict = Fits; shape = reshaped 0 s (coresIn tr); bonds = fit noBond mostAxes (bondsIn tr) };
   chain = chainAfter l (coresIn tr);
   scratch = scratchAfter w (done tr);
 }
 endedBy s l w (refused r) = record {
-  result = record { verdict = Refused r; shape = s; sweeps = replicate mostAxes 0; settled = replicate mostAxes false };
+  result = record { verdict = Refused r; shape = s; bonds = replicate mostAxes noBond };
   chain = l;
   scratch = scratchAfter {A = List (Carry × Cut)} w (refused r);
 }
 
-unfoldable pub roundCall : Shape → Float → List Float → List Float → Ended
-roundCall s eps chain scratch = endedBy s chain scratch (roundOk s eps chain (length scratch) then rounding eps (coresOf s chain))
+unfoldable pub roundCall : Shape → Cutting → List Float → List Float → Ended
+roundCall s cutting chain scratch =
+    endedBy s chain scratch (roundOk s cutting chain (length scratch) then rounding cutting (coresOf s chain))

@@ -1,4 +1,4 @@
--- What the counts of sweeps claim, which proofs/ proves of a rounding: the stated iteration, beside which each bond's count and flag are held.
+-- What a bond's sweeps claim, which proofs/ proves of a rounding: the stated iteration, beside which each bond's count and flag are held.
 -- Definitions only.
 use mathlib.Core.Path.{_≡_}
 use mathlib.Core.Logic.{_⊎_}
@@ -6,13 +6,14 @@ use Prim.Native.Nat.{ℕ, zero, suc, _≤_, _<_}
 use mathlib.Core.Bool.{Bool, true, false}
 use mathlib.Core.List.{List, []}
 use lib.ListN.{length, getD}
-use lib.Ieee.{Float}
 use Rattle.answers.specs.Outcome.{Made, done, bind}
 use Rattle.lists.specs.Walks.{stateAt}
 use Rattle.shape.specs.Cores.{Core, coreWith}
 use Rattle.cutform.specs.Rotation.{eye}
+use Rattle.cutform.specs.declared.Bond.{Bond}
+use Rattle.cutform.specs.declared.Cutting.{Cutting}
 use Rattle.cutform.specs.Sweeps.{Eig, eig, sweep, settled, mostSweeps}
-use Rattle.cutform.specs.Bonds.{gram}
+use Rattle.cutform.specs.Bonds.{gram, noBond}
 use Rattle.cutform.specs.Rounding.{Carry, none, Cut, takenIn, rounding}
 
 -- c sweeps, one after another
@@ -29,19 +30,19 @@ pub record Counted (most n : ℕ) (e : Eig) (c : ℕ) (b : Bool) (x : Eig) : Typ
   pub flag : b ≡ settled n (x .g)
   pub stopped : (c ≡ most) ⊎ (b ≡ true)
 
--- the count and the flag of bond k, whose left core is c, with the carry s from the left: those of the iteration on the Gram matrix of the core as it
--- then is, the carry taken in
-pub record BondCounted (k : ℕ) (s : Carry) (c : Core) (count : ℕ) (flag : Bool) : Type 0 where
+-- the sweeps of bond k, whose left core is c, with the carry s from the left: those of the iteration on the Gram matrix of the core as it then is, the
+-- carry taken in
+pub record BondCounted (k : ℕ) (s : Carry) (c : Core) (bond : Bond) : Type 0 where
   pub core : Core
   pub taken : takenIn k s c ≡ done core
   pub end : Eig
-  pub counted : Counted mostSweeps (core .rr) (eig (gram core) (eye (core .rr))) count flag end
+  pub counted : Counted mostSweeps (core .rr) (eig (gram core) (eye (core .rr))) (bond .sweeps) (bond .settled) end
 
 abbrev pub coreIn : List Core → ℕ → Core
 coreIn cs k = getD cs k (coreWith 0 0 0 [])
 
--- the counts and the flags of the bonds that a rounding of the cores cs cuts, bond k's at k
-pub record RoundCounted (eps : Float) (cs : List Core) (counts : List ℕ) (flags : List Bool) : Type 0 where
+-- the sweeps of the bonds that a rounding of the cores cs cuts, bond k's at k
+pub record RoundCounted (cutting : Cutting) (cs : List Core) (bonds : List Bond) : Type 0 where
   pub cuts : List (Carry × Cut)
-  pub ran : rounding eps cs ≡ done cuts
-  pub bond : (k : ℕ) → suc k < length cs → BondCounted k (stateAt none cuts k) (coreIn cs k) (getD counts k 0) (getD flags k false)
+  pub ran : rounding cutting cs ≡ done cuts
+  pub bond : (k : ℕ) → suc k < length cs → BondCounted k (stateAt none cuts k) (coreIn cs k) (getD bonds k noBond)

@@ -16,12 +16,12 @@ unfoldable pub singulars : ℕ → List Float → List Float
 singulars n g = tab n (λ (i : ℕ). singularOf (cell n g i i))
 
 -- where value i of n stands once they are sorted falling, equal ones by lower index: after the larger ones, and the equal ones before it
-unfoldable pub rankIn : ℕ → List Float → ℕ → ℕ
-rankIn n sv i = count (λ (j : ℕ). lt (at sv i) (at sv j)) n + count (λ (j : ℕ). eq (at sv j) (at sv i)) i
+unfoldable pub placeIn : ℕ → List Float → ℕ → ℕ
+placeIn n sv i = count (λ (j : ℕ). lt (at sv i) (at sv j)) n + count (λ (j : ℕ). eq (at sv j) (at sv i)) i
 
 -- the index of the value that stands at place r
 unfoldable pub indexAt : ℕ → List Float → ℕ → ℕ
-indexAt n sv r = first (λ (i : ℕ). eqb (rankIn n sv i) r) n
+indexAt n sv r = first (λ (i : ℕ). eqb (placeIn n sv i) r) n
 
 unfoldable pub order : ℕ → List Float → List ℕ
 order n sv = tab n (indexAt n sv)

@@ -1,9 +1,20 @@
 // What the cut of a bond is, and what a rounding is: definitions and examples worked out; the code is in sweeps, values, factors, bond and cutting.
 
-// The chain's shape at the end; for each bond the sweeps made, and whether the sum is below 1e-30 at the end.
+// What is said of a bond once it is cut: the rank kept, the sweeps made, and whether the sum is below 1e-30 at their end.
+pub struct Bond {
+    pub rank: usize,
+    pub sweeps: usize,
+    pub settled: bool,
+}
+
+// How a cut is made: kept is what lies above eps times the largest value.
+pub struct Cutting {
+    pub eps: f64,
+}
+
+// The chain's shape at the end, and what is said of each bond.
 pub struct Rounded {
     pub verdict: answers::Verdict,
     pub shape: shape::Shape,
-    pub sweeps: [usize; shape::MOST_AXES],
-    pub settled: [bool; shape::MOST_AXES],
+    pub bonds: [Bond; shape::MOST_AXES],
 }

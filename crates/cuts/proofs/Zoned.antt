@@ -12,12 +12,11 @@ use mir.Syntax.{w64}
 use mir.Val as val
 use Rattle.answers.specs.declared.Part.the-variants.{Factor}
 use Rattle.answers.specs.declared.Refusal.{Refusal}
-use Rattle.answers.specs.declared.Refusal.the-variants.{Stored}
 use Rattle.answers.specs.declared.Stage.{Stage}
-use Rattle.answers.specs.declared.Stage.the-variants.{Whole, Spilt}
 use Rattle.answers.specs.declared.Verdict.{Verdict}
 use Rattle.answers.specs.declared.Verdict.the-variants.{Fits, Refused}
-use Rattle.answers.specs.Outcome.{Made, Answer, done, refused, bind, making, stageOf, staged, answered}
+use Rattle.answers.specs.Outcome.{Made, Answer, done, refused, bind, making, stageOf, staged, answered, storedIn}
+use Rattle.answers.proofs.Outcomes.{stored-answered}
 use Rattle.numbers.specs.Arithmetic.{zero64}
 use Rattle.lists.specs.Slots.{fit}
 use Rattle.lists.specs.Floats.{stored}
@@ -25,9 +24,12 @@ use Rattle.lists.proofs.Slots.{fit-whole}
 use Rattle.lists.proofs.Stages.{stored-staged}
 use Rattle.lists.proofs.Parts.{span-again}
 use Rattle.shape.specs.Cores.{Core, coreWith}
-use Rattle.cutform.specs.Bonds.{Bond, cutBond, absorb}
+use Rattle.cutform.specs.declared.Bond.{Bond}
+use Rattle.cutform.specs.declared.Cutting.{Cutting}
+use Rattle.cutform.specs.Bonds.{CutCore, cutBond, absorb}
 use Rattle.cutform.proofs.Made.{cut-from}
 use Rattle.cutform.specs.Rounding.{Carry, some, takenIn, cutIf, roundCore}
+use Rattle.bond.specs.Stages.{cutInto}
 use Rattle.cuts.specs.ZoneSlots.{carryFrom, Laid, laidCut, laidAs}
 
 -- ---- sizes
@@ -113,86 +115,96 @@ module _ (k r rl n rr : ℕ) (carry slot : List Float) where
         go zero o = let z : ⊥ = omega arith in absurd z
         go (suc j) o = refl
 
-    pub taken-stop : (i : ℕ) (c : Core) → s ≡ Spilt i → Taken ≡ answered (Refused (Stored Factor k i)) c
-    unfolding answered staged
-    taken-stop i c h = taken-opened ∙ rw h
-
-    pub taken-whole : s ≡ Whole → Taken ≡ answered Fits (coreWith r n rr (take (r * n * rr) after))
-    unfolding answered staged
-    taken-whole h = taken-opened ∙ rw h
+    -- v is what the call answers of that stage
+    pub taken-made : (v : Verdict) → v ≡ storedIn Factor k s → Taken ≡ answered v (coreWith r n rr (take (r * n * rr) after))
+    unfolding answered
+    taken-made v h =
+        taken-opened
+        ∙ ap (λ (o : Answer (List Float)). bind o (λ x. done (coreWith r n rr x))) (stored-answered Factor k s v (take (r * n * rr) after) h)
+        ∙ go v
+      where
+        go : (v : Verdict) → bind (answered v (take (r * n * rr) after)) (λ x. done (coreWith r n rr x)) ≡ answered v (coreWith r n rr (take (r * n * rr) after))
+        go Fits = refl
+        go (Refused q) = refl
 
 -- ---- a bond cut
-module _ (k : ℕ) (eps : Float) (c : Core) (v : Verdict) (b : Bond) (e : cutBond k eps c ≡ answered v b) where
-  abbrev laying : ℕ → ℕ → Answer Bond → Answer Laid
-  laying x y o = bind (bind o (λ b. done (some (b .core .rr) (b .carry), record { core = b .core; counts = b .sweeps ∷ []; flags = b .settles ∷ [] }))) (λ p. done (laidCut x y p))
+module _ (k : ℕ) (cutting : Cutting) (c : Core) (v : Verdict) (b : CutCore) (e : cutBond k cutting c ≡ answered v b) where
+  abbrev laying : ℕ → ℕ → Answer CutCore → Answer Laid
+  laying x y o = bind (bind o (λ b. done (some (b .bond .rank) (b .carry), record { core = b .core; bonds = b .bond ∷ [] }))) (λ p. done (laidCut x y p))
 
-  pub rank-most : v ≡ Fits → 1 ≤ c .rr → b .core .rr ≤ c .rr
+  pub rank-most : v ≡ Fits → 1 ≤ c .rr → b .bond .rank ≤ c .rr
   unfolding answered
-  rank-most h o = cut-from k eps c b (e ∙ rw h) .most o
+  rank-most h o = cut-from k cutting c b (e ∙ rw h) .most o
 
   -- what it leaves, laid into slots of x and y numbers
   pub cut-laid : v ≡ Fits → (x y x' y' : ℕ) (core carry : List Float) → core ≡ fit zero64 x' (b .core .entries) → carry ≡ fit zero64 y' (b .carry) → x' ≡ x → y' ≡ y
-      → bind (cutIf true k eps c) (λ p. done (laidCut x y p)) ≡ answered v (laidAs true (b .core .rl) (b .core .rr) (b .sweeps) (b .settles) core carry)
+      → bind (cutIf true k cutting c) (λ p. done (laidCut x y p)) ≡ answered v (laidAs true (b .core .rl) (b .bond) core carry)
   unfolding answered
-  cut-laid h x y x' y' core carry f g i j = let d : cutBond k eps c ≡ done b = e ∙ rw h in ap (laying x y) d ∙ rw (h, f, g, i, j)
+  cut-laid h x y x' y' core carry f g i j =
+      let d : cutBond k cutting c ≡ done b = e ∙ rw h in
+      ap (laying x y) d ∙ rw (h, f, g, i, j, cut-from k cutting c b d .kept)
 
-  pub cut-stopped : (q : Refusal) → v ≡ Refused q → (x y : ℕ) (l : Laid) → bind (cutIf true k eps c) (λ p. done (laidCut x y p)) ≡ answered v l
+  pub cut-stopped : (q : Refusal) → v ≡ Refused q → (x y : ℕ) (l : Laid) → bind (cutIf true k cutting c) (λ p. done (laidCut x y p)) ≡ answered v l
   unfolding answered
-  cut-stopped q h x y l = let d : cutBond k eps c ≡ refused q = e ∙ rw h in ap (laying x y) d ∙ rw h
+  cut-stopped q h x y l = let d : cutBond k cutting c ≡ refused q = e ∙ rw h in ap (laying x y) d ∙ rw h
 
 -- the front of a slot that was lent and came back as p
-module _ (k : ℕ) (eps : Float) (rl n rr : ℕ) (slot : List Float) (v : Verdict) (rank sweeps : ℕ) (settles : Bool) (p carry : List Float)
-    (e : cutBond k eps (coreWith rl n rr (take (rl * n * rr - 0) slot)) ≡ answered v (record { core = coreWith rl n rank (take (rl * n * rank) p); sweeps = sweeps; settles = settles; carry = carry })) where
-  front-whole : cutBond k eps (coreWith rl n rr (take (rl * n * rr) slot)) ≡ answered v (record { core = coreWith rl n rank (take (rl * n * rank) p); sweeps = sweeps; settles = settles; carry = carry })
-  front-whole = ap (λ (m : ℕ). cutBond k eps (coreWith rl n rr (take m slot))) (sym (sub-zero (rl * n * rr))) ∙ e
+module _ (k : ℕ) (cutting : Cutting) (rl n rr : ℕ) (slot : List Float) (v : Verdict) (b : Bond) (p carry : List Float)
+    (e : cutBond k cutting (coreWith rl n rr (take (rl * n * rr - 0) slot)) ≡ answered v (cutInto rl n rr b p carry)) where
+  front-whole : cutBond k cutting (coreWith rl n rr (take (rl * n * rr) slot)) ≡ answered v (cutInto rl n rr b p carry)
+  front-whole = ap (λ (m : ℕ). cutBond k cutting (coreWith rl n rr (take m slot))) (sym (sub-zero (rl * n * rr))) ∙ e
 
-  pub front-rank : 1 ≤ rr → v ≡ Fits → rank ≤ rr
-  front-rank o h = rank-most k eps (coreWith rl n rr (take (rl * n * rr) slot)) v _ front-whole h o
+  pub front-rank : 1 ≤ rr → v ≡ Fits → b .rank ≤ rr
+  front-rank o h = rank-most k cutting (coreWith rl n rr (take (rl * n * rr) slot)) v _ front-whole h o
 
   pub front-cut : 1 ≤ rr → length p ≡ rl * n * rr → (rest : List Float)
-      → cutBond k eps (coreWith rl n rr (take (rl * n * rr) slot)) ≡ answered v (record { core = coreWith rl n rank (take (rl * n * rank) (p ++ rest)); sweeps = sweeps; settles = settles; carry = carry })
+      → cutBond k cutting (coreWith rl n rr (take (rl * n * rr) slot)) ≡ answered v (cutInto rl n rr b (p ++ rest) carry)
   unfolding answered
   front-cut o l rest = go v refl
     where
-      go : (w : Verdict) → v ≡ w → cutBond k eps (coreWith rl n rr (take (rl * n * rr) slot)) ≡ answered v (record { core = coreWith rl n rank (take (rl * n * rank) (p ++ rest)); sweeps = sweeps; settles = settles; carry = carry })
+      go : (w : Verdict) → v ≡ w → cutBond k cutting (coreWith rl n rr (take (rl * n * rr) slot)) ≡ answered v (cutInto rl n rr b (p ++ rest) carry)
       go Fits h =
-          let m : rl * n * rank ≤ length p = omega (arith, mul-le-mul-left (rl * n) (front-rank o h), l) in
-          front-whole ∙ ap (λ (x : List Float). answered v (record { core = coreWith rl n rank x; sweeps = sweeps; settles = settles; carry = carry })) (sym (take-append-le (rl * n * rank) p rest m))
+          let m : rl * n * b .rank ≤ length p = omega (arith, mul-le-mul-left (rl * n) (front-rank o h), l) in
+          front-whole ∙ ap (λ (x : List Float). answered v (record { core = coreWith rl n (b .rank) x; bond = b; carry = take (b .rank * rr) carry }))
+          (sym (take-append-le (rl * n * b .rank) p rest m))
       go (Refused q) h = front-whole ∙ rw h
 
 -- ---- with a bond to the right or without
-module _ (k : ℕ) (eps : Float) (c : Core) (x y : ℕ) (more : Bool) where
-  pub if-cut : more ≡ true → (v : Verdict) (l r n : ℕ) (b : Bool) (core carry : List Float) → bind (cutIf true k eps c) (λ p. done (laidCut x y p)) ≡ answered v (laidAs true l r n b core carry)
-      → bind (cutIf more k eps c) (λ p. done (laidCut x y p)) ≡ answered v (laidAs more l r n b core carry)
-  if-cut h v l r n b core carry e = rw h e
+module _ (k : ℕ) (cutting : Cutting) (c : Core) (x y : ℕ) (more : Bool) where
+  pub if-cut : more ≡ true → (v : Verdict) (l : ℕ) (b : Bond) (core carry : List Float)
+      → bind (cutIf true k cutting c) (λ p. done (laidCut x y p)) ≡ answered v (laidAs true l b core carry)
+      → bind (cutIf more k cutting c) (λ p. done (laidCut x y p)) ≡ answered v (laidAs more l b core carry)
+  if-cut h v l b core carry e = rw h e
 
   -- the last core has no room for a carry
-  pub if-last : more ≡ false → (v : Verdict) (r n : ℕ) (b : Bool) (core carry : List Float) → v ≡ Fits → r ≡ c .rr → core ≡ fit zero64 x (c .entries) → length carry ≡ y → y ≡ 0
-      → bind (cutIf more k eps c) (λ p. done (laidCut x y p)) ≡ answered v (laidAs more (c .rl) r n b core carry)
+  pub if-last : more ≡ false → (v : Verdict) (b : Bond) (core carry : List Float) → v ≡ Fits → b .rank ≡ c .rr → core ≡ fit zero64 x (c .entries) → length carry ≡ y → y ≡ 0
+      → bind (cutIf more k cutting c) (λ p. done (laidCut x y p)) ≡ answered v (laidAs more (c .rl) b core carry)
   unfolding answered fit
-  if-last h v r n b core carry f g i j z = rw (h, f, g, i) (ap (λ (l : List Float). done (record { left = c .rl; right = c .rr; ranks = []; counts = []; flags = []; core = fit zero64 x (c .entries); carry = l })) (go carry (omega arith)))
+  if-last h v b core carry f g i j z =
+      rw (h, f, g, i)
+      (ap (λ (l : List Float). done (record { left = c .rl; right = c .rr; bonds = []; core = fit zero64 x (c .entries); carry = l })) (go carry (omega arith)))
     where
       go : (l : List Float) → length l ≡ 0 → fit zero64 y [] ≡ l
       go [] e = ap (λ (m : ℕ). fit zero64 m []) z
       go (a ∷ l) e = let w : ⊥ = omega arith in absurd w
 
 -- ---- a zone: the carry taken in, then the cut
-module _ (eps : Float) (more : Bool) (k : ℕ) (s : Carry) (c : Core) (v : Verdict) (t : Core) (e : takenIn k s c ≡ answered v t) (x y : ℕ) where
-  pub zone-stops : (q : Refusal) → v ≡ Refused q → (w : Verdict) → w ≡ Refused q → (l : Laid) → bind (roundCore eps more k s c) (λ p. done (laidCut x y p)) ≡ answered w l
+module _ (cutting : Cutting) (more : Bool) (k : ℕ) (s : Carry) (c : Core) (v : Verdict) (t : Core) (e : takenIn k s c ≡ answered v t) (x y : ℕ) where
+  pub zone-stops : (q : Refusal) → v ≡ Refused q → (w : Verdict) → w ≡ Refused q → (l : Laid) → bind (roundCore cutting more k s c) (λ p. done (laidCut x y p)) ≡ answered w l
   unfolding roundCore answered
-  zone-stops q h w g l = let d : takenIn k s c ≡ refused q = e ∙ rw h in rw g (ap (λ (o : Answer Core). bind (bind o (λ t. cutIf more k eps t)) (λ p. done (laidCut x y p))) d)
+  zone-stops q h w g l = let d : takenIn k s c ≡ refused q = e ∙ rw h in rw g (ap (λ (o : Answer Core). bind (bind o (λ t. cutIf more k cutting t)) (λ p. done (laidCut x y p))) d)
 
-  pub zone-goes : v ≡ Fits → (w : Verdict) (l r n : ℕ) (b : Bool) (core carry carry' : List Float) (x' y' : ℕ)
-      → bind (cutIf more k eps t) (λ p. done (laidCut x' y' p)) ≡ answered w (laidAs more l r n b core carry) → x' ≡ x → y' ≡ y → carry' ≡ carry
-      → bind (roundCore eps more k s c) (λ p. done (laidCut x y p)) ≡ answered w (laidAs more l r n b core carry')
+  pub zone-goes : v ≡ Fits → (w : Verdict) (l : ℕ) (b : Bond) (core carry carry' : List Float) (x' y' : ℕ)
+      → bind (cutIf more k cutting t) (λ p. done (laidCut x' y' p)) ≡ answered w (laidAs more l b core carry) → x' ≡ x → y' ≡ y → carry' ≡ carry
+      → bind (roundCore cutting more k s c) (λ p. done (laidCut x y p)) ≡ answered w (laidAs more l b core carry')
   unfolding roundCore answered
-  zone-goes h w l r n b core carry carry' x' y' f i j g =
+  zone-goes h w l b core carry carry' x' y' f i j g =
       let d : takenIn k s c ≡ done t = e ∙ rw h in
-      ap (λ (o : Answer Core). bind (bind o (λ t. cutIf more k eps t)) (λ p. done (laidCut x y p))) d
-      ∙ ap (λ (m : ℕ). bind (cutIf more k eps t) (λ p. done (laidCut m y p))) (sym i)
-      ∙ ap (λ (m : ℕ). bind (cutIf more k eps t) (λ p. done (laidCut x' m p))) (sym j)
+      ap (λ (o : Answer Core). bind (bind o (λ t. cutIf more k cutting t)) (λ p. done (laidCut x y p))) d
+      ∙ ap (λ (m : ℕ). bind (cutIf more k cutting t) (λ p. done (laidCut m y p))) (sym i)
+      ∙ ap (λ (m : ℕ). bind (cutIf more k cutting t) (λ p. done (laidCut x' m p))) (sym j)
       ∙ f
-      ∙ ap (λ (z : List Float). answered w (laidAs more l r n b core z)) (sym g)
+      ∙ ap (λ (z : List Float). answered w (laidAs more l b core z)) (sym g)
 
 -- ---- a part of a list, from `from` up to `to`
 module _ (from to : ℕ) (l : List Float) (h : from ≤ to) (w : to ≤ length l) where

@@ -7,7 +7,8 @@ use lib.Ieee.{Float}
 use Rattle.numbers.specs.Arithmetic.{zero64}
 use Rattle.lists.specs.Slots.{slot, fit}
 use Rattle.shape.specs.Limits.{mostRank}
-use Rattle.cutform.specs.Rounding.{Carry, none, some, Cut, rankIn, numbersIn}
+use Rattle.cutform.specs.declared.Bond.{Bond}
+use Rattle.cutform.specs.Rounding.{Carry, none, some, Cut, numbersIn}
 
 -- the carry left of zone k: r rows, the numbers b
 abbrev pub carryFrom : ℕ → ℕ → List Float → Carry
@@ -18,19 +19,23 @@ carryFrom (suc k) r b = some r b
 pub record Laid : Type 0 where
   pub left : ℕ
   pub right : ℕ
-  pub ranks : List ℕ
-  pub counts : List ℕ
-  pub flags : List Bool
+  pub bonds : List Bond
   pub core : List Float
   pub carry : List Float
 
 abbrev pub laidCut : ℕ → ℕ → Carry × Cut → Laid
-laidCut a b x = record { left = x .1 .core .rl; right = x .1 .core .rr; ranks = rankIn (x .0); counts = x .1 .counts; flags = x .1 .flags; core = fit zero64 a (x .1 .core .entries); carry = fit zero64 b (numbersIn (x .0)) }
+laidCut a b x = record {
+  left = x .1 .core .rl;
+  right = x .1 .core .rr;
+  bonds = x .1 .bonds;
+  core = fit zero64 a (x .1 .core .entries);
+  carry = fit zero64 b (numbersIn (x .0));
+}
 
--- the same as code answers it; `more` says whether there is a bond
-abbrev pub laidAs : Bool → ℕ → ℕ → ℕ → Bool → List Float → List Float → Laid
-laidAs true l r c b core carry = record { left = l; right = r; ranks = r ∷ []; counts = c ∷ []; flags = b ∷ []; core = core; carry = carry }
-laidAs false l r c b core carry = record { left = l; right = r; ranks = []; counts = []; flags = []; core = core; carry = carry }
+-- the same as code answers it; `more` says whether there is a bond, and where there is none b has the core's right rank alone
+abbrev pub laidAs : Bool → ℕ → Bond → List Float → List Float → Laid
+laidAs true l b core carry = record { left = l; right = b .rank; bonds = b ∷ []; core = core; carry = carry }
+laidAs false l b core carry = record { left = l; right = b .rank; bonds = []; core = core; carry = carry }
 
 -- what a zone asks: `slot`, `carries` and `room` are lengths
 pub record ZoneFits (k : ℕ) (more : Bool) (r rl n rr from mid to slot carries room : ℕ) : Type 0 where

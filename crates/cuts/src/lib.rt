@@ -2,18 +2,16 @@
 // in a slot of its own.
 pub mod zone;
 ghost use mathlib.Core.Path.{_≡_};
+ghost use mathlib.Core.Bool.{cond};
 ghost use Prim.Native.Nat.{_+_, _-_, _*_, _≤_, _<_};
-ghost use mathlib.Core.List.{[]};
-ghost use lib.ListN.{length, set};
-ghost use Rattle.answers.specs.declared.Verdict.the-variants.{Fits, Refused};
+ghost use lib.ListN.{length};
+ghost use Rattle.answers.specs.declared.Verdict.the-variants.{Fits};
 ghost use Rattle.answers.specs.Outcome.{answered};
 ghost use Rattle.lists.specs.Slots.{offset};
-ghost use Rattle.shape.specs.Limits.{mostAxes};
-ghost use Rattle.shape.specs.Shapes.{pointsOf};
+ghost use Rattle.shape.specs.Limits.{mostAxes, mostCore};
 ghost use Rattle.shape.specs.Sizes.{SizesWithin, Inside};
-ghost use Rattle.shape.specs.Cores.{coreWith, withCore};
 ghost use Rattle.cutform.specs.Keeping.{carrySize, roundFrom};
-ghost use Rattle.cuts.specs.Slots.{mostCore, heldBy, placesOf, zoneTurn, rankLeft, AtZone, ZoneCut};
+ghost use Rattle.cuts.specs.Slots.{held, heldBy, placesOf, rankLeft, AtZone, Ready, ZoneCut};
 
 // How many numbers the slot of bond k's carry has; right of the last core there is none.
 pub fn carry_size(s: shape::Shape, k: usize) -> usize
@@ -40,26 +38,23 @@ pub fn carry_offset(s: shape::Shape, k: usize) -> usize
     total
 }
 
-// What a rounding from some zone on came to: the chain's shape, and for each bond its rank, its sweeps, and whether the sum is
-// below 1e-30 at their end.
+// What a rounding from some zone on came to: the chain's shape, and what is said of each bond.
 pub struct Walked {
     pub verdict: answers::Verdict,
     pub shape: shape::Shape,
-    pub ranks: [usize; shape::MOST_AXES],
-    pub sweeps: [usize; shape::MOST_AXES],
-    pub settled: [bool; shape::MOST_AXES],
+    pub bonds: [cutform::Bond; shape::MOST_AXES],
 }
 
 // The rank on the left of zone k.
 fn left_rank(k: usize, w: Walked) -> usize
-    requires { ⌜ k < mostAxes ⌝ }
-    ensures { λ r. ⌜ r ≡ rankLeft k (w .shape) (w .ranks) ⌝ }
+    requires { ⌜ k ≤ mostAxes ⌝ }
+    ensures { λ r. ⌜ r ≡ rankLeft k (w .shape) (w .bonds) ⌝ }
 {
     if k < 1 {
         let t = w.shape;
         return t.left[0];
     }
-    w.ranks[k - 1]
+    w.bonds[k - 1].rank
 }
 
 // Where zone k stands: its core from `at` to `end`, the carry on its left from `from` to `mid`, its own from `mid` to `to`.
@@ -102,25 +97,26 @@ fn places_of(s: shape::Shape, k: usize) -> Places
     }
 }
 
-// Zone k in place: its core in the work, its carry among the carries.
+// Zone k in place, with rank r on its left: its core in the work, its carry among the carries.
 fn zone_cut(
     k: usize,
     s: shape::Shape,
-    w: Walked,
-    eps: f64,
+    t: shape::Shape,
+    r: usize,
+    cutting: cutform::Cutting,
     work: &mut [f64],
     carries: &mut [f64],
     room: &mut [f64],
 ) -> bond::BondCut
     requires { ⌜ SizesWithin s ⌝ }
-    requires { ⌜ (k < s .d) × (mostCore ≤ length (now room)) × AtZone s 1 k (w .shape) (heldBy w (now work) (now carries)) ⌝ }
-    ensures { λ c. ⌜ ZoneCut eps s k (w .shape) (heldBy w (now (work .entry)) (now (carries .entry))) (c .verdict) (c .rank) (c .sweeps) (c .settles) (now (work .exit)) (now (carries .exit)) ⌝ }
+    requires { ⌜ (k < s .d) × (mostCore ≤ length (now room)) × Ready s k t r (now work) (now carries) ⌝ }
+    ensures { λ c. ⌜ ((ready : Ready s k t r (now (work .entry)) (now (carries .entry)))
+        → ZoneCut cutting s k t (held (ready .bonds) (now (work .entry)) (now (carries .entry)))
+        (c .verdict) (c .bond) (now (work .exit)) (now (carries .exit))) ⌝ }
 {
     let p = places_of(s, k);
     let at = p.at;
     let end = p.end;
-    let t = w.shape;
-    let r = left_rank(k, w);
     zone::round_core(
         &mut work[at..end],
         k,
@@ -129,7 +125,7 @@ fn zone_cut(
         t.left[k],
         t.n[k],
         t.right[k],
-        eps,
+        cutting,
         carries,
         p.from,
         p.mid,
@@ -138,96 +134,55 @@ fn zone_cut(
     )
 }
 
-// What a cut at bond k adds to what the zones before it left.
-fn with_cut(w: Walked, k: usize, r: usize, cut: bond::BondCut) -> Walked
-    requires { ⌜ k < mostAxes ⌝ }
-    ensures { λ x. ⌜ x ≡ record { verdict = cut .verdict; shape = withCore (w .shape) k (coreWith r (pointsOf (w .shape) k) (cut .rank) []); ranks = set (w .ranks) k (cut .rank); sweeps = set (w .sweeps) k (cut .sweeps); settled = set (w .settled) k (cut .settles) } ⌝ }
+// What stands at a zone's place once it is rounded: its bond; right of the last core there is none, and what stood there stays.
+fn placed(more: bool, new: cutform::Bond, old: cutform::Bond) -> cutform::Bond
+    ensures { λ r. ⌜ r ≡ cond more new old ⌝ }
 {
-    let verdict = cut.verdict;
-    let before = w.shape;
-    let shape = before.with_core(k, r, cut.rank);
-    let mut ranks = w.ranks;
-    ranks[k] = cut.rank;
-    let mut sweeps = w.sweeps;
-    sweeps[k] = cut.sweeps;
-    let mut settled = w.settled;
-    settled[k] = cut.settles;
-    Walked {
-        verdict,
-        shape,
-        ranks,
-        sweeps,
-        settled,
+    if more {
+        return new;
     }
+    old
 }
 
-// What the last core adds.
-fn with_last(w: Walked, k: usize, r: usize, cut: bond::BondCut) -> Walked
-    requires { ⌜ k < mostAxes ⌝ }
-    ensures { λ x. ⌜ x ≡ record { verdict = cut .verdict; shape = withCore (w .shape) k (coreWith r (pointsOf (w .shape) k) (cut .rank) []); ranks = w .ranks; sweeps = w .sweeps; settled = w .settled } ⌝ }
-{
-    let verdict = cut.verdict;
-    let before = w.shape;
-    let shape = before.with_core(k, r, cut.rank);
-    let ranks = w.ranks;
-    let sweeps = w.sweeps;
-    let settled = w.settled;
-    Walked {
-        verdict,
-        shape,
-        ranks,
-        sweeps,
-        settled,
-    }
-}
-
-// Zone k, from what the zones before it left.
-fn round_zone(
-    k: usize,
-    s: shape::Shape,
-    w: Walked,
-    eps: f64,
-    work: &mut [f64],
-    carries: &mut [f64],
-    room: &mut [f64],
-) -> Walked
-    requires { ⌜ SizesWithin s ⌝ }
-    requires { ⌜ (k < s .d) × (mostCore ≤ length (now room)) × AtZone s 1 k (w .shape) (heldBy w (now work) (now carries)) ⌝ }
-    ensures { λ r. ⌜ zoneTurn eps s k (w .shape, heldBy w (now (work .entry)) (now (carries .entry)))
-        ≡ answered (r .verdict) (r .shape, heldBy r (now (work .exit)) (now (carries .exit))) ⌝ }
-{
-    let cut = zone_cut(k, s, w, eps, work, carries, room);
-    let r = left_rank(k, w);
-    if k + 1 < s.d {
-        return with_cut(w, k, r, cut);
-    }
-    with_last(w, k, r, cut)
-}
-
-// The zones from z on, left to right, from what is held left of z: the ranks and the carries.
+// The zones from z on, left to right, from what is held left of z: the bonds and the carries.
 pub fn round_from(
     z: usize,
     s: shape::Shape,
     w: Walked,
-    eps: f64,
+    cutting: cutform::Cutting,
     work: &mut [f64],
     carries: &mut [f64],
     room: &mut [f64],
 ) -> Walked
     requires { ⌜ SizesWithin s ⌝ }
-    requires { ⌜ (z ≤ s .d) × (mostCore ≤ length (now room)) × (w .verdict ≡ Fits) × AtZone s z z (w .shape) (heldBy w (now work) (now carries)) ⌝ }
-    ensures { λ r. ⌜ (roundFrom eps s z (w .shape) (heldBy w (now (work .entry)) (now (carries .entry)))
+    requires { ⌜ (z ≤ s .d) × (mostCore ≤ length (now room)) × AtZone s z z (w .shape) (heldBy w (now work) (now carries)) ⌝ }
+    ensures { λ r. ⌜ (roundFrom cutting s z (w .shape) (heldBy w (now (work .entry)) (now (carries .entry)))
         ≡ answered (r .verdict) (r .shape, heldBy r (now (work .exit)) (now (carries .exit)))) × (z ≡ 0 → r .verdict ≡ Fits → Inside s (r .shape)) ⌝ }
 {
-    let mut x = w;
+    let mut shape = w.shape;
+    let mut bonds = w.bonds;
+    let mut r = left_rank(z, w);
     let mut k = z;
     while k < s.d {
-        x = round_zone(k, s, x, eps, work, carries, room);
-        let verdict = x.verdict;
+        let cut = zone_cut(k, s, shape, r, cutting, work, carries, room);
+        let verdict = cut.verdict;
         if let answers::Verdict::Refused(q) = verdict {
-            return x;
+            return Walked {
+                verdict: answers::Verdict::Refused(q),
+                shape,
+                bonds,
+            };
         }
+        let rank = cut.bond.rank;
+        shape = shape.with_core(k, r, rank);
+        let new = cut.bond;
+        bonds[k] = placed(k + 1 < s.d, new, bonds[k]);
+        r = rank;
         k += 1;
     }
-    x
+    Walked {
+        verdict: answers::Verdict::Fits,
+        shape,
+        bonds,
+    }
 }

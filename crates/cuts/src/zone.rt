@@ -11,8 +11,9 @@ ghost use Rattle.lists.specs.Slots.{fit};
 ghost use Rattle.lists.specs.Floats.{stored};
 ghost use Rattle.shape.specs.Limits.{mostRank};
 ghost use Rattle.shape.specs.Cores.{coreWith};
-ghost use Rattle.cutform.specs.Bonds.{cutBond, absorb};
+ghost use Rattle.cutform.specs.Bonds.{noBond, cutBond, absorb};
 ghost use Rattle.cutform.specs.Rounding.{takenIn, cutIf, roundCore};
+ghost use Rattle.bond.specs.Stages.{cutInto};
 ghost use Rattle.cuts.specs.ZoneSlots.{carryFrom, laidCut, laidAs, ZoneFits};
 
 // The room of a slot behind what is used of it becomes +0.
@@ -82,10 +83,7 @@ fn taken(
         return answers::Verdict::Fits;
     }
     let made = take_in(slot, rl, n, rr, carry, r, room);
-    if let answers::Stage::Spilt(i) = made {
-        return answers::Verdict::Refused(answers::Refusal::Stored(answers::Part::Factor, k, i));
-    }
-    answers::Verdict::Fits
+    answers::stored_in(made, answers::Part::Factor, k)
 }
 
 // The core at the front of its slot cut to its left factor, the carry at the front of its own slot.
@@ -95,17 +93,17 @@ fn cut_front(
     rl: usize,
     n: usize,
     rr: usize,
-    eps: f64,
+    cutting: cutform::Cutting,
     carry: &mut [f64],
     room: &mut [f64],
 ) -> bond::BondCut
     requires { ⌜ (rl * n * rr ≤ length (now slot)) × (rl * n * rr ≤ length (now room)) × (1 ≤ rl) × (1 ≤ n) × (1 ≤ rr) × (rr ≤ mostRank)
         × (rr * rr ≤ length (now carry)) ⌝ }
-    ensures { λ r. ⌜ (cutBond k eps (coreWith rl n rr (take (rl * n * rr) (now (slot .entry))))
-        ≡ answered (r .verdict) (record { core = coreWith rl n (r .rank) (take (rl * n * r .rank) (now (slot .exit))); sweeps = r .sweeps; settles = r .settles; carry = take (r .rank * rr) (now (carry .exit)) })) × (r .verdict ≡ Fits → r .rank ≤ rr) ⌝ }
+    ensures { λ r. ⌜ (cutBond k cutting (coreWith rl n rr (take (rl * n * rr) (now (slot .entry))))
+        ≡ answered (r .verdict) (cutInto rl n rr (r .bond) (now (slot .exit)) (now (carry .exit)))) × (r .verdict ≡ Fits → r .bond .rank ≤ rr) ⌝ }
 {
     let size = rl * n * rr;
-    bond::cut_bond(&mut slot[0..size], k, rl, n, rr, eps, carry, room)
+    bond::cut_bond(&mut slot[0..size], k, rl, n, rr, cutting, carry, room)
 }
 
 // The same with +0 behind.
@@ -115,37 +113,41 @@ fn cut_in(
     rl: usize,
     n: usize,
     rr: usize,
-    eps: f64,
+    cutting: cutform::Cutting,
     carry: &mut [f64],
     room: &mut [f64],
 ) -> bond::BondCut
     requires { ⌜ (rl * n * rr ≤ length (now slot)) × (rl * n * rr ≤ length (now room)) × (1 ≤ rl) × (1 ≤ n) × (1 ≤ rr) × (rr ≤ mostRank)
         × (rr * rr ≤ length (now carry)) ⌝ }
-    ensures { λ r. ⌜ bind (cutIf true k eps (coreWith rl n rr (take (rl * n * rr) (now (slot .entry))))) (λ x. done (laidCut (length (now (slot .entry))) (length (now (carry .entry))) x)) ≡ answered (r .verdict) (laidAs true rl (r .rank) (r .sweeps) (r .settles) (now (slot .exit)) (now (carry .exit))) ⌝ }
+    ensures { λ r. ⌜ bind (cutIf true k cutting (coreWith rl n rr (take (rl * n * rr) (now (slot .entry)))))
+        (λ x. done (laidCut (length (now (slot .entry))) (length (now (carry .entry))) x))
+        ≡ answered (r .verdict) (laidAs true rl (r .bond) (now (slot .exit)) (now (carry .exit))) ⌝ }
 {
-    let cut = cut_front(slot, k, rl, n, rr, eps, carry, room);
+    let cut = cut_front(slot, k, rl, n, rr, cutting, carry, room);
     let verdict = cut.verdict;
     if let answers::Verdict::Refused(q) = verdict {
         return cut;
     }
-    let rank = cut.rank;
+    let rank = cut.bond.rank;
     clear_behind(slot, rl * n * rank);
     clear_behind(carry, rank * rr);
     cut
 }
 
-// The last core is not cut.
+// The last core is not cut: it keeps its right rank, and makes no sweeps.
 fn last_in(slot: &mut [f64], rl: usize, n: usize, rr: usize) -> bond::BondCut
     requires { ⌜ (rl * n * rr ≤ length (now slot)) × (1 ≤ rr) ⌝ }
-    ensures { λ r. ⌜ (r ≡ record { verdict = Fits; rank = rr; sweeps = 0; settles = false })
+    ensures { λ r. ⌜ (r ≡ record { verdict = Fits; bond = record { rank = rr; sweeps = 0; settled = false } })
         × (now (slot .exit) ≡ fit zero64 (length (now (slot .entry))) (take (rl * n * rr) (now (slot .entry)))) ⌝ }
 {
     clear_behind(slot, rl * n * rr);
     bond::BondCut {
         verdict: answers::Verdict::Fits,
-        rank: rr,
-        sweeps: 0,
-        settles: false,
+        bond: cutform::Bond {
+            rank: rr,
+            sweeps: 0,
+            settled: false,
+        },
     }
 }
 
@@ -157,28 +159,28 @@ fn cut_if(
     rl: usize,
     n: usize,
     rr: usize,
-    eps: f64,
+    cutting: cutform::Cutting,
     carry: &mut [f64],
     room: &mut [f64],
 ) -> bond::BondCut
     requires { ⌜ (rl * n * rr ≤ length (now slot)) × (rl * n * rr ≤ length (now room)) × (1 ≤ rl) × (1 ≤ n) × (1 ≤ rr) × (rr ≤ mostRank)
         × (more ≡ true → rr * rr ≤ length (now carry)) × (more ≡ false → length (now carry) ≡ 0) ⌝ }
-    ensures { λ r. ⌜ bind (cutIf more k eps (coreWith rl n rr (take (rl * n * rr) (now (slot .entry))))) (λ x. done (laidCut (length (now (slot .entry))) (length (now (carry .entry))) x)) ≡ answered (r .verdict) (laidAs more rl (r .rank) (r .sweeps) (r .settles) (now (slot .exit)) (now (carry .exit))) ⌝ }
+    ensures { λ r. ⌜ bind (cutIf more k cutting (coreWith rl n rr (take (rl * n * rr) (now (slot .entry)))))
+        (λ x. done (laidCut (length (now (slot .entry))) (length (now (carry .entry))) x))
+        ≡ answered (r .verdict) (laidAs more rl (r .bond) (now (slot .exit)) (now (carry .exit))) ⌝ }
 {
     if more {
-        return cut_in(slot, k, rl, n, rr, eps, carry, room);
+        return cut_in(slot, k, rl, n, rr, cutting, carry, room);
     }
     last_in(slot, rl, n, rr)
 }
 
 pub fn refused_cut(q: answers::Refusal) -> bond::BondCut
-    ensures { λ r. ⌜ r ≡ record { verdict = Refused q; rank = 0; sweeps = 0; settles = false } ⌝ }
+    ensures { λ r. ⌜ r ≡ record { verdict = Refused q; bond = noBond } ⌝ }
 {
     bond::BondCut {
         verdict: answers::Verdict::Refused(q),
-        rank: 0,
-        sweeps: 0,
-        settles: false,
+        bond: bond::no_bond(),
     }
 }
 
@@ -192,7 +194,7 @@ pub fn round_core(
     rl: usize,
     n: usize,
     rr: usize,
-    eps: f64,
+    cutting: cutform::Cutting,
     carries: &mut [f64],
     from: usize,
     mid: usize,
@@ -200,11 +202,25 @@ pub fn round_core(
     room: &mut [f64],
 ) -> bond::BondCut
     requires { ⌜ ZoneFits k more r rl n rr from mid to (length (now slot)) (length (now carries)) (length (now room)) ⌝ }
-    ensures { λ c. ⌜ (bind (roundCore eps more k (carryFrom k r (take (r * rl) (take (mid - from) (drop from (now (carries .entry)))))) (coreWith rl n rr (take (rl * n * rr) (now (slot .entry))))) (λ x. done (laidCut (length (now (slot .entry))) (to - mid) x)) ≡ answered (c .verdict) (laidAs more r (c .rank) (c .sweeps) (c .settles) (now (slot .exit)) (take (to - mid) (drop mid (now (carries .exit)))))) × (now (carries .exit) ≡ take mid (now (carries .entry)) ++ (take (to - mid) (drop mid (now (carries .exit))) ++ drop to (now (carries .entry)))) ⌝ }
+    ensures { λ c. ⌜ (bind (roundCore cutting more k (carryFrom k r (take (r * rl) (take (mid - from) (drop from (now (carries .entry))))))
+        (coreWith rl n rr (take (rl * n * rr) (now (slot .entry))))) (λ x. done (laidCut (length (now (slot .entry))) (to - mid) x))
+        ≡ answered (c .verdict) (laidAs more r (c .bond) (now (slot .exit)) (take (to - mid) (drop mid (now (carries .exit))))))
+        × (now (carries .exit) ≡ take mid (now (carries .entry))
+        ++ (take (to - mid) (drop mid (now (carries .exit))) ++ drop to (now (carries .entry)))) ⌝ }
 {
     let ready = taken(slot, k, rl, n, rr, &carries[from..mid], r, room);
     if let answers::Verdict::Refused(q) = ready {
         return refused_cut(q);
     }
-    cut_if(more, slot, k, r, n, rr, eps, &mut carries[mid..to], room)
+    cut_if(
+        more,
+        slot,
+        k,
+        r,
+        n,
+        rr,
+        cutting,
+        &mut carries[mid..to],
+        room,
+    )
 }

@@ -6,9 +6,9 @@ use drawing::parts;
 pub const MARK: f64 = 7.5;
 
 // The most that the source and the chain have, and the most that the others have.
-const ROOM: usize = 4096;
+const ROOM: usize = shape::MOST_CORE;
 
-const LITTLE: usize = 1024;
+const LITTLE: usize = shape::MOST_CARRIES;
 
 pub const WEIGHTS: usize = ROOM;
 
@@ -23,9 +23,7 @@ pub const HELD: usize = SUMS + LITTLE;
 
 pub const KEPT: usize = HELD - CHAIN;
 
-const SCRATCH_BESIDE: usize = 2048;
-
-const SCRATCH: usize = 4 * ROOM + SCRATCH_BESIDE;
+const SCRATCH: usize = shape::SCRATCH_TIMES * ROOM + shape::SCRATCH_BESIDE;
 
 // What a verdict tells: 0 and 0 where there is no refusal.
 pub struct Told {
@@ -66,7 +64,10 @@ fn lent(wrong: usize, list: usize, n: usize) -> usize {
 
 pub fn lengths_of(s: shape::Shape, wrong: usize) -> Lengths {
     let end = drawing::plans::starts(s, s.d);
-    let scratch = std::num::wrapping_add_usize(end.core << 2, SCRATCH_BESIDE);
+    let mut scratch = SCRATCH;
+    if end.core < ROOM {
+        scratch = shape::scratch_for(end.core);
+    }
     Lengths {
         source: lent(wrong, 0, end.core),
         weights: lent(wrong, 1, end.weights),
@@ -108,10 +109,11 @@ pub struct Ended {
 // Scratch is unwritten after a refusal that nothing was worked for, and zero after any other answer.
 fn ending(ran: runform::Ran, scratch: &[f64; SCRATCH], n: usize) -> Ended {
     let v = ran.verdict;
-    let number = reading(v).number;
     let mut left = 0.0;
-    if (1 <= number) & (number <= 8) {
-        left = MARK;
+    if let answers::Verdict::Refused(q) = v {
+        if answers::before_work(q) {
+            left = MARK;
+        }
     }
     Ended {
         ran,

@@ -13,8 +13,9 @@ use Rattle.answers.specs.declared.Refusal.the-variants.{Length, Number, Setting
 use Rattle.answers.specs.declared.Verdict.{Verdict}
 use Rattle.answers.specs.declared.Verdict.the-variants.{Fits, Refused}
 use Rattle.answers.specs.Outcome.{Answer, done, refused, Check, _then_, demand, demandEach, verdictOf}
-use Rattle.answers.specs.Table.{beforeWork}
+use Rattle.answers.specs.Table.{beforeWork, Late}
 use Rattle.answers.proofs.Checks.{demand-is, then-is, each-is, verdict-passed, verdict-refused}
+use Rattle.answers.proofs.Late.{Early, early-demand, early-then, early-each}
 use Rattle.lists.specs.Lists.{flat, pick}
 use Rattle.lists.specs.Slots.{fit}
 use Rattle.lists.specs.Floats.{zeros}
@@ -28,13 +29,15 @@ use Rattle.shape.specs.Cores.{Core, standing, reshaped}
 use Rattle.stepform.specs.declared.Axis.{Axis}
 use Rattle.cutform.specs.declared.Rounded.{Rounded}
 use Rattle.cuts.specs.declared.Walked.{Walked}
-use Rattle.cutform.specs.Rounding.{Carry, Cut, coresIn, countsIn}
+use Rattle.cutform.specs.declared.Bond.{Bond}
+use Rattle.cutform.specs.Bonds.{noBond}
+use Rattle.cutform.specs.Rounding.{Carry, Cut, coresIn}
 use Rattle.cutform.specs.Call.{lengthsOk, scratchAfter, endedBy}
-use Rattle.cutform.proofs.Early.{Early, early-demand, early-then, early-each, early-shape}
+use Rattle.shape.proofs.Early.{early-shape}
 use Rattle.rounding.proofs.Ends.{early-lengths}
 use Rattle.stepform.specs.declared.Settings.{Settings}
-use Rattle.checks.specs.Over.{axisReaches, zonesFinite, settingsOk, overOk}
-use Rattle.steps.specs.Held.{Came, Late}
+use Rattle.stepform.specs.Call.{axisReaches, zonesFinite, settingsOk, stepOk}
+use Rattle.steps.specs.Held.{Came}
 use Rattle.evolution.specs.Held.{Finished, Answers}
 
 -- ---- the end
@@ -43,16 +46,15 @@ module _ (s : Shape) (w : Walked) (l u x : List Float) (r : Rounded) (l' v' : Li
   cleared : v' ≡ zeros (length x)
   cleared = F .cleared ∙ ap zeros n
 
-  pub finished-is : (T : Answer (List (Carry × Cut))) → Late T → Came T s s (w .verdict) (w .shape) (w .sweeps) (w .settled) u → Answers (endedBy s l x T) r l' v'
+  pub finished-is : (T : Answer (List (Carry × Cut))) → Late T → Came T s s (w .verdict) (w .shape) (w .bonds) u → Answers (endedBy s l x T) r l' v'
   unfolding endedBy scratchAfter standing
   finished-is (done tr) L C =
       let E = C .ends tr refl in
       let M = F .made (C .verdict) in
       record {
         result = M .0
-            ∙ ap (λ (y : Shape). record { verdict = Fits; shape = y; sweeps = w .sweeps; settled = w .settled }) (E .shape)
-            ∙ ap (λ (y : List ℕ). record { verdict = Fits; shape = reshaped 0 s (coresIn tr); sweeps = y; settled = w .settled }) (E .counts)
-            ∙ ap (λ (y : List Bool). record { verdict = Fits; shape = reshaped 0 s (coresIn tr); sweeps = fit 0 mostAxes (countsIn tr); settled = y }) (E .flags);
+            ∙ ap (λ (y : Shape). record { verdict = Fits; shape = y; bonds = w .bonds }) (E .shape)
+            ∙ ap (λ (y : List Bond). record { verdict = Fits; shape = reshaped 0 s (coresIn tr); bonds = y }) (E .cut);
         chain = M .1
             ∙ ap (λ (y : List (List Float)). fit zero64 (length l) (flat y))
             (sym (ap (map (λ (c : Core). c .entries)) (E .cores) ∙ tab-map (λ (c : Core). c .entries) (s .d) (standing s (w .shape) u)));
@@ -68,10 +70,10 @@ module _ (s : Shape) (w : Walked) (l u x : List Float) (r : Rounded) (l' v' : Li
 -- ---- the checks refuse before any work
 module _ (lone mild : Bool) (t : Settings) (s : Shape) (count : ℕ) (xs : List Axis) (l : List Float) (scratch : ℕ) where
   abbrev ok : Check
-  ok = overOk lone mild t s count xs l scratch
+  ok = stepOk lone mild t s count xs l scratch
 
   early-over : Early ok
-  unfolding overOk zonesFinite settingsOk
+  unfolding stepOk zonesFinite settingsOk
   early-over =
       early-then (chainOk s) _ (early-shape s (λ (k : ℕ). true))
       (early-then (demand (eqb count (s .d)) (Length 0)) _ (early-demand (eqb count (s .d)) (Length 0) refl)
@@ -83,7 +85,7 @@ module _ (lone mild : Bool) (t : Settings) (s : Shape) (count : ℕ) (xs : List 
 
   -- v is the verdict on the checks
   module _ (v : Verdict) (e : v ≡ verdictOf ok) (T : Answer (List (Carry × Cut))) (x : List Float) where
-    pub over-stops : (q : Refusal) → v ≡ Refused q → (r : Rounded) → r ≡ record { verdict = Refused q; shape = s; sweeps = replicate mostAxes 0; settled = replicate mostAxes false } → Answers (endedBy s l x (ok then T)) r l x
+    pub over-stops : (q : Refusal) → v ≡ Refused q → (r : Rounded) → r ≡ record { verdict = Refused q; shape = s; bonds = replicate mostAxes noBond } → Answers (endedBy s l x (ok then T)) r l x
     unfolding endedBy scratchAfter
     over-stops q h r f =
         let c = verdict-refused ok v q e h in
@@ -103,7 +105,7 @@ module _ (lone mild : Bool) (t : Settings) (s : Shape) (count : ℕ) (xs : List 
     pub reach : (k : ℕ) → k < s .d → axisReaches t s xs k ≡ true
 
   pub over-passed : (v : Verdict) → v ≡ verdictOf ok → v ≡ Fits → Passed
-  unfolding overOk lengthsOk settingsOk
+  unfolding stepOk lengthsOk settingsOk
   over-passed v e h =
       let a = then-is (chainOk s) _ tt (verdict-passed ok v e h) in
       let b = then-is (demand (eqb count (s .d)) (Length 0)) _ tt (a .1) in

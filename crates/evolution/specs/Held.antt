@@ -1,7 +1,6 @@
 -- The end of a call that steps. Definitions for code only.
 use mathlib.Core.Path.{_≡_}
 use Prim.Native.Nat.{ℕ, _-_}
-use mathlib.Core.Bool.{false}
 use mathlib.Core.List.{List}
 use lib.ListN.{length, take, replicate}
 use lib.Ieee.{Float}
@@ -15,6 +14,7 @@ use Rattle.lists.specs.Floats.{zeros}
 use Rattle.shape.specs.declared.Shape.{Shape}
 use Rattle.shape.specs.Limits.{mostAxes}
 use Rattle.shape.specs.Shapes.{coreSize}
+use Rattle.cutform.specs.Bonds.{noBond}
 use Rattle.cuts.specs.declared.Walked.{Walked}
 use Rattle.cutform.specs.declared.Rounded.{Rounded}
 use Rattle.cutform.specs.Call.{Ended}
@@ -22,8 +22,9 @@ use Rattle.cutform.specs.Call.{Ended}
 -- ---- the end of a call: the steps came to w, the chain was l and scratch held v
 pub record Finished (s : Shape) (w : Walked) (l v : List Float) (r : Rounded) (l' v' : List Float) : Type 0 where
   pub cleared : v' ≡ zeros (length v)
-  pub refused : (q : Refusal) → w .verdict ≡ Refused q → (r ≡ record { verdict = Refused q; shape = s; sweeps = replicate mostAxes 0; settled = replicate mostAxes false }) × (l' ≡ l)
-  pub made : w .verdict ≡ Fits → (r ≡ record { verdict = Fits; shape = w .shape; sweeps = w .sweeps; settled = w .settled }) × (l' ≡ fit zero64 (length l) (joined (s .d) (λ (k : ℕ). take (coreSize (w .shape) k) (slot (coreSize s) k v))))
+  pub refused : (q : Refusal) → w .verdict ≡ Refused q → (r ≡ record { verdict = Refused q; shape = s; bonds = replicate mostAxes noBond }) × (l' ≡ l)
+  pub made : w .verdict ≡ Fits → (r ≡ record { verdict = Fits; shape = w .shape; bonds = w .bonds })
+      × (l' ≡ fit zero64 (length l) (joined (s .d) (λ (k : ℕ). take (coreSize (w .shape) k) (slot (coreSize s) k v))))
 
 -- a call answered r and left l' and v'
 pub record Answers (e : Ended) (r : Rounded) (l' v' : List Float) : Type 0 where

@@ -1,18 +1,16 @@
 // The calls `step` and `evolve`. Work is done in scratch, and the chain is written once, at the very end.
 ghost use mathlib.Core.Path.{_≡_};
-ghost use mathlib.Core.Bool.{_&&_, true};
+ghost use mathlib.Core.Bool.{true};
 ghost use Prim.Native.Nat.{ℕ, _-_, _≤_, _<_};
 ghost use lib.ListN.{length};
 ghost use Rattle.answers.specs.declared.Verdict.the-variants.{Refused};
 ghost use Rattle.answers.specs.Outcome.{done};
-ghost use Rattle.numbers.specs.Finite.{finite};
-ghost use Rattle.shape.specs.Limits.{within};
 ghost use Rattle.shape.specs.Shapes.{chainOk, entriesOf};
 ghost use Rattle.shape.specs.Cores.{coresOf};
-ghost use Rattle.cutform.specs.Call.{notBelowZero, endedBy};
+ghost use Rattle.cutform.specs.Call.{endedBy};
 ghost use Rattle.stepform.specs.Steps.{step, stepsAndOne};
-ghost use Rattle.stepform.specs.Call.{mostSteps, settingsFor, stepCall, evolveCall};
-ghost use Rattle.checks.specs.Over.{axisReaches, stepOver, evolveOver};
+ghost use Rattle.stepform.specs.Lone.{mostSteps, courseFinite, courseOk};
+ghost use Rattle.stepform.specs.Call.{axisReaches, stepOver, stepCall, settingsFor, evolveOver, evolveCall};
 ghost use Rattle.evolution.specs.Held.{Answers};
 use stepform::Course;
 
@@ -29,28 +27,11 @@ fn work(
 ) -> cutform::Rounded
     requires { ⌜ (chainOk s ≡ done tt) × ((k : ℕ) → k < s .d → axisReaches set s xs k ≡ true) ⌝ }
     requires { ⌜ (length (now chain) ≡ entriesOf s) × (entriesOf s ≤ length (now scratch)) ⌝ }
-    ensures { λ r. ⌜ Answers (endedBy s (now (chain .entry)) (now (scratch .entry)) (stepsAndOne m set xs (coresOf s (now (chain .entry))))) r (now (chain .exit)) (now (scratch .exit)) ⌝ }
+    ensures { λ r. ⌜ Answers (endedBy s (now (chain .entry)) (now (scratch .entry)) (stepsAndOne m set xs (coresOf s (now (chain .entry)))))
+        r (now (chain .exit)) (now (scratch .exit)) ⌝ }
 {
     let w = steps::stepped(m, s, set, xs, chain, scratch);
     rounding::finish(s, w, chain, scratch)
-}
-
-// What 6 and 7 ask of the lone settings of a step.
-fn step_finite(set: stepform::Settings) -> bool
-    ensures { λ r. ⌜ r ≡ finite (set .tau) && (finite (set .c) && finite (set .eps)) ⌝ }
-{
-    let tau = numbers::is_finite(set.tau);
-    let c = numbers::is_finite(set.c);
-    let eps = numbers::is_finite(set.eps);
-    tau & (c & eps)
-}
-
-fn step_mild(set: stepform::Settings) -> bool
-    ensures { λ r. ⌜ r ≡ notBelowZero (set .tau) && notBelowZero (set .eps) ⌝ }
-{
-    let tau = checks::not_below_zero(set.tau);
-    let eps = checks::not_below_zero(set.eps);
-    tau & eps
 }
 
 // One step, over records by value, of which `count` were lent.
@@ -64,8 +45,8 @@ pub fn step_over(
 ) -> cutform::Rounded
     ensures { λ r. ⌜ Answers (stepOver set s count xs (now (chain .entry)) (now (scratch .entry))) r (now (chain .exit)) (now (scratch .exit)) ⌝ }
 {
-    let lone = step_finite(set);
-    let mild = step_mild(set);
+    let lone = checks::settings::lone_finite(set);
+    let mild = checks::settings::lone_ok(set);
     let ok = checks::settings::step_ok(lone, mild, set, s, count, xs, chain, scratch.len());
     if let answers::Verdict::Refused(q) = ok {
         return rounding::refused_rounding(q, s);
@@ -75,38 +56,39 @@ pub fn step_over(
 
 // What 6 and 7 ask of the lone settings and the number of steps of a course.
 fn course_finite(p: Course) -> bool
-    ensures { λ r. ⌜ r ≡ finite (p .«t_final») && (finite (p .c) && finite (p .eps)) ⌝ }
+    ensures { λ r. ⌜ r ≡ courseFinite (p .«t_final») (p .c) (p .cutting) ⌝ }
 {
     let t_final = numbers::is_finite(p.t_final);
     let c = numbers::is_finite(p.c);
-    let eps = numbers::is_finite(p.eps);
-    t_final & (c & eps)
+    let cutting = p.cutting;
+    t_final & (c & checks::cutting_finite(cutting))
 }
 
 fn course_mild(p: Course) -> bool
-    ensures { λ r. ⌜ r ≡ notBelowZero (p .«t_final») && (within mostSteps (p .steps) && notBelowZero (p .eps)) ⌝ }
+    ensures { λ r. ⌜ r ≡ courseOk (p .«t_final») (p .steps) (p .cutting) ⌝ }
 {
     let t_final = checks::not_below_zero(p.t_final);
     let steps = shape::within(MOST_STEPS, p.steps);
-    let eps = checks::not_below_zero(p.eps);
-    t_final & (steps & eps)
+    let cutting = p.cutting;
+    t_final & (steps & checks::cutting_ok(cutting))
 }
 
 // The settings of each step: tau = t_final/steps. Too many steps are refused before tau is asked for.
 fn course_settings(p: Course) -> stepform::Settings
-    ensures { λ r. ⌜ (p .steps ≤ mostSteps → r ≡ settingsFor (p .«t_final») (p .steps) (p .c) (p .eps)) ⌝ }
+    ensures { λ r. ⌜ (p .steps ≤ mostSteps → r ≡ settingsFor (p .«t_final») (p .steps) (p .c) (p .cutting)) ⌝ }
 {
+    let cutting = p.cutting;
     if MOST_STEPS < p.steps {
         return stepform::Settings {
             tau: 0.0,
             c: p.c,
-            eps: p.eps,
+            cutting,
         };
     }
     stepform::Settings {
         tau: p.t_final / p.steps as f64,
         c: p.c,
-        eps: p.eps,
+        cutting,
     }
 }
 
@@ -119,7 +101,8 @@ pub fn evolve_over(
     chain: &mut [f64],
     scratch: &mut [f64],
 ) -> cutform::Rounded
-    ensures { λ r. ⌜ Answers (evolveOver (p .«t_final») (p .steps) (p .c) (p .eps) s count xs (now (chain .entry)) (now (scratch .entry))) r (now (chain .exit)) (now (scratch .exit)) ⌝ }
+    ensures { λ r. ⌜ Answers (evolveOver (p .«t_final») (p .steps) (p .c) (p .cutting) s count xs (now (chain .entry)) (now (scratch .entry)))
+        r (now (chain .exit)) (now (scratch .exit)) ⌝ }
 {
     let lone = course_finite(p);
     let mild = course_mild(p);
@@ -154,7 +137,9 @@ pub fn evolve(
     chain: &mut [f64],
     scratch: &mut [f64],
 ) -> cutform::Rounded
-    ensures { λ r. ⌜ (r ≡ evolveCall (p .«t_final») (p .steps) (p .c) (p .eps) s (now (xs .entry)) (now (chain .entry)) (now (scratch .entry)) .result) × (now (chain .exit) ≡ evolveCall (p .«t_final») (p .steps) (p .c) (p .eps) s (now (xs .entry)) (now (chain .entry)) (now (scratch .entry)) .chain) × (now (scratch .exit) ≡ evolveCall (p .«t_final») (p .steps) (p .c) (p .eps) s (now (xs .entry)) (now (chain .entry)) (now (scratch .entry)) .scratch) ⌝ }
+    ensures { λ r. ⌜ (r ≡ evolveCall (p .«t_final») (p .steps) (p .c) (p .cutting) s (now (xs .entry)) (now (chain .entry)) (now (scratch .entry)) .result)
+        × (now (chain .exit) ≡ evolveCall (p .«t_final») (p .steps) (p .c) (p .cutting) s (now (xs .entry)) (now (chain .entry)) (now (scratch .entry)) .chain)
+        × (now (scratch .exit) ≡ evolveCall (p .«t_final») (p .steps) (p .c) (p .cutting) s (now (xs .entry)) (now (chain .entry)) (now (scratch .entry)) .scratch) ⌝ }
 {
     evolve_over(s, p, axes::gather(xs), xs.len(), chain, scratch)
 }

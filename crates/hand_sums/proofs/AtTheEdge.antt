@@ -10,14 +10,15 @@ use Rattle.shape.specs.Shapes.{sizeOk, bondOk, shapeOk, coreSize, pointSize}
 use Rattle.stepform.specs.Axes.{axisFinite, axisOk}
 use Rattle.pairform.specs.Slabs.{plusProduct, slabEntry, slab}
 use Rattle.sumform.specs.Start.{startSized, startLent, startFinite, startOk, startCall}
-use Rattle.cutform.specs.Call.{lengthsOk, coreFinite, notBelowZero, endedBy}
-use Rattle.stepform.specs.Call.{stepOk, stepCall, evolveCall}
+use Rattle.cutform.specs.Call.{lengthsOk, coreFinite, notBelowZero, cuttingFinite, cuttingOk, endedBy}
+use Rattle.stepform.specs.Lone.{loneFinite, loneOk, courseFinite, courseOk}
+use Rattle.stepform.specs.Call.{zonesFinite, settingsOk, stepOk, stepOver, evolveOver}
 use Rattle.hand_sums.specs.Cases.{AllRight}
 use Rattle.hand_sums.specs.Edges.{edges}
 
 pub at-the-edge : AllRight edges
 unfolding edges add mul lt eq ofBits toBits demand demandEach allFinite pick listed flat offset slot place entry coreAt pointsAt sizeOk bondOk shapeOk
-    coreSize pointSize axisFinite axisOk plusProduct slabEntry slab startSized startLent startFinite startOk startCall lengthsOk coreFinite notBelowZero
-    endedBy stepOk stepCall evolveCall
+    coreSize pointSize axisFinite axisOk plusProduct slabEntry slab startSized startLent startFinite startOk startCall lengthsOk coreFinite notBelowZero cuttingFinite cuttingOk
+    endedBy loneFinite loneOk courseFinite courseOk zonesFinite settingsOk stepOk stepOver evolveOver
 at-the-edge =
     (refl, (refl, (refl, (refl, (refl, (refl, (refl, (refl, (refl, (refl, (refl, (refl, (refl, (refl, (refl, (refl, (refl, (refl, (refl, (refl, tt))))))))))))))))))))

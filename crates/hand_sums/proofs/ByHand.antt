@@ -19,13 +19,14 @@ use Rattle.cutform.specs.Bonds.{gram, cutBond, absorb}
 use Rattle.cutform.specs.Factors.{divided, leftFactor, carryOf}
 use Rattle.cutform.specs.Rotation.{tangentOf, slopeOf, cosineOf, turnedAt, eye}
 use Rattle.cutform.specs.Sweeps.{turnColumns, turnRows, cleared, turned, skipped, rotate, sweep, offSum, settled, sweepsFrom, diagonalized}
-use Rattle.cutform.specs.Values.{singularOf, singulars, rankIn, indexAt, order, sorted, thresholdOf, keptRank}
-use Rattle.cutform.specs.Call.{lengthsOk, coreFinite, notBelowZero, roundFinite, roundOk, scratchAfter, endedBy, roundCall}
+use Rattle.cutform.specs.Values.{singularOf, singulars, placeIn, indexAt, order, sorted, thresholdOf, keptRank}
+use Rattle.cutform.specs.Call.{lengthsOk, coreFinite, notBelowZero, cuttingFinite, cuttingOk, roundFinite, roundOk, scratchAfter, endedBy, roundCall}
 use Rattle.cutform.specs.Rounding.{roundCore, rounding}
 use Rattle.sumform.specs.Call.{innerLent, innerFinite, innerOk, weighed, innerCall}
 use Rattle.sumform.specs.Contract.{contract}
 use Rattle.sumform.specs.Product.{contractAt, sumAxis, sums, inner}
-use Rattle.stepform.specs.Call.{reachesAt, stepOk, stepCall}
+use Rattle.stepform.specs.Lone.{loneFinite, loneOk}
+use Rattle.stepform.specs.Call.{reachesAt, zonesFinite, settingsOk, stepOk, stepOver}
 use Rattle.stepform.specs.Steps.{shiftZone, scaleZone, roundZone, stepFrom, step}
 use Rattle.stepform.specs.Zones.{zonesOf, rules}
 use Rattle.hand_sums.specs.Cases.{cases, AllRight}
@@ -35,7 +36,7 @@ unfolding cases add sub mul div neg lt le eq ofInt ofBits toBits demand demandEa
     sumOn sumTo sumRows allFinite firstNotFinite stored pick listed flat first count pairs folded offset slot fit along every walk place entry block coreAt
     coresOf pointsAt reshaped sizeOk bondOk shapeOk coreSize pointSize axisFinite axisOk distance spacing shiftOf shifted scaled cubicBandWeights bandOn
     shiftedAt gram divided leftFactor carryOf cutBond absorb tangentOf slopeOf cosineOf turnedAt eye turnColumns turnRows cleared turned skipped rotate
-    sweep offSum settled sweepsFrom diagonalized singularOf singulars rankIn indexAt order sorted thresholdOf keptRank lengthsOk coreFinite notBelowZero
+    sweep offSum settled sweepsFrom diagonalized singularOf singulars placeIn indexAt order sorted thresholdOf keptRank lengthsOk coreFinite notBelowZero cuttingFinite cuttingOk
     roundFinite roundOk scratchAfter endedBy roundCall roundCore rounding innerLent innerFinite innerOk weighed innerCall contract contractAt sumAxis sums
-    inner reachesAt stepOk stepCall shiftZone scaleZone roundZone stepFrom step zonesOf rules
+    inner loneFinite loneOk reachesAt zonesFinite settingsOk stepOk stepOver shiftZone scaleZone roundZone stepFrom step zonesOf rules
 by-hand = (refl, (refl, (refl, (refl, (refl, (refl, (refl, (refl, (refl, (refl, (refl, tt)))))))))))

@@ -28,3 +28,4 @@ pub mod Slots
 pub mod Written
 pub mod Packs
 pub mod Walks
+pub mod Late

@@ -54,11 +54,11 @@ level-is false a true b = other-sign a b
 level-is true a false b = let p : a + b ≡ b + a = omega arith in other-sign a b ∙ rw p (eqb-swap (b + a) 0)
 level-is true a true b = let p : 0 + a ≡ a = omega arith in let q : 0 + b ≡ b = omega arith in rw (p, q) (same-sign a b ∙ eqb-swap a b)
 
--- ---- a finite number is (over - under) / parts
-over : Float → ℕ
-over nan = 0
-over (inf s) = 0
-over (fin s m e) = high s (m * up e)
+-- ---- a finite number is (above - under) / parts
+above : Float → ℕ
+above nan = 0
+above (inf s) = 0
+above (fin s m e) = high s (m * up e)
 
 under : Float → ℕ
 under nan = 0
@@ -76,8 +76,8 @@ parts-some nan = zero-lt-suc 0
 parts-some (inf s) = zero-lt-suc 0
 parts-some (fin s m e) = down-pos e
 
-lt-is : (x y : Float) → finite x ≡ true → finite y ≡ true → lt x y ≡ ltb (over x * parts y + under y * parts x) (over y * parts x + under x * parts y)
-unfolding lt over under parts
+lt-is : (x y : Float) → finite x ≡ true → finite y ≡ true → lt x y ≡ ltb (above x * parts y + under y * parts x) (above y * parts x + under x * parts y)
+unfolding lt above under parts
 lt-is nan y f g = absurd (true≢false (sym f))
 lt-is (inf s) y f g = absurd (true≢false (sym f))
 lt-is (fin s m e) nan f g = absurd (true≢false (sym g))
@@ -86,8 +86,8 @@ lt-is (fin s m e) (fin t n d) f g =
     below-is s (m * up e * down d) t (n * up d * down e)
     ∙ rw (high-times s (m * up e) (down d), low-times t (n * up d) (down e), high-times t (n * up d) (down e), low-times s (m * up e) (down d))
 
-eq-is : (x y : Float) → finite x ≡ true → finite y ≡ true → eq x y ≡ eqb (over x * parts y + under y * parts x) (over y * parts x + under x * parts y)
-unfolding eq over under parts
+eq-is : (x y : Float) → finite x ≡ true → finite y ≡ true → eq x y ≡ eqb (above x * parts y + under y * parts x) (above y * parts x + under x * parts y)
+unfolding eq above under parts
 eq-is nan y f g = absurd (true≢false (sym f))
 eq-is (inf s) y f g = absurd (true≢false (sym f))
 eq-is (fin s m e) nan f g = absurd (true≢false (sym g))
@@ -100,10 +100,10 @@ eq-is (fin s m e) (fin t n d) f g =
 module _ (x y : Float) (f : finite x ≡ true) (g : finite y ≡ true) where
   -- x's fraction and y's, each over the parts of both
   abbrev ours : ℕ
-  ours = over x * parts y + under y * parts x
+  ours = above x * parts y + under y * parts x
 
   abbrev theirs : ℕ
-  theirs = over y * parts x + under x * parts y
+  theirs = above y * parts x + under x * parts y
 
   lt-fact : lt x y ≡ true → ours < theirs
   lt-fact h = ltb-is ours theirs (sym (lt-is x y f g) ∙ h)

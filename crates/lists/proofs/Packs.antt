@@ -17,24 +17,24 @@ module _ {A : Type 0} (p q : ℕ → ℕ) (d : ℕ) (w l : List A) where
   abbrev pub front : ℕ → List A
   front k = take (q k) (slot p k w)
 
-  pub record Room : Type 0 where
+  pub record PackRoom : Type 0 where
     pub fits : (k : ℕ) → k < d → q k ≤ p k
     pub long : offset p d ≤ length w
     pub wide : offset q d ≤ length l
 
   -- k slots are packed; the next starts at `from` in w and goes to `at` in c
   pub record Packing (k from at : ℕ) (c : List A) : Type 0 where
-    pub room : Room
+    pub room : PackRoom
     pub most : k ≤ d
     pub from-is : from ≡ offset p k
     pub at-is : at ≡ offset q k
     pub holds : c ≡ joined k front ++ drop at l
 
-  pub packing-none : Room → Packing 0 0 0 l
+  pub packing-none : PackRoom → Packing 0 0 0 l
   unfolding offset
   packing-none r = record { room = r; most = omega arith; from-is = refl; at-is = refl; holds = ap (λ (x : List A). x ++ l) (sym (joined-none front)) }
 
-  module _ (R : Room) where
+  module _ (R : PackRoom) where
     front-length : (k : ℕ) → k < d → length (front k) ≡ q k
     front-length k lt =
         let m = offset-mono p (suc k) d lt in

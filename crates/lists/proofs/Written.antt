@@ -1,14 +1,14 @@
 -- Slots written from what a walk left: f takes of each zone what goes into its slot. And what a slot's reading says of the list. Assumes nothing.
 use mathlib.Core.Path.{_≡_, refl, sym, ap, _∙_}
-use Prim.Native.Nat.{ℕ, zero, suc, _+_, _≤_, _<_}
+use Prim.Native.Nat.{ℕ, zero, suc, _+_, _-_, _≤_, _<_}
 use native.Mathlib.Nat.{zero-add}
 use native.Mathlib.Omega.{arith}
 use mathlib.Core.List.{List, [], _∷_, _++_, map, map-append}
-use lib.ListN.{length, take, drop, getD, replicate, length-map, length-replicate, List·getD-map}
-use lib.Seq.{getD-take, getD-drop}
+use lib.ListN.{length, take, drop, getD, replicate, length-map, length-append, length-replicate, List·getD-map}
+use lib.Seq.{getD-take, getD-drop, getD-append-add, length-take-le}
 use Rattle.lists.specs.Slots.{offset, slot, put, fit, write, WrittenFrom}
 use Rattle.lists.proofs.Tests.{below-or-not}
-use Rattle.lists.proofs.Slots.{offset-mono, slot-put-before, slot-put-behind, write-write, write-slot, write-before, write-behind, write-length}
+use Rattle.lists.proofs.Slots.{offset-mono, slot-put-before, slot-put-behind, write-write, write-slot, write-before, write-behind, write-length, write-alike}
 
 module _ {A : Type 0} (size : ℕ → ℕ) where
   pub getD-slot : (k : ℕ) (l : List A) (j : ℕ) (o : A) → j < size k → getD (slot size k l) j o ≡ getD l (offset size k + j) o
@@ -47,3 +47,20 @@ module _ {A R : Type 0} (size : ℕ → ℕ) (o : A) (d : ℕ) (f : R → List A
   written-length tr e =
       let r = length-replicate (offset size d) o in
       written-from 0 tr (replicate (offset size d) o) (zero-add (length tr) ∙ e) (omega arith) .long ∙ r
+
+module _ {A R : Type 0} (size : ℕ → ℕ) (o : A) (d : ℕ) (f : R → List A) (e : R) (empty : f e ≡ []) where
+  -- slot k, of those written from z on, holds what zone k left, whatever stood there; e is a zone of which nothing is taken
+  pub slot-written : (z : ℕ) (tr : List R) (l : List A) (k : ℕ) → z + length tr ≡ d → offset size d ≤ length l → z ≤ k → k < d → slot size k (write size o d z (map f tr) l) ≡ fit o (size k) (f (getD tr (k - z) e))
+  slot-written z tr l k whole room ge lt =
+      let none = replicate d e in
+      let n = length-replicate d e in
+      let t : length (take z none) ≡ z = length-take-le z none (omega arith) in
+      let a = length-append (take z none) tr in
+      let l' = write size o d 0 (map f none) l in
+      let w : z + length (map f tr) ≡ d = ap (λ (m : ℕ). z + m) (length-map tr f) ∙ whole in
+      let long : length l' ≡ length l = written-from size o d f 0 none l (zero-add (length none) ∙ n) room .long in
+      let at : k ≡ length (take z none) + (k - z) = omega arith in
+      write-alike size o d z (map f tr) w l l' room (omega arith) k ge lt
+      ∙ ap (slot size k) (written-again size o d f z none tr l n (omega arith))
+      ∙ written-slot size o d f e empty (take z none ++ tr) l k (omega arith) lt
+      ∙ ap (λ (x : R). fit o (size k) (f x)) (ap (λ (j : ℕ). getD (take z none ++ tr) j e) at ∙ getD-append-add (take z none) tr (k - z) e)

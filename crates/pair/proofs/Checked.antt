@@ -12,11 +12,10 @@ use Rattle.answers.specs.Outcome.{Answer, done, demand, _then_}
 use Rattle.answers.proofs.Checks.{then-is, demand-is}
 use Rattle.lists.specs.Floats.{allFinite}
 use Rattle.lists.proofs.Tests.{leb-is, eqb-is, both}
-use Rattle.shape.specs.Limits.{mostPoints, mostRank, within}
+use Rattle.shape.specs.Limits.{mostPoints, mostRank, within, mostLines, pairScratch}
 use Rattle.shape.specs.Cores.{Core}
 use Rattle.cutform.specs.Call.{notBelowZero}
-use Rattle.pairform.specs.Slabs.{mostLines}
-use Rattle.pairform.specs.Call.{pairScratch, sizesOk, coreNumbers, leftRoom, rightRoom, pairSized, pairLent, pairFinite, pairOk}
+use Rattle.pairform.specs.Call.{sizesOk, coreNumbers, leftRoom, rightRoom, pairSized, pairLent, pairFinite, pairOk}
 
 -- x is from 1 to the most
 pub record Within (most x : ℕ) : Type 0 where

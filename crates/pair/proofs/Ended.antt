@@ -3,21 +3,19 @@ use mathlib.Core.Path.{_≡_, refl, sym, ap, _∙_}
 use Prim.Native.Nat.{ℕ, _*_, _≤_}
 use native.Mathlib.Nat.{mul-assoc, mul-le-mul}
 use native.Mathlib.Omega.{arith}
-use mathlib.Core.Bool.{Bool, true, false}
 use mathlib.Core.List.{List}
 use lib.Dec.{leb}
 use lib.ListN.{length, replicate}
 use lib.Ieee.{Float}
 use Rattle.numbers.specs.Arithmetic.{zero64}
-use Rattle.answers.specs.declared.Part.{Part}
 use Rattle.answers.specs.declared.Part.the-variants.{Entry, Spectrum, Factor}
 use Rattle.answers.specs.declared.Refusal.{Refusal}
 use Rattle.answers.specs.declared.Refusal.the-variants.{Size, Bond, Length, Number, Setting, PairRank}
 use Rattle.answers.specs.declared.Verdict.{Verdict}
 use Rattle.answers.specs.declared.Verdict.the-variants.{Fits, Refused}
-use Rattle.answers.specs.Outcome.{Made, Answer, done, refused, bind, making, Check, demand, _then_, answered, verdictOf}
-use Rattle.answers.specs.Table.{beforeWork}
-use Rattle.answers.proofs.Outcomes.{refused-inj, done-refused}
+use Rattle.answers.specs.Outcome.{Answer, done, refused, answered, verdictOf}
+use Rattle.answers.specs.Table.{Late}
+use Rattle.answers.proofs.Late.{Early, early-demand, early-then, late-done, late-then, late-demand}
 use Rattle.answers.proofs.Checks.{verdict-passed, verdict-refused}
 use Rattle.lists.specs.Lists.{pick}
 use Rattle.lists.specs.Slots.{fit}
@@ -78,18 +76,6 @@ module _ (lefts rights scratch : List Float) (T : Answer Halves) (v : Verdict) w
   ended-made a b c d k p x y e f w x' y' g ex ey = let z : T ≡ done (record { left = coreWith a b k x; right = coreWith k c d y; passes = p }) = e ∙ rw f in (rw z g, rw z ex, rw z ey)
 
 -- ---- a check refuses before the work
-abbrev Early : Check → Type 0
-Early c = (q : Refusal) → c ≡ refused q → beforeWork q ≡ true
-
-early-demand : (b : Bool) (r : Refusal) → beforeWork r ≡ true → Early (demand b r)
-unfolding demand
-early-demand true r e q h = absurd (done-refused h)
-early-demand false r e q h = rw (← refused-inj h) e
-
-early-then : (c o : Check) → Early c → Early o → Early (c then o)
-early-then (done tt) o e f q h = f q h
-early-then (refused x) o e f q h = e q h
-
 pub checks-early : (l r : Core) (eps : Float) (lefts rights scratch : ℕ) → Early (pairOk l r eps lefts rights scratch)
 unfolding pairOk pairSized pairLent pairFinite
 checks-early l r eps lefts rights scratch =
@@ -99,34 +85,22 @@ checks-early l r eps lefts rights scratch =
     (early-then _ _ (early-demand _ (Number 0) refl) (early-then _ _ (early-demand _ (Number 1) refl) (early-demand _ (Setting 0) refl))))
 
 -- ---- the work refuses later
-abbrev Late : {A : Type 0} → Answer A → Type 0
-Late o = (q : Refusal) → o ≡ refused q → beforeWork q ≡ false
-
-late-stage : {A B : Type 0} (part : Part) (k : ℕ) (m : Made A) (f : A → Answer B) → ((a : A) → Late (f a)) → Late (bind (making part k m) f)
-late-stage part k (done a) f e q h = e a q h
-late-stage part k (refused i) f e q h = rw (← refused-inj h)
-
-late-rank : {A : Type 0} (b : Bool) (o : Answer A) → Late o → Late (demand b PairRank then o)
-unfolding demand
-late-rank true o e q h = e q h
-late-rank false o e q h = rw (← refused-inj h)
-
 module _ (rl nj nk rr : ℕ) where
   formed-late : (r : ℕ) (ss : List Float) (js : List ℕ) (w : Passes) → Late (formed rl nj nk rr r ss js w)
   unfolding formed
-  formed-late r ss js w = late-stage Factor 0 (stored (leftNumbers rl nj r ss js (w .svd .columns))) _ (λ x. late-stage Factor 1 (stored (rightNumbers r nk rr js (w .svd .basis))) _ (λ y q h. absurd (done-refused h)))
+  formed-late r ss js w = late-then Factor 0 (stored (leftNumbers rl nj r ss js (w .svd .columns))) _ (λ x. late-then Factor 1 (stored (rightNumbers r nk rr js (w .svd .basis))) _ (λ y. late-done _))
 
   cut-late : (eps : Float) (w : Passes) (sv : List Float) → Late (cut eps rl nj nk rr w sv)
   unfolding cut
-  cut-late eps w sv = let n = nk * rr in let ss = sorted n sv in let r = keptRank eps n ss in late-rank (leb r mostRank) (formed rl nj nk rr r ss (order n sv) w) (formed-late r ss (order n sv) w)
+  cut-late eps w sv = let n = nk * rr in let ss = sorted n sv in let r = keptRank eps n ss in late-demand (leb r mostRank) PairRank (formed rl nj nk rr r ss (order n sv) w) refl (formed-late r ss (order n sv) w)
 
   split-late : (eps : Float) (s : List Float) → Late (split eps rl nj nk rr s)
   unfolding split
-  split-late eps s = late-stage Spectrum 0 (orthogonalized (rl * nj) (nk * rr) (start (rl * nj) (nk * rr) s)) _ (λ w. late-stage Spectrum 0 (stored (values (rl * nj) (nk * rr) (w .svd .columns))) _ (λ sv. cut-late eps w sv))
+  split-late eps s = late-then Spectrum 0 (orthogonalized (rl * nj) (nk * rr) (start (rl * nj) (nk * rr) s)) _ (λ w. late-then Spectrum 0 (stored (values (rl * nj) (nk * rr) (w .svd .columns))) _ (λ sv. cut-late eps w sv))
 
 work-late : (eps : Float) (l r : Core) → Late (pairOf eps l r)
 unfolding pairOf
-work-late eps l r = late-stage Entry 0 (stored (slab l r)) _ (λ s. split-late (l .rl) (l .n) (r .n) (r .rr) eps s)
+work-late eps l r = late-then Entry 0 (stored (slab l r)) _ (λ s. split-late (l .rl) (l .n) (r .n) (r .rr) eps s)
 
 pub scratch-cleared : (eps : Float) (l r : Core) (scratch : List Float) → scratchAfter scratch (pairOf eps l r) ≡ replicate (length scratch) zero64
 unfolding scratchAfter pick
@@ -150,7 +124,7 @@ module _ (l r : Core) (eps : Float) (lefts rights scratch : List Float) (v : Ver
   unfolding pairCall pairBy scratchAfter pick
   call-refused q h w g =
       let z = verdict-refused (pairOk l r eps (length lefts) (length rights) (length scratch)) v q e h in
-      let b = checks-early l r eps (length lefts) (length rights) (length scratch) q z in
+      let b = checks-early l r eps (length lefts) (length rights) (length scratch) .first q z in
       rw (z, b, g)
 
   module _ (h : v ≡ Fits) where

@@ -8,13 +8,14 @@ use lib.Dec.{leb}
 use lib.Ieee.{Float}
 use Rattle.numbers.specs.Root.{rootOf}
 use Rattle.answers.specs.declared.Part.the-variants.{Spectrum}
-use Rattle.answers.specs.declared.Refusal.the-variants.{Stored, PairRank}
+use Rattle.answers.specs.declared.Refusal.{Refusal}
+use Rattle.answers.specs.declared.Refusal.the-variants.{PairRank}
 use Rattle.answers.specs.declared.Verdict.{Verdict}
-use Rattle.answers.specs.declared.Verdict.the-variants.{Refused}
+use Rattle.answers.specs.declared.Verdict.the-variants.{Fits, Refused}
 use Rattle.answers.specs.declared.Stage.{Stage}
 use Rattle.answers.specs.declared.Stage.the-variants.{Whole, Spilt}
-use Rattle.answers.specs.Outcome.{Made, Answer, done, bind, making, demand, _then_, staged, stageOf, answered}
-use Rattle.answers.proofs.Outcomes.{bind-done, done-inj}
+use Rattle.answers.specs.Outcome.{Made, Answer, done, bind, making, demand, _then_, staged, stageOf, answered, storedIn}
+use Rattle.answers.proofs.Outcomes.{bind-done, done-inj, stored-answered}
 use Rattle.answers.proofs.Checks.{demand-yes, demand-no}
 use Rattle.lists.specs.Floats.{allFinite, stored}
 use Rattle.lists.proofs.Floats.{stored-is}
@@ -89,10 +90,15 @@ module _ (eps : Float) (m n : ℕ) (a : List Float) (s : Stage) (d : Valued) (ed
   unfolding splitFrom
   split-opened = ap (λ (o : Made Valued). bind (making Spectrum 0 o) (λ x. cutFrom eps m n (x .passes) (x .values))) ed
 
-  pub split-stop : (i : ℕ) (h : Parted) → s ≡ Spilt i → splitFrom eps m n a ≡ answered (Refused (Stored Spectrum 0 i)) h
-  unfolding staged answered
-  split-stop i h e = split-opened ∙ rw e
+  -- u is what the call answers of that stage
+  module _ (u : Verdict) (told : u ≡ storedIn Spectrum 0 s) where
+    split-told : splitFrom eps m n a ≡ bind (answered u d) (λ x. cutFrom eps m n (x .passes) (x .values))
+    split-told = split-opened ∙ ap (λ (o : Answer Valued). bind o (λ x. cutFrom eps m n (x .passes) (x .values))) (stored-answered Spectrum 0 s u d told)
 
-  pub split-end : s ≡ Whole → (o : Answer Parted) → cutFrom eps m n (d .passes) (d .values) ≡ o → splitFrom eps m n a ≡ o
-  unfolding staged
-  split-end e o g = split-opened ∙ rw e g
+    pub split-stop : (q : Refusal) (h : Parted) → u ≡ Refused q → splitFrom eps m n a ≡ answered (Refused q) h
+    unfolding answered
+    split-stop q h e = split-told ∙ rw e
+
+    pub split-end : u ≡ Fits → (o : Answer Parted) → cutFrom eps m n (d .passes) (d .values) ≡ o → splitFrom eps m n a ≡ o
+    unfolding answered
+    split-end e o g = split-told ∙ rw e g

@@ -1,15 +1,16 @@
 -- Both cores' numbers stage by stage, in the form that proofs of code cite. Assumes nothing.
-use mathlib.Core.Path.{_≡_, sym, ap, _∙_}
+use mathlib.Core.Path.{_≡_, refl, sym, ap, _∙_}
 use Prim.Native.Nat.{ℕ, _-_, _*_}
 use mathlib.Core.List.{List, _++_}
 use lib.ListN.{take}
 use lib.Ieee.{Float}
 use Rattle.answers.specs.declared.Part.the-variants.{Factor}
-use Rattle.answers.specs.declared.Refusal.the-variants.{Stored}
+use Rattle.answers.specs.declared.Refusal.{Refusal}
+use Rattle.answers.specs.declared.Verdict.{Verdict}
 use Rattle.answers.specs.declared.Verdict.the-variants.{Fits, Refused}
 use Rattle.answers.specs.declared.Stage.{Stage}
-use Rattle.answers.specs.declared.Stage.the-variants.{Whole, Spilt}
-use Rattle.answers.specs.Outcome.{Made, done, bind, making, staged, stageOf, answered}
+use Rattle.answers.specs.Outcome.{Made, Answer, done, bind, making, staged, stageOf, storedIn, answered}
+use Rattle.answers.proofs.Outcomes.{stored-answered}
 use Rattle.lists.specs.Lists.{grid}
 use Rattle.lists.specs.Floats.{stored}
 use Rattle.lists.proofs.Parts.{part-again, span-again}
@@ -31,19 +32,28 @@ module _ (m n r : ℕ) (ss : List Float) (js : List ℕ) (a v : List Float) (p :
   unfolding formedFrom
   opened = ap (λ (o : Made (List Float)). bind (making Factor 0 o) (λ l. bind (making Factor 1 (stored (rightRows n r js v))) (λ y. done (record { left = l; right = y })))) ex
 
-  pub left-stop : (i : ℕ) (h : Both) → p ≡ Spilt i → formedFrom m n r ss js a v ≡ answered (Refused (Stored Factor 0 i)) h
-  unfolding staged answered
-  left-stop i h e = opened ∙ rw e
+  -- u is what the call answers of the left core
+  module _ (u : Verdict) (told : u ≡ storedIn Factor 0 p) where
+    left-made : formedFrom m n r ss js a v ≡ bind (answered u x) (λ l. bind (making Factor 1 (stored (rightRows n r js v))) (λ y. done (record { left = l; right = y })))
+    left-made =
+        opened
+        ∙ ap (λ (o : Answer (List Float)). bind o (λ l. bind (making Factor 1 (stored (rightRows n r js v))) (λ y. done (record { left = l; right = y })))) (stored-answered Factor 0 p u x told)
 
-  module _ (e : p ≡ Whole) (q : Stage) (y : List Float) (ey : stored (rightRows n r js v) ≡ staged q y) where
-    right-opened : formedFrom m n r ss js a v ≡ bind (making Factor 1 (staged q y)) (λ z. done (record { left = x; right = z }))
-    unfolding staged
-    right-opened = opened ∙ rw (e, ey)
+    pub left-stop : (q : Refusal) (h : Both) → u ≡ Refused q → formedFrom m n r ss js a v ≡ answered (Refused q) h
+    unfolding answered
+    left-stop q h e = left-made ∙ rw e
 
-    pub right-stop : (i : ℕ) (h : Both) → q ≡ Spilt i → formedFrom m n r ss js a v ≡ answered (Refused (Stored Factor 1 i)) h
-    unfolding staged answered
-    right-stop i h f = right-opened ∙ rw f
+    module _ (e : u ≡ Fits) (q : Stage) (y : List Float) (ey : stored (rightRows n r js v) ≡ staged q y) where
+      right-opened : formedFrom m n r ss js a v ≡ bind (making Factor 1 (staged q y)) (λ z. done (record { left = x; right = z }))
+      unfolding answered
+      right-opened = left-made ∙ rw (e, ey)
 
-    pub right-end : q ≡ Whole → formedFrom m n r ss js a v ≡ answered Fits (record { left = x; right = y })
-    unfolding staged answered
-    right-end f = right-opened ∙ rw f
+      -- and w of the right one
+      pub right-end : (w : Verdict) → w ≡ storedIn Factor 1 q → formedFrom m n r ss js a v ≡ answered w (record { left = x; right = y })
+      unfolding answered
+      right-end w f =
+          right-opened ∙ ap (λ (o : Answer (List Float)). bind o (λ z. done (record { left = x; right = z }))) (stored-answered Factor 1 q w y f) ∙ go w
+        where
+          go : (w : Verdict) → _≡_ {A = Answer Both} (bind (answered w y) (λ z. done (record { left = x; right = z }))) (answered w (record { left = x; right = y }))
+          go Fits = refl
+          go (Refused q) = refl

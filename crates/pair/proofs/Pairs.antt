@@ -1,6 +1,7 @@
 -- A pair is its slab's columns split, and the numbers told as cores. Assumes nothing.
 use mathlib.Core.Path.{_≡_, refl, ap, _∙_}
 use Prim.Native.Nat.{ℕ, _*_}
+use native.Mathlib.Omega.{arith}
 use mathlib.Core.List.{List}
 use lib.Dec.{leb}
 use lib.ListN.{getD}
@@ -8,12 +9,14 @@ use lib.Ieee.{Float}
 use Rattle.numbers.specs.Arithmetic.{times}
 use Rattle.answers.specs.declared.Part.{Part}
 use Rattle.answers.specs.declared.Part.the-variants.{Entry, Spectrum, Factor}
-use Rattle.answers.specs.declared.Refusal.the-variants.{Stored, PairRank}
+use Rattle.answers.specs.declared.Refusal.{Refusal}
+use Rattle.answers.specs.declared.Refusal.the-variants.{PairRank}
 use Rattle.answers.specs.declared.Verdict.{Verdict}
 use Rattle.answers.specs.declared.Verdict.the-variants.{Fits, Refused}
 use Rattle.answers.specs.declared.Stage.{Stage}
 use Rattle.answers.specs.declared.Stage.the-variants.{Whole, Spilt}
-use Rattle.answers.specs.Outcome.{Made, Answer, Check, done, refused, bind, making, demand, _then_, staged, answered}
+use Rattle.answers.specs.Outcome.{Made, Answer, Check, done, refused, bind, making, demand, _then_, staged, answered, storedIn}
+use Rattle.answers.proofs.Outcomes.{stored-answered, answered-fits}
 use Rattle.lists.specs.Floats.{at, cell, stored}
 use Rattle.shape.specs.Limits.{mostRank}
 use Rattle.shape.specs.Cores.{Core, coreWith}
@@ -33,6 +36,12 @@ pub answered-on : {A B : Type 0} (v : Verdict) (a : A) (f : A → B) → bind (a
 unfolding answered
 answered-on Fits a f = refl
 answered-on (Refused r) a f = refl
+
+-- a stage of which the call's verdict is that it fits is whole
+pub told-whole : (part : Part) (k : ℕ) (s : Stage) (v : Verdict) → v ≡ storedIn part k s → v ≡ Fits → s ≡ Whole
+unfolding staged
+told-whole part k Whole v e h = refl
+told-whole part k (Spilt i) v e h = let z : _≡_ {A = ℕ} 0 1 = cc in let n : ⊥ = omega arith in absurd n
 
 -- ---- row by row
 left-rows : (rl nj r : ℕ) (ss : List Float) (js : List ℕ) (a : List Float) → leftNumbers rl nj r ss js a ≡ leftRows (rl * nj) r ss js a
@@ -110,10 +119,19 @@ module _ (eps : Float) (l r : Core) where
     pair-opened : pairOf eps l r ≡ bind (making Entry 0 (staged s a)) (λ x. bind (splitFrom eps (l .rl * l .n) (r .n * r .rr) x) (λ p. done (halved p)))
     pair-opened = pair-stages ∙ ap (λ (o : Made (List Float)). bind (making Entry 0 o) (λ x. bind (splitFrom eps (l .rl * l .n) (r .n * r .rr) x) (λ p. done (halved p)))) ea
 
-    pub pair-stop : (i : ℕ) (h : Halves) → s ≡ Spilt i → pairOf eps l r ≡ answered (Refused (Stored Entry 0 i)) h
-    unfolding staged answered
-    pair-stop i h e = pair-opened ∙ rw e
+    -- u is what the call answers of that stage
+    module _ (u : Verdict) (told : u ≡ storedIn Entry 0 s) where
+      pair-told : pairOf eps l r ≡ bind (answered u a) (λ x. bind (splitFrom eps (l .rl * l .n) (r .n * r .rr) x) (λ p. done (halved p)))
+      pair-told =
+          pair-opened
+          ∙ ap (λ (o : Answer (List Float)). bind o (λ x. bind (splitFrom eps (l .rl * l .n) (r .n * r .rr) x) (λ p. done (halved p)))) (stored-answered Entry 0 s u a told)
 
-    pub pair-end : s ≡ Whole → (v : Verdict) (p : Parted) → splitFrom eps (l .rl * l .n) (r .n * r .rr) a ≡ answered v p → pairOf eps l r ≡ answered v (halved p)
-    unfolding staged
-    pair-end e v p g = pair-opened ∙ rw (e, g) (answered-on v p halved)
+      pub pair-stop : (q : Refusal) (h : Halves) → u ≡ Refused q → pairOf eps l r ≡ answered (Refused q) h
+      unfolding answered
+      pair-stop q h e = pair-told ∙ rw e
+
+      pub pair-end : u ≡ Fits → (v : Verdict) (p : Parted) → splitFrom eps (l .rl * l .n) (r .n * r .rr) a ≡ answered v p → pairOf eps l r ≡ answered v (halved p)
+      pair-end e v p g = opened e ∙ ap (λ (o : Answer Parted). bind o (λ p. done (halved p))) g ∙ answered-on v p halved
+        where
+          opened : u ≡ Fits → pairOf eps l r ≡ bind (splitFrom eps (l .rl * l .n) (r .n * r .rr) a) (λ p. done (halved p))
+          opened e = pair-told ∙ ap (λ (x : Answer (List Float)). bind x (λ x. bind (splitFrom eps (l .rl * l .n) (r .n * r .rr) x) (λ p. done (halved p)))) (ap (λ (x : Verdict). answered x a) e ∙ answered-fits a)

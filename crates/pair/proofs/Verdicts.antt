@@ -9,6 +9,7 @@ use lib.Dec.{eqb}
 use lib.Ieee.{Float}
 use mir.Syntax.{w64}
 use mir.Val.{Fits}
+use Rattle.shape.specs.Limits.{mostPoints}
 use Rattle.answers.specs.declared.Refusal.{Refusal}
 use Rattle.answers.specs.declared.Verdict.{Verdict}
 use Rattle.answers.specs.declared.Verdict.the-variants as verdict
@@ -42,17 +43,17 @@ pub lines-yes : (s x : Bool) → not s ≡ false → x ≡ s && x
 lines-yes s x h = rw (not-no s h)
 
 -- ---- sizes within their limits
-pub two-fit : (a b : ℕ) → a ≤ 64 → b ≤ 64 → Fits w64 (a * b)
+pub two-fit : (a b : ℕ) → a ≤ mostPoints → b ≤ mostPoints → Fits w64 (a * b)
 two-fit a b h g = record { fits = omega (arith, mul-le-mul h g) }
 
-pub three-fit : (a b c : ℕ) → a ≤ 64 → b ≤ 64 → c ≤ 64 → Fits w64 (a * b * c)
+pub three-fit : (a b c : ℕ) → a ≤ mostPoints → b ≤ mostPoints → c ≤ mostPoints → Fits w64 (a * b * c)
 three-fit a b c h g k = record { fits = omega (arith, mul-le-mul (mul-le-mul h g) k) }
 
 -- all three sizes
 pub record Small (c : given.Sizes) : Type 0 where
-  pub rl : c .rl ≤ 64
-  pub n : c .n ≤ 64
-  pub rr : c .rr ≤ 64
+  pub rl : c .rl ≤ mostPoints
+  pub n : c .n ≤ mostPoints
+  pub rr : c .rr ≤ mostPoints
 
 pub small : (c : given.Sizes) → sizesOk (coreOf c []) ≡ true → Small c
 small c e =

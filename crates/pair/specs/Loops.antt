@@ -7,11 +7,10 @@ use Rattle.answers.specs.declared.Part.the-variants.{Spectrum}
 use Rattle.answers.specs.declared.Refusal.the-variants.{PairRank}
 use Rattle.answers.specs.Outcome.{Made, Answer, done, bind, _then_, demand, making}
 use Rattle.lists.specs.Floats.{stored}
-use Rattle.shape.specs.Limits.{mostRank}
+use Rattle.shape.specs.Limits.{mostRank, mostLines}
 use Rattle.cutform.specs.Rotation.{eye}
 use Rattle.cutform.specs.Values.{order, sorted, keptRank}
 use Rattle.pairform.specs.Passes.{svd, Passes, orthogonalized}
-use Rattle.pairform.specs.Slabs.{mostLines}
 use Rattle.pair.specs.Rows.{Both, formedFrom}
 use Rattle.pairform.specs.Splits.{values}
 

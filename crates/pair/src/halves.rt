@@ -91,12 +91,10 @@ pub fn form(
         ≡ answered w (record { left = take (m * r) (now (x .exit)); right = take (r * n) (now (y .exit)) }) ⌝ }
 {
     let lefts = left_core(a, m, n, js, ss, r, x);
-    if let answers::Stage::Spilt(i) = lefts {
-        return answers::Verdict::Refused(answers::Refusal::Stored(answers::Part::Factor, 0, i));
+    let first = answers::stored_in(lefts, answers::Part::Factor, 0);
+    if let answers::Verdict::Refused(q) = first {
+        return answers::Verdict::Refused(q);
     }
     let rights = right_core(v, n, js, r, y);
-    if let answers::Stage::Spilt(i) = rights {
-        return answers::Verdict::Refused(answers::Refusal::Stored(answers::Part::Factor, 1, i));
-    }
-    answers::Verdict::Fits
+    answers::stored_in(rights, answers::Part::Factor, 1)
 }

@@ -11,9 +11,8 @@ ghost use Rattle.numbers.specs.Arithmetic.{zero64};
 ghost use Rattle.answers.specs.declared.Verdict.the-variants.{Refused};
 ghost use Rattle.answers.specs.Outcome.{done, answered};
 ghost use Rattle.lists.specs.Slots.{fit};
-ghost use Rattle.shape.specs.Limits.{mostRank};
+ghost use Rattle.shape.specs.Limits.{mostRank, mostLines};
 ghost use Rattle.shape.specs.Cores.{coreWith};
-ghost use Rattle.pairform.specs.Slabs.{mostLines};
 ghost use Rattle.pairform.specs.Splits.{pairOf};
 ghost use Rattle.pairform.specs.Call.{coreOf, pairOk, pairBy, pairCall};
 ghost use Rattle.pair.specs.Loops.{Lines};
@@ -39,8 +38,9 @@ fn pair_of(
     let m = l.rl * l.n;
     let n = r.n * r.rr;
     let made = slabs::columns(left, right, m, l.rr, n, a);
-    if let answers::Stage::Spilt(i) = made {
-        return split::refused_pair(answers::Refusal::Stored(answers::Part::Entry, 0, i));
+    let told = answers::stored_in(made, answers::Part::Entry, 0);
+    if let answers::Verdict::Refused(q) = told {
+        return split::refused_pair(q);
     }
     parts::split(eps, m, n, a, x, y)
 }
@@ -68,8 +68,8 @@ fn pair_within(
     requires { ⌜ pairOk (coreOf l (now left)) (coreOf r (now right)) eps (length (now lefts)) (length (now rights)) (length (now scratch)) ≡ done tt ⌝ }
     ensures { λ w. ⌜ (w ≡ pairBy (now (lefts .entry)) (now (rights .entry)) (now (scratch .entry)) (pairOf eps (coreOf l (now (left .entry))) (coreOf r (now (right .entry)))) .result) × (now (lefts .exit) ≡ pairBy (now (lefts .entry)) (now (rights .entry)) (now (scratch .entry)) (pairOf eps (coreOf l (now (left .entry))) (coreOf r (now (right .entry)))) .left) × (now (rights .exit) ≡ pairBy (now (lefts .entry)) (now (rights .entry)) (now (scratch .entry)) (pairOf eps (coreOf l (now (left .entry))) (coreOf r (now (right .entry)))) .right) ⌝ }
 {
-    let mut x = [0.0; slabs::MOST_LINES * shape::MOST_RANK];
-    let mut y = [0.0; shape::MOST_RANK * slabs::MOST_LINES];
+    let mut x = [0.0; shape::MOST_LINES * shape::MOST_RANK];
+    let mut y = [0.0; shape::MOST_RANK * shape::MOST_LINES];
     let m = l.rl * l.n;
     let n = r.n * r.rr;
     let e = n * m;

@@ -7,10 +7,9 @@ ghost use lib.ListN.{length, take};
 ghost use Rattle.numbers.specs.Root.{rootOf};
 ghost use Rattle.answers.specs.Outcome.{staged, answered};
 ghost use Rattle.lists.specs.Floats.{allFinite};
-ghost use Rattle.shape.specs.Limits.{mostRank};
+ghost use Rattle.shape.specs.Limits.{mostRank, mostLines};
 ghost use Rattle.cutform.specs.Values.{order, sorted, keptRank};
 ghost use Rattle.pairform.specs.Passes.{svd, made};
-ghost use Rattle.pairform.specs.Slabs.{mostLines};
 ghost use Rattle.pair.specs.Loops.{Lines, valuedFrom, cutFrom, splitFrom};
 
 // Each number becomes its root.
@@ -76,8 +75,8 @@ fn cut(
     ensures { λ w. ⌜ cutFrom eps m n (made count (svd (now (a .entry)) (now (v .entry)))) (now (sv .entry))
         ≡ answered (w .verdict) (record { rank = w .rank; left = take (m * w .rank) (now (x .exit)); right = take (w .rank * n) (now (y .exit)); passes = w .passes }) ⌝ }
 {
-    let mut js = [0; crate::slabs::MOST_LINES];
-    let mut ss = [0.0; crate::slabs::MOST_LINES];
+    let mut js = [0; shape::MOST_LINES];
+    let mut ss = [0.0; shape::MOST_LINES];
     let r = ranked(eps, n, sv, &mut js[0..n], &mut ss[0..n]);
     if shape::MOST_RANK < r {
         return crate::split::refused_pair(answers::Refusal::PairRank);
@@ -100,15 +99,16 @@ pub fn split(
     ensures { λ w. ⌜ splitFrom eps m n (now (a .entry))
         ≡ answered (w .verdict) (record { rank = w .rank; left = take (m * w .rank) (now (x .exit)); right = take (w .rank * n) (now (y .exit)); passes = w .passes }) ⌝ }
 {
-    let mut v = [0.0; crate::slabs::MOST_LINES * crate::slabs::MOST_LINES];
-    let mut sv = [0.0; crate::slabs::MOST_LINES];
-    let mut b = [0.0; crate::slabs::MOST_LINES * crate::slabs::MOST_LINES];
+    let mut v = [0.0; shape::MOST_LINES * shape::MOST_LINES];
+    let mut sv = [0.0; shape::MOST_LINES];
+    let mut b = [0.0; shape::MOST_LINES * shape::MOST_LINES];
     let e = n * n;
     let o = n * m;
     let d = valued(a, &mut v[0..e], &mut sv[0..n], &mut b[0..o], m, n);
     let stage = d.stage;
-    if let answers::Stage::Spilt(i) = stage {
-        return crate::split::refused_pair(answers::Refusal::Stored(answers::Part::Spectrum, 0, i));
+    let told = answers::stored_in(stage, answers::Part::Spectrum, 0);
+    if let answers::Verdict::Refused(q) = told {
+        return crate::split::refused_pair(q);
     }
     cut(eps, m, n, d.count, a, &v[0..e], &sv[0..n], x, y)
 }

@@ -7,12 +7,8 @@ ghost use lib.Dec.{leb};
 ghost use Rattle.answers.specs.Outcome.{verdictOf, done};
 ghost use Rattle.numbers.specs.Finite.{finite};
 ghost use Rattle.lists.specs.Floats.{allFinite};
-ghost use Rattle.shape.specs.Limits.{mostPoints};
-ghost use Rattle.pairform.specs.Slabs.{mostLines};
+ghost use Rattle.shape.specs.Limits.{mostPoints, mostLines};
 ghost use Rattle.pairform.specs.Call.{coreOf, sizesOk, pairSized, pairLent, pairFinite, pairOk};
-
-// What scratch has.
-const SCRATCH: usize = 20480;
 
 // The outer ranks needn't be 1.
 fn sizes_ok(c: pairform::Sizes) -> bool
@@ -32,7 +28,7 @@ fn lines_ok(sized: bool, i: usize, j: usize) -> bool
     if !sized {
         return false;
     }
-    i * j <= crate::slabs::MOST_LINES
+    i * j <= shape::MOST_LINES
 }
 
 // Refusals 2 and 3.
@@ -76,7 +72,7 @@ fn lent(
     if rights != shape::MOST_RANK * r.n * r.rr {
         return answers::Verdict::Refused(answers::Refusal::Length(3));
     }
-    if scratch != SCRATCH {
+    if scratch != shape::PAIR_SCRATCH {
         return answers::Verdict::Refused(answers::Refusal::Length(4));
     }
     answers::Verdict::Fits

@@ -7,11 +7,9 @@ ghost use Rattle.answers.specs.Outcome.{staged};
 ghost use Rattle.lists.specs.Lists.{grid};
 ghost use Rattle.lists.specs.Floats.{cell};
 ghost use Rattle.lists.specs.Strips.{storedFrom};
-ghost use Rattle.pairform.specs.Slabs.{mostLines, plusProduct};
+ghost use Rattle.shape.specs.Limits.{mostLines};
+ghost use Rattle.pairform.specs.Slabs.{plusProduct};
 ghost use Rattle.pair.specs.SlabLoops.{slabAt, slabColumns};
-
-// The most rows of a slab, and the most columns.
-pub const MOST_LINES: usize = 64;
 
 // s + x*y, or s where x is zero.
 fn plus_product(s: f64, x: f64, y: f64) -> f64
@@ -86,7 +84,7 @@ pub fn columns(
     requires { ⌜ (length (now left) ≡ m * k) × (length (now right) ≡ k * w) × (length (now a) ≡ w * m) × (m ≤ mostLines) × (w ≤ mostLines) ⌝ }
     ensures { λ r. ⌜ slabColumns m k w (now (left .entry)) (now (right .entry)) ≡ staged r (now (a .exit)) ⌝ }
 {
-    let mut room = [0.0; MOST_LINES * MOST_LINES];
+    let mut room = [0.0; shape::MOST_LINES * shape::MOST_LINES];
     rows_of(left, right, m, k, w, &mut room);
     let e = m * w;
     let slab = &room[0..e];

@@ -6,7 +6,7 @@ use mathlib.Core.List.{List, [], _∷_, _++_, map}
 use lib.IntN.{pos, negsuc}
 use lib.ListN.{length, take, replicate}
 use lib.Ieee.{Float, nan, fin, binary64, add, sub, mul, div, lt, le, eq, round, ofBits, toBits}
-use Rattle.numbers.specs.Arithmetic.{zero64, one64, two64}
+use Rattle.numbers.specs.Arithmetic.{zero64, one64, two64, tolerance64}
 use Rattle.numbers.specs.Magnitude.{magnitudeOf}
 use Rattle.numbers.specs.Root.{rootIn, wholeRoot, rootOfUnits, rootOf}
 use Rattle.answers.specs.declared.Verdict.{Verdict}
@@ -19,14 +19,15 @@ use Rattle.lists.specs.Walks.{along}
 use Rattle.lists.specs.Floats.{zeros, sumOn, sumTo, allFinite, firstNotFinite, stored}
 use Rattle.shape.specs.Cores.{Core, coreWith, place, entry, block}
 use Rattle.cutform.specs.Rotation.{tangentOf, slopeOf, cosineOf, turnedAt, eye}
-use Rattle.cutform.specs.Values.{rankIn, indexAt, order, sorted, thresholdOf, keptRank}
+use Rattle.cutform.specs.Values.{placeIn, indexAt, order, sorted, thresholdOf, keptRank}
 use Rattle.cutform.specs.Call.{notBelowZero, scratchAfter}
 use Rattle.pairform.specs.Slabs.{plusProduct, slabEntry, slab}
-use Rattle.pairform.specs.Columns.{turnStored, dot, tolerance64, skipped}
-use Rattle.pairform.specs.Passes.{turned, rotate, pass, passesFrom, orthogonalized, start}
+use Rattle.pairform.specs.Columns.{turnStored, dot, skipped}
+use Rattle.pairform.specs.Passes.{turnedSvd, rotate, pass, passesFrom, orthogonalized, start}
 use Rattle.pairform.specs.Splits.{values, formed, cut, split, pairOf}
 use Rattle.pairform.specs.Numbers.{inverse, leftNumbers, rightNumbers}
-use Rattle.pairform.specs.Call.{sizesOk, coreNumbers, leftRoom, rightRoom, pairScratch, pairSized, pairLent, pairFinite, pairOk, PairEnded, pairBy, pairCall}
+use Rattle.shape.specs.Limits.{pairScratch}
+use Rattle.pairform.specs.Call.{sizesOk, coreNumbers, leftRoom, rightRoom, pairSized, pairLent, pairFinite, pairOk, PairEnded, pairBy, pairCall}
 
 -- the tolerance is the f64 nearest to 1e-14
 tolerance-nearest : tolerance64 ≡ round binary64 false 1 (10 ^ 14)
@@ -95,5 +96,5 @@ AllRight [] = Unit {0}
 AllRight (c ∷ cs) = (c .0 ≡ c .1) × AllRight cs
 
 by-hand : AllRight cases
-unfolding cases add sub mul div lt le eq ofBits toBits magnitudeOf rootIn wholeRoot rootOfUnits rootOf demand pick listed flat first count pairs fit along sumOn sumTo allFinite firstNotFinite stored place entry block tangentOf slopeOf cosineOf turnedAt eye rankIn indexAt order sorted thresholdOf keptRank notBelowZero scratchAfter plusProduct slabEntry slab turnStored turned dot skipped rotate pass passesFrom orthogonalized start values inverse leftNumbers rightNumbers formed cut split pairOf sizesOk coreNumbers leftRoom rightRoom pairSized pairLent pairFinite pairOk pairBy pairCall
+unfolding cases add sub mul div lt le eq ofBits toBits magnitudeOf rootIn wholeRoot rootOfUnits rootOf demand pick listed flat first count pairs fit along sumOn sumTo allFinite firstNotFinite stored place entry block tangentOf slopeOf cosineOf turnedAt eye placeIn indexAt order sorted thresholdOf keptRank notBelowZero scratchAfter plusProduct slabEntry slab turnStored turnedSvd dot skipped rotate pass passesFrom orthogonalized start values inverse leftNumbers rightNumbers formed cut split pairOf sizesOk coreNumbers leftRoom rightRoom pairSized pairLent pairFinite pairOk pairBy pairCall
 by-hand = (refl, (refl, (refl, (refl, (refl, (refl, (refl, (refl, (refl, (refl, (refl, (refl, (refl, (refl, tt))))))))))))))

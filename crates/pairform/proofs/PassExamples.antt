@@ -11,7 +11,7 @@ use Rattle.lists.specs.Walks.{along}
 use Rattle.lists.specs.Floats.{sumOn, sumTo, allFinite, firstNotFinite, stored}
 use Rattle.cutform.specs.Rotation.{tangentOf, slopeOf, cosineOf, turnedAt, eye}
 use Rattle.pairform.specs.Columns.{turnStored, dot, skipped}
-use Rattle.pairform.specs.Passes.{turned, rotate, pass, Passes, passesFrom, orthogonalized, start}
+use Rattle.pairform.specs.Passes.{turnedSvd, rotate, pass, Passes, passesFrom, orthogonalized, start}
 
 -- what the passes came to, each float by its bits
 pub record Seen : Type 0 where
@@ -57,5 +57,5 @@ pub record Examples : Type 0 where
 
 pub examples : Examples
 unfolding add sub mul div le ofBits toBits magnitudeOf rootIn wholeRoot rootOfUnits rootOf pick listed flat first pairs along sumOn sumTo allFinite
-    firstNotFinite stored tangentOf slopeOf cosineOf turnedAt eye turnStored dot skipped turned rotate pass passesFrom orthogonalized start
+    firstNotFinite stored tangentOf slopeOf cosineOf turnedAt eye turnStored dot skipped turnedSvd rotate pass passesFrom orthogonalized start
 examples = record { skips-below = refl; skips-at = refl; turns-above = refl; skips-at-minus = refl; turns-under-minus = refl; product-sign = refl }

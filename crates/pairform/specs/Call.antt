@@ -12,16 +12,12 @@ use Rattle.answers.specs.declared.Verdict.the-variants.{Fits, Refused}
 use Rattle.answers.specs.Outcome.{Answer, done, refused, Check, _then_, demand}
 use Rattle.lists.specs.Slots.{fit}
 use Rattle.lists.specs.Floats.{allFinite}
-use Rattle.shape.specs.Limits.{mostPoints, mostRank, within}
+use Rattle.shape.specs.Limits.{mostPoints, mostRank, within, mostLines, pairScratch}
 use Rattle.shape.specs.Cores.{Core, coreWith}
 use Rattle.cutform.specs.Call.{notBelowZero, scratchAfter}
 use Rattle.pairform.specs.declared.Sizes.{Sizes}
 use Rattle.pairform.specs.declared.Paired.{Paired}
-use Rattle.pairform.specs.Slabs.{mostLines}
 use Rattle.pairform.specs.Splits.{Halves, pairOf}
-
-abbrev pub pairScratch : ℕ
-pairScratch = 20480
 
 -- a core of these sizes
 abbrev pub coreOf : Sizes → List Float → Core

@@ -2,8 +2,8 @@
 use Prim.Native.Nat.{ℕ}
 use mathlib.Core.Bool.{Bool, _||_}
 use mathlib.Core.List.{List}
-use lib.Ieee.{Float, binary64, le, ofBits}
-use Rattle.numbers.specs.Arithmetic.{times, over, zero64}
+use lib.Ieee.{Float, le}
+use Rattle.numbers.specs.Arithmetic.{times, over, zero64, tolerance64}
 use Rattle.numbers.specs.Magnitude.{magnitudeOf}
 use Rattle.numbers.specs.Root.{rootOf}
 use Rattle.lists.specs.Lists.{grid}
@@ -17,10 +17,6 @@ turnStored m n p q c s a = grid n m (λ (col row : ℕ). turnedAt p q c s (λ (k
 -- the sum over the rows, ascending, of column p times column q
 unfoldable pub dot : ℕ → List Float → ℕ → ℕ → Float
 dot m a p q = sumTo m (λ (row : ℕ). times (cell m a p row) (cell m a q row))
-
--- 1e-14
-abbrev pub tolerance64 : Float
-tolerance64 = ofBits binary64 0x3d06_849b_86a1_2b9b
 
 -- a pair is skipped where sq = sqrt(bp*bq) is at most zero, or alpha/sq at most 1e-14 in size; what isn't a number is neither, so that pair is turned
 unfoldable pub skipped : Float → Float → Float → Bool

@@ -21,8 +21,8 @@ svd a v = record { columns = a; basis = v }
 
 -- ---- one rotation
 -- the columns, then the basis; both are stored once all of this is done
-unfoldable pub turned : ℕ → ℕ → ℕ → ℕ → Float → Float → Svd → Made Svd
-turned m n p q c s e =
+unfoldable pub turnedSvd : ℕ → ℕ → ℕ → ℕ → Float → Float → Svd → Made Svd
+turnedSvd m n p q c s e =
     bind (stored (turnStored m n p q c s (e .columns))) (λ a.
     bind (stored (turnStored n n p q c s (e .basis))) (λ v.
     done (svd a v)))
@@ -43,7 +43,7 @@ rotate m n p q x =
     let bq = dot m a q q in
     let t = tangentOf (slopeOf bp bq alpha) in
     let c = cosineOf t in
-    pick (skipped alpha bp bq) (done x) (bind (turned m n p q c (times c t) (x .svd)) (λ e. done (passed e false)))
+    pick (skipped alpha bp bq) (done x) (bind (turnedSvd m n p q c (times c t) (x .svd)) (λ e. done (passed e false)))
 
 -- ---- passes
 -- p < q in order

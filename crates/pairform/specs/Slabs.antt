@@ -6,10 +6,6 @@ use Rattle.numbers.specs.Arithmetic.{plus, times, zero64}
 use Rattle.lists.specs.Lists.{iter, pick, grid}
 use Rattle.shape.specs.Cores.{Core, entry}
 
--- the most rows of a slab, and the most columns
-abbrev pub mostLines : ℕ
-mostLines = 64
-
 -- s + x*y, or s where x is zero: the term is skipped
 unfoldable pub plusProduct : Float → Float → Float → Float
 plusProduct s x y = pick (eq x zero64) s (plus s (times x y))

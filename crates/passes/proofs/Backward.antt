@@ -29,7 +29,7 @@ use Rattle.pairform.specs.Columns.{turnStored, dot, skipped}
 use Rattle.columns.specs.Loops.{squares}
 use Rattle.columns.proofs.Finite.{grid-finite}
 use Rattle.columns.proofs.TwoColumns.{squares-at}
-use Rattle.pairform.specs.Passes.{svd, Svd, Pass, passed, turned, rotate, pass}
+use Rattle.pairform.specs.Passes.{svd, Svd, Pass, passed, turnedSvd, rotate, pass}
 use Rattle.passes.specs.Loops.{passRow}
 use Rattle.passes.specs.Free.{rotateFree, rowFree, passFree}
 
@@ -169,10 +169,10 @@ module _ (m n : ℕ) where
         go false f = (turn-back m n p q _ _ a (l .0) h g (f .0), turn-back n n p q _ _ v (l .1) h g (f .1))
 
     rotate-same : Long x → Fine (rotateFree m n p q x) → rotate m n p q x ≡ done (rotateFree m n p q x)
-    unfolding rotateFree rotate turned pick
+    unfolding rotateFree rotate turnedSvd pick
     rotate-same l = go (skipped (dot m a p q) (dot m a p p) (dot m a q q))
       where
-        go : (b : Bool) → Fine (pick b x after) → pick b (done x) (bind (turned m n p q (cosineOf t) (times (cosineOf t) t) (x .svd)) (λ e. done (passed e false))) ≡ done (pick b x after)
+        go : (b : Bool) → Fine (pick b x after) → pick b (done x) (bind (turnedSvd m n p q (cosineOf t) (times (cosineOf t) t) (x .svd)) (λ e. done (passed e false))) ≡ done (pick b x after)
         go true f = refl
         go false f = rw (stored-yes (turnStored m n p q (cosineOf t) (times (cosineOf t) t) a) (f .0), stored-yes (turnStored n n p q (cosineOf t) (times (cosineOf t) t) v) (f .1))
 

@@ -19,7 +19,7 @@ use Rattle.lists.proofs.Stages.{stored-staged, staged-on, staged-stop, staged-l
 use Rattle.cutform.specs.Rotation.{tangentOf, slopeOf, cosineOf}
 use Rattle.cutform.specs.Rotation.{eye}
 use Rattle.pairform.specs.Columns.{turnStored, dot, skipped}
-use Rattle.pairform.specs.Passes.{Svd, svd, turned, Pass, passed, rotate, pass, Passes, made, passesFrom, mostPasses, orthogonalized}
+use Rattle.pairform.specs.Passes.{Svd, svd, turnedSvd, Pass, passed, rotate, pass, Passes, made, passesFrom, mostPasses, orthogonalized}
 use Rattle.columns.specs.Loops.{squares}
 use Rattle.passes.specs.Loops.{passRow, Held}
 use Rattle.columns.proofs.TwoColumns.{squares-length, squares-at}
@@ -27,14 +27,14 @@ use Rattle.passes.proofs.Wholes as wholes
 
 -- ---- one rotation
 module _ (m n p q : ℕ) (c s : Float) (a v a' v' : List Float) (ea : a' ≡ turnStored m n p q c s a) (ev : v' ≡ turnStored n n p q c s v) (r : Stage) (er : r ≡ stageOf (stored a')) where
-  opened : turned m n p q c s (svd a v) ≡ bind (staged r a') (λ x. bind (stored v') (λ y. done (svd x y)))
-  unfolding turned
+  opened : turnedSvd m n p q c s (svd a v) ≡ bind (staged r a') (λ x. bind (stored v') (λ y. done (svd x y)))
+  unfolding turnedSvd
   opened = rw (← ea, ← ev, stored-staged a' r er)
 
-  pub turned-stop : (i : ℕ) (z : Svd) → r ≡ Spilt i → turned m n p q c s (svd a v) ≡ staged (Spilt i) z
+  pub turned-stop : (i : ℕ) (z : Svd) → r ≡ Spilt i → turnedSvd m n p q c s (svd a v) ≡ staged (Spilt i) z
   turned-stop i z h = opened ∙ staged-stop r a' (λ x. bind (stored v') (λ y. done (svd x y))) i z h
 
-  pub turned-end : r ≡ Whole → (t : Stage) → t ≡ stageOf (stored v') → turned m n p q c s (svd a v) ≡ staged t (svd a' v')
+  pub turned-end : r ≡ Whole → (t : Stage) → t ≡ stageOf (stored v') → turnedSvd m n p q c s (svd a v) ≡ staged t (svd a' v')
   turned-end h t et =
       opened ∙ staged-on r a' (λ x. bind (stored v') (λ y. done (svd x y))) h
       ∙ ap (λ (o : Made (List Float)). bind o (λ y. done (svd a' y))) (stored-staged v' t et)
@@ -55,7 +55,7 @@ module _ (m n p q : ℕ) (a v ss : List Float) (quiet : Bool) (es : ss ≡ squar
   unfolding rotate pick staged
   rotate-skip t = rw (test, t)
 
-  pub rotate-go : b ≡ false → (x t c : Float) → x ≡ slopeOf (at ss p) (at ss q) alpha → t ≡ tangentOf x → c ≡ cosineOf t → (r : Stage) (e : Svd) → turned m n p q c (times c t) (svd a v) ≡ staged r e → rotate m n p q (passed (svd a v) quiet) ≡ staged r (passed e false)
+  pub rotate-go : b ≡ false → (x t c : Float) → x ≡ slopeOf (at ss p) (at ss q) alpha → t ≡ tangentOf x → c ≡ cosineOf t → (r : Stage) (e : Svd) → turnedSvd m n p q c (times c t) (svd a v) ≡ staged r e → rotate m n p q (passed (svd a v) quiet) ≡ staged r (passed e false)
   unfolding rotate pick
   rotate-go f x t c ex et ec r e d =
       let y : slopeOf (dot m a p p) (dot m a q q) (dot m a p q) ≡ x = sym (ex ∙ rw (el, low, high)) in

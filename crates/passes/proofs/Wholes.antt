@@ -19,7 +19,7 @@ use Rattle.lists.proofs.Tables.{length-grid}
 use Rattle.cutform.specs.Rotation.{tangentOf, slopeOf, cosineOf}
 use Rattle.cutform.specs.Rotation.{eye}
 use Rattle.pairform.specs.Columns.{turnStored, dot, skipped}
-use Rattle.pairform.specs.Passes.{Svd, svd, turned, Pass, passed, rotate, pass, Passes, passesFrom, mostPasses, orthogonalized, start}
+use Rattle.pairform.specs.Passes.{Svd, svd, turnedSvd, Pass, passed, rotate, pass, Passes, passesFrom, mostPasses, orthogonalized, start}
 use Rattle.passes.specs.Loops.{passRow}
 use Rattle.passes.proofs.Laws.{turning-keeps, along-keeps}
 use Rattle.columns.proofs.Finite.{grid-finite}
@@ -54,8 +54,8 @@ start-whole m n s l f = record {
 }
 
 module _ (m n : ℕ) where
-  turned-whole : (p q : ℕ) (c s : Float) (e d : Svd) → turned m n p q c s e ≡ done d → Whole m n d
-  unfolding turned turnStored
+  turned-whole : (p q : ℕ) (c s : Float) (e d : Svd) → turnedSvd m n p q c s e ≡ done d → Whole m n d
+  unfolding turnedSvd turnStored
   turned-whole p q c s e d h =
       let (a, x, g) = bind-done (stored (turnStored m n p q c s (e .columns))) (λ a. bind (stored (turnStored n n p q c s (e .basis))) (λ v. done (svd a v))) d h in
       let (v, y, k) = bind-done (stored (turnStored n n p q c s (e .basis))) (λ v. done (svd a v)) d g in
@@ -70,9 +70,9 @@ module _ (m n : ℕ) where
       let t = tangentOf (slopeOf (dot m a p p) (dot m a q q) (dot m a p q)) in
       go (skipped (dot m a p q) (dot m a p p) (dot m a q q)) (cosineOf t) (times (cosineOf t) t) h
     where
-      go : (b : Bool) (c s : Float) → pick b (done x) (bind (turned m n p q c s (x .svd)) (λ e. done (passed e false))) ≡ done y → Whole m n (y .svd)
+      go : (b : Bool) (c s : Float) → pick b (done x) (bind (turnedSvd m n p q c s (x .svd)) (λ e. done (passed e false))) ≡ done y → Whole m n (y .svd)
       go true c s h = rw (← done-inj h) w
-      go false c s h = let (e, t, g) = bind-done (turned m n p q c s (x .svd)) (λ e. done (passed e false)) y h in rw (← done-inj g) (turned-whole p q c s (x .svd) e t)
+      go false c s h = let (e, t, g) = bind-done (turnedSvd m n p q c s (x .svd)) (λ e. done (passed e false)) y h in rw (← done-inj g) (turned-whole p q c s (x .svd) e t)
 
   pub row-whole : (p : ℕ) (x y : Pass) → Whole m n (x .svd) → passRow m n p x ≡ done y → Whole m n (y .svd)
   unfolding passRow

@@ -4,7 +4,7 @@ ghost use mathlib.Core.Path.{_≡_};
 ghost use Prim.Native.Nat.{_<_};
 ghost use Rattle.answers.specs.Outcome.{staged};
 ghost use Rattle.columns.specs.Loops.{squares};
-ghost use Rattle.pairform.specs.Passes.{svd, turned, passed, rotate, pass, made, orthogonalized};
+ghost use Rattle.pairform.specs.Passes.{svd, turnedSvd, passed, rotate, pass, made, orthogonalized};
 ghost use Rattle.passes.specs.Loops.{passRow, Held};
 
 // What a turn came to: whether all numbers stayed finite, and whether no pair has been turned yet.
@@ -32,7 +32,7 @@ fn apply_jacobi_rotation(
     s: f64,
 ) -> answers::Stage
     requires { ⌜ Held m n (now a) (now v) (now ss) × (p < q) × (q < n) ⌝ }
-    ensures { λ r. ⌜ (turned m n p q c s (svd (now (a .entry)) (now (v .entry))) ≡ staged r (svd (now (a .exit)) (now (v .exit))))
+    ensures { λ r. ⌜ (turnedSvd m n p q c s (svd (now (a .entry)) (now (v .entry))) ≡ staged r (svd (now (a .exit)) (now (v .exit))))
         × (now (ss .exit) ≡ squares m n (now (a .exit))) ⌝ }
 {
     columns::turn(a, m, n, p, q, c, s);

@@ -11,7 +11,7 @@ pub const CARRIES: usize = 21;
 
 pub const SUMS: usize = 10;
 
-pub const SCRATCH: usize = 4 * ENTRIES + 2048;
+pub const SCRATCH: usize = shape::SCRATCH_TIMES * ENTRIES + shape::SCRATCH_BESIDE;
 
 // The zones of which an input is replaced.
 pub const OLD_TOWN: usize = 1;

@@ -16,7 +16,7 @@ use Rattle.lists.specs.Slots.{offset, slot, put, fit}
 use Rattle.lists.specs.Floats.{stored}
 use Rattle.lists.proofs.Slots.{offset-suc, offset-mono, fit-whole}
 use Rattle.shape.specs.declared.Shape.{Shape}
-use Rattle.shape.specs.Limits.{mostAxes, mostRank}
+use Rattle.shape.specs.Limits.{mostRank, mostSums}
 use Rattle.shape.specs.Shapes.{leftOf, pointsOf, rightOf, coreSize, pointSize}
 use Rattle.shape.specs.Sizes.{SizesWithin}
 use Rattle.shape.specs.Cores.{Core, coreWith, standing, pointsAt}
@@ -24,7 +24,7 @@ use Rattle.shape.proofs.Offsets.{offset-more, offset-most}
 use Rattle.shape.proofs.Insides.{inside-size}
 use Rattle.sumform.specs.Contract.{contract}
 use Rattle.sumform.specs.Sums.{sumSize, sumsLeft}
-use Rattle.product.specs.Lent.{Stands}
+use Rattle.product.specs.Lent.{SumsStand}
 
 -- ---- where slots stand
 module _ (s : Shape) where
@@ -32,7 +32,7 @@ module _ (s : Shape) where
   unfolding sumSize
   sum-size k = refl
 
-  pub sums-most : SizesWithin s → (k : ℕ) → k ≤ s .d → offset (sumSize s) k ≤ mostAxes * mostRank
+  pub sums-most : SizesWithin s → (k : ℕ) → k ≤ s .d → offset (sumSize s) k ≤ mostSums
   unfolding sumSize
   sums-most w k l = omega (arith, offset-most (sumSize s) mostRank k (λ j m. w .right j (omega arith) .1), w .axes .most)
 
@@ -144,7 +144,7 @@ stands : (s t : Shape) (work : List Float) (k : ℕ) → coreWith (leftOf t k) (
 unfolding standing
 stands s t work k = refl
 
-module _ (s t : Shape) (k : ℕ) (work weights : List Float) (S : Stands s t work weights) (lt : k < s .d) where
+module _ (s t : Shape) (k : ℕ) (work weights : List Float) (S : SumsStand s t work weights) (lt : k < s .d) where
   module _ (at size : ℕ) (e : at ≡ offset (coreSize s) k) (f : size ≡ coreSize t k) where
     pub core-ends : at + size ≤ length work
     core-ends = omega (arith, S .cores, inside-size s t (S .inside) k lt, offset-suc (coreSize s) k, offset-mono (coreSize s) (suc k) (s .d) lt)
@@ -166,7 +166,7 @@ module _ (s t : Shape) (k : ℕ) (work weights : List Float) (S : Stands s t wor
     pub points-start-fits : length weights * 8 < 2 ^ 63 → Fits w64 (point * 8)
     points-start-fits small = record { fits = omega (arith, points-end) }
 
-module _ (s t : Shape) (k : ℕ) (work weights : List Float) (S : Stands s t work weights) (lt : k < s .d) (at size point : ℕ)
+module _ (s t : Shape) (k : ℕ) (work weights : List Float) (S : SumsStand s t work weights) (lt : k < s .d) (at size point : ℕ)
     (e : at ≡ offset (coreSize s) k) (f : size ≡ coreSize t k) (g : point ≡ offset (pointSize s) k) where
   abbrev core : List Float
   core = take (at + size - at) (drop at work)
@@ -223,7 +223,7 @@ module _ (s t : Shape) (k : ℕ) (work weights : List Float) (S : Stands s t wor
       whole = ap (λ (m : ℕ). coreWith (leftOf t k) m (rightOf t k) core) points-long ∙ ap (λ (l : List Float). coreWith (leftOf t k) (pointsOf t k) (rightOf t k) l) core-is ∙ stands s t work k
 
 -- what an axis asks of the sums on its left, and of its own slot
-module _ (s t : Shape) (k : ℕ) (work weights : List Float) (S : Stands s t work weights) (lt : k < s .d) where
+module _ (s t : Shape) (k : ℕ) (work weights : List Float) (S : SumsStand s t work weights) (lt : k < s .d) where
   ahead : k < t .d
   ahead = omega (arith, S .inside .axes)
 

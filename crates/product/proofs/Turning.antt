@@ -7,12 +7,12 @@ use lib.ListN.{length, take}
 use lib.Ieee.{Float}
 use Rattle.numbers.specs.Arithmetic.{zero64}
 use Rattle.answers.specs.declared.Part.the-variants.{Sum}
-use Rattle.answers.specs.declared.Refusal.the-variants.{Stored}
+use Rattle.answers.specs.declared.Refusal.{Refusal}
 use Rattle.answers.specs.declared.Stage.{Stage}
-use Rattle.answers.specs.declared.Stage.the-variants.{Whole, Spilt}
+use Rattle.answers.specs.declared.Verdict.{Verdict}
 use Rattle.answers.specs.declared.Verdict.the-variants.{Fits, Refused}
-use Rattle.answers.specs.Outcome.{Answer, Made, done, bind, making, staged, answered}
-use Rattle.answers.proofs.Outcomes.{bind-assoc, bind-cong}
+use Rattle.answers.specs.Outcome.{Answer, Made, done, bind, making, staged, answered, storedIn}
+use Rattle.answers.proofs.Outcomes.{bind-assoc, bind-cong, stored-answered}
 use Rattle.lists.specs.Lists.{listed}
 use Rattle.lists.specs.Slots.{offset, put, fit, write}
 use Rattle.lists.specs.Walks.{walk, turning}
@@ -103,10 +103,17 @@ module _ (s t : Shape) (I : Inside s t) (work weights : List Float) where
     unfolding sumTurn contractAt
     turn-opened = ap (λ (m : Made (List Float)). bind (making Sum k m) (λ x. done (put (sumSize s) k (fit zero64 (sumSize s k) x) sums))) (ap (λ (l : List Float). stored (contract (standing s t work k) (pointsAt s weights k) l)) (sym g) ∙ e)
 
-    pub turn-stops : (i : ℕ) → r ≡ Spilt i → (l : List Float) → sumTurn s t work weights k sums ≡ answered (Refused (Stored Sum k i)) l
-    unfolding staged answered
-    turn-stops i h l = turn-opened ∙ rw h
+    -- v is what the call answers of that stage
+    module _ (v : Verdict) (told : v ≡ storedIn Sum k r) where
+      turn-made : sumTurn s t work weights k sums ≡ bind (answered v (take (rightOf t k) after)) (λ x. done (put (sumSize s) k (fit zero64 (sumSize s k) x) sums))
+      turn-made =
+          turn-opened
+          ∙ ap (λ (o : Answer (List Float)). bind o (λ x. done (put (sumSize s) k (fit zero64 (sumSize s k) x) sums))) (stored-answered Sum k r v (take (rightOf t k) after) told)
 
-    pub turn-keeps : r ≡ Whole → (l : List Float) → l ≡ put (sumSize s) k (fit zero64 (sumSize s k) (take (rightOf t k) after)) sums → sumTurn s t work weights k sums ≡ answered Fits l
-    unfolding staged answered
-    turn-keeps h l f = turn-opened ∙ rw (h, f)
+      pub turn-stops : (q : Refusal) → v ≡ Refused q → (l : List Float) → sumTurn s t work weights k sums ≡ answered (Refused q) l
+      unfolding answered
+      turn-stops q h l = turn-made ∙ rw h
+
+      pub turn-keeps : v ≡ Fits → (l : List Float) → l ≡ put (sumSize s) k (fit zero64 (sumSize s k) (take (rightOf t k) after)) sums → sumTurn s t work weights k sums ≡ answered Fits l
+      unfolding answered
+      turn-keeps h l f = turn-made ∙ rw (h, f)

@@ -20,7 +20,7 @@ sumTurn s t work weights k sums =
     (λ e. done (put (sumSize s) k (fit zero64 (sumSize s k) e) sums))
 
 -- a chain of shape t that stands in the room of s, with its weights
-pub record Stands (s t : Shape) (work weights : List Float) : Type 0 where
+pub record SumsStand (s t : Shape) (work weights : List Float) : Type 0 where
   pub within : SizesWithin s
   pub inside : Inside s t
   pub cores : entriesOf s ≤ length work

@@ -13,11 +13,8 @@ ghost use Rattle.shape.specs.Cores.{coreWith};
 ghost use Rattle.sumform.specs.Contract.{contract};
 ghost use Rattle.product.specs.ContractLoops.{pointsIn, newSum};
 
-// The widest strip.
-const STRIP: usize = 8;
-
 // (x times a number of the core) times y, added to each of the first h sums.
-fn add_weighed(sums: &mut [f64; STRIP], h: usize, x: f64, core: &[f64], p: usize, y: f64)
+fn add_weighed(sums: &mut [f64; lists::STRIP], h: usize, x: f64, core: &[f64], p: usize, y: f64)
     requires { ⌜ (h ≤ stripWidth) × (p + h ≤ length (now core)) ⌝ }
     ensures { λ _. ⌜ now (sums .exit) ≡ addedIn h (λ (t : ℕ). times (times x (at (now (core .entry)) (p + t))) y) (now (sums .entry)) ⌝ }
 {
@@ -28,7 +25,7 @@ fn add_weighed(sums: &mut [f64; STRIP], h: usize, x: f64, core: &[f64], p: usize
 
 // The points of one left index, whose numbers start at p in the core.
 fn add_points(
-    sums: &mut [f64; STRIP],
+    sums: &mut [f64; lists::STRIP],
     h: usize,
     x: f64,
     core: &[f64],
@@ -53,7 +50,7 @@ fn strip(core: &[f64], rr: usize, f: &[f64], eta: &[f64], j: usize, h: usize, ou
     ensures { λ _. ⌜ now (out .exit)
         ≡ storedFrom j h (λ (t : ℕ). newSum (now (core .entry)) rr (now (f .entry)) (now (eta .entry)) (j + t)) (now (out .entry)) ⌝ }
 {
-    let mut sums = [0.0; STRIP];
+    let mut sums = [0.0; lists::STRIP];
     let width = f.len() * rr;
     let mut a = 0;
     while a < eta.len() {
@@ -63,16 +60,16 @@ fn strip(core: &[f64], rr: usize, f: &[f64], eta: &[f64], j: usize, h: usize, ou
     lists::store_sums(&sums, h, out, j);
 }
 
-// All new sums, at the front of out: strips of eight right indices, of four, then single ones.
+// All new sums, at the front of out: whole strips of right indices, then of four, then single ones.
 pub fn contract_step(core: &[f64], rr: usize, f: &[f64], eta: &[f64], out: &mut [f64])
     requires { ⌜ (length (now eta) * (length (now f) * rr) ≤ length (now core)) × (rr ≤ length (now out)) × (1 ≤ length (now eta)) × (1 ≤ length (now f)) ⌝ }
     ensures { λ _. ⌜ now (out .exit)
         ≡ contract (coreWith (length (now (eta .entry))) (length (now (f .entry))) rr (now (core .entry))) (now (f .entry)) (now (eta .entry)) ++ drop rr (now (out .entry)) ⌝ }
 {
     let mut j = 0;
-    while j + 8 <= rr {
-        strip(core, rr, f, eta, j, 8, out);
-        j += 8;
+    while j + lists::STRIP <= rr {
+        strip(core, rr, f, eta, j, lists::STRIP, out);
+        j += lists::STRIP;
     }
     while j + 4 <= rr {
         strip(core, rr, f, eta, j, 4, out);

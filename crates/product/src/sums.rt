@@ -12,7 +12,7 @@ ghost use Rattle.shape.specs.Sizes.{SizesWithin};
 ghost use Rattle.shape.specs.Cores.{standing, pointsAt};
 ghost use Rattle.sumform.specs.Contract.{contract};
 ghost use Rattle.sumform.specs.Sums.{sumSize, sumsLeft, sumsFrom};
-ghost use Rattle.product.specs.Lent.{Stands, sumTurn};
+ghost use Rattle.product.specs.Lent.{SumsStand, sumTurn};
 
 // Where the sums of axis k start.
 pub fn sum_offset(s: shape::Shape, k: usize) -> usize
@@ -52,7 +52,7 @@ fn axis_sums(
     weights: &[f64],
     eta: &mut [f64],
 ) -> answers::Stage
-    requires { ⌜ (k < s .d) × (mostRank ≤ length (now eta)) × Stands s t (now work) (now weights) ⌝ }
+    requires { ⌜ (k < s .d) × (mostRank ≤ length (now eta)) × SumsStand s t (now work) (now weights) ⌝ }
     ensures { λ r. ⌜ stored (contract (standing s t (now (work .entry)) k) (pointsAt s (now (weights .entry)) k) (take (leftOf t k) (now (eta .entry)))) ≡ staged r (take (rightOf t k) (now (eta .exit))) ⌝ }
 {
     let at = s.offset(k);
@@ -97,14 +97,15 @@ fn sum_zone(
     weights: &[f64],
     sums: &mut [f64],
 ) -> answers::Verdict
-    requires { ⌜ (k < s .d) × (offset (sumSize s) (s .d) ≤ length (now sums)) × Stands s t (now work) (now weights) ⌝ }
+    requires { ⌜ (k < s .d) × (offset (sumSize s) (s .d) ≤ length (now sums)) × SumsStand s t (now work) (now weights) ⌝ }
     ensures { λ r. ⌜ sumTurn s t (now (work .entry)) (now (weights .entry)) k (now (sums .entry)) ≡ answered r (now (sums .exit)) ⌝ }
 {
     let mut eta = [0.0; shape::MOST_RANK];
     left_sums(k, s, t.left[k], sums, &mut eta);
     let stage = axis_sums(k, s, t, work, weights, &mut eta);
-    if let answers::Stage::Spilt(i) = stage {
-        return answers::Verdict::Refused(answers::Refusal::Stored(answers::Part::Sum, k, i));
+    let made = answers::stored_in(stage, answers::Part::Sum, k);
+    if let answers::Verdict::Refused(r) = made {
+        return answers::Verdict::Refused(r);
     }
     keep_sums(&eta, t.right[k], k, s, sums);
     answers::Verdict::Fits
@@ -119,7 +120,7 @@ pub fn sum_from(
     weights: &[f64],
     sums: &mut [f64],
 ) -> answers::Verdict
-    requires { ⌜ (z ≤ s .d) × (offset (sumSize s) (s .d) ≤ length (now sums)) × Stands s t (now work) (now weights) ⌝ }
+    requires { ⌜ (z ≤ s .d) × (offset (sumSize s) (s .d) ≤ length (now sums)) × SumsStand s t (now work) (now weights) ⌝ }
     ensures { λ r. ⌜ sumsFrom s t (now (work .entry)) (now (weights .entry)) z (now (sums .entry)) ≡ answered r (now (sums .exit)) ⌝ }
 {
     let mut k = z;

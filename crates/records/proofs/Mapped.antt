@@ -4,11 +4,11 @@ use Prim.Native.Nat.{ℕ, _+_, _≤_, _<_}
 use native.Mathlib.Omega.{arith}
 use mathlib.Core.List.{List, map}
 use lib.ListN.{length, getD, set, length-map, List·getD-map}
-use Rattle.lists.proofs.Over.{over, over-more, over-all}
+use Rattle.lists.proofs.Over.{overTo, over-more, over-all}
 
 module _ {A B : Type 0} (f : A → B) (xs : List A) (d : List B) where
   abbrev pub made : ℕ → List B
-  made i = over i (map f xs) d
+  made i = overTo i (map f xs) d
 
   pub made-more : (i : ℕ) (o : A) (u : List B) (y : B) → u ≡ made i → length xs ≡ length d → i < length xs → y ≡ f (getD xs i o) → set u i y ≡ made (i + 1)
   made-more i o u y e l h g =

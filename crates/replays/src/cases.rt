@@ -1,11 +1,13 @@
 // A list of cases as a program reads it from standard input: words of eight bytes, the lowest first.
 ghost use mathlib.Core.Path.{_≡_};
+ghost use Prim.Native.Nat.{_*_};
 ghost use lib.ListN.{length};
+ghost use Rattle.shape.specs.Limits.{mostCore};
 
 // What stands in an output or in scratch before a call.
 const MARK: f64 = 7.5;
 
-const ROOM: usize = 32768;
+const ROOM: usize = 8 * shape::MOST_CORE;
 
 // One word; bytes past the end of the input count as 0.
 pub fn word() -> usize {
@@ -27,7 +29,7 @@ pub fn number() -> f64 {
 
 // Room for more numbers than a list has.
 pub fn room() -> [f64; ROOM]
-    ensures { λ r. ⌜ 32768 ≡ length r ⌝ }
+    ensures { λ r. ⌜ 8 * mostCore ≡ length r ⌝ }
 {
     [MARK; ROOM]
 }

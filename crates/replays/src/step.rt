@@ -3,13 +3,6 @@
 // Above the records of any case: a count that is out of step is cut down, so that the program ends.
 const MOST_RECORDS: usize = 64;
 
-const BLANK: stepform::Axis = stepform::Axis {
-    a: 0.0,
-    b: 0.0,
-    xmin: 0.0,
-    xmax: 0.0,
-};
-
 fn record() -> stepform::Axis {
     let a = crate::cases::number();
     let b = crate::cases::number();
@@ -20,7 +13,7 @@ fn record() -> stepform::Axis {
 
 // The axis records that follow; one too many is refused by its count, wherever it stands.
 fn records(count: usize) -> [stepform::Axis; shape::MOST_AXES] {
-    let mut list = [BLANK; shape::MOST_AXES];
+    let mut list = [axes::BLANK; shape::MOST_AXES];
     let mut k = 0;
     while k < count {
         list[k % shape::MOST_AXES] = record();

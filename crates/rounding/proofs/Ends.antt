@@ -10,16 +10,16 @@ use lib.ListN.{length, take, drop, getD, replicate, length-map, length-replicate
 use lib.Seq.{take-all, take-at, drop-at, length-take-le}
 use lib.Ieee.{Float}
 use Rattle.numbers.specs.Arithmetic.{zero64}
-use Rattle.answers.specs.declared.Part.{Part}
 use Rattle.answers.specs.declared.Part.the-variants.{Spectrum, Factor}
 use Rattle.answers.specs.declared.Refusal.{Refusal}
 use Rattle.answers.specs.declared.Refusal.the-variants.{Length, Number, Setting}
 use Rattle.answers.specs.declared.Verdict.{Verdict}
 use Rattle.answers.specs.declared.Verdict.the-variants.{Fits, Refused}
-use Rattle.answers.specs.Outcome.{Answer, Made, Check, done, refused, bind, making, answered, _then_, verdictOf}
-use Rattle.answers.specs.Table.{beforeWork}
+use Rattle.answers.specs.Outcome.{Answer, Check, done, refused, bind, answered, _then_, verdictOf}
+use Rattle.answers.specs.Table.{Late}
 use Rattle.answers.proofs.Checks.{verdict-passed, verdict-refused, then-is}
-use Rattle.answers.proofs.Outcomes.{bind-done, done-inj, refused-inj, done-refused}
+use Rattle.answers.proofs.Late.{Early, early-demand, early-then, late-done, late-bind, late-then, early-each}
+use Rattle.answers.proofs.Outcomes.{bind-done, done-inj, done-refused, refused-inj}
 use Rattle.lists.specs.Lists.{listed, tab, flat, pick, joined}
 use Rattle.lists.specs.Slots.{offset, slot, fit, laid, write}
 use Rattle.lists.specs.Walks.{walk}
@@ -28,12 +28,14 @@ use Rattle.lists.proofs.Tables.{listed-same, listed-length, getD-tab}
 use Rattle.lists.proofs.Slots.{slot-before, slot-length, offset-mono, laid-length, fit-whole, fit-used}
 use Rattle.lists.proofs.Written.{written-slot}
 use Rattle.lists.proofs.Asked.{lengths-say}
+use Rattle.lists.proofs.Late.{late-walk}
 use Rattle.lists.proofs.Walks.{All, all-at, listed-all, walk-all, walk-length}
 use Rattle.shape.specs.declared.Shape.{Shape}
 use Rattle.shape.specs.Limits.{mostAxes, mostRank, scratchFor}
 use Rattle.shape.specs.Shapes.{leftOf, pointsOf, rightOf, chainOk, coreSize, entriesOf}
 use Rattle.shape.specs.Sizes.{Inside}
 use Rattle.shape.specs.Cores.{Core, coreWith, coreAt, coresOf, packed, standing, reshaped, chainAfter}
+use Rattle.shape.proofs.Early.{early-shape}
 use Rattle.shape.proofs.Ranks.{reshaped-count}
 use Rattle.shape.proofs.Insides.{inside-itself, inside-size}
 use Rattle.shape.proofs.Shaped.{Shaped}
@@ -42,10 +44,11 @@ use Rattle.cutform.specs.Rotation.{eye}
 use Rattle.cutform.specs.Sweeps.{eig, diagonalized}
 use Rattle.cutform.specs.Values.{singulars, order, sorted, keptRank}
 use Rattle.cutform.specs.Factors.{leftFactor, carryOf}
-use Rattle.cutform.specs.Bonds.{gram, cutBond, absorb}
+use Rattle.cutform.specs.declared.Cutting.{Cutting}
+use Rattle.cutform.specs.Bonds.{gram, noBond, cutBond, absorb}
 use Rattle.cutform.specs.declared.Rounded.{Rounded}
 use Rattle.cuts.specs.declared.Walked.{Walked}
-use Rattle.cutform.specs.Rounding.{Carry, none, some, Cut, takenIn, cutIf, roundCore, rounding, coresIn, countsIn, flagsIn}
+use Rattle.cutform.specs.Rounding.{Carry, none, some, Cut, takenIn, cutIf, roundCore, rounding, coresIn, bondsIn}
 use Rattle.cutform.specs.Keeping.{bondSize, Stepped, keepStep, carryLeft, roundFrom}
 use Rattle.cutform.specs.Call.{Ended, scratchAfter, endedBy, lengthsOk, roundFinite, roundOk, roundCall}
 use Rattle.cuts.specs.Slots.{AtZone, heldBy}
@@ -54,11 +57,10 @@ use Rattle.rounding.specs.Left.{leftBy}
 use Rattle.cutform.proofs.BondSlots.{carries-most}
 use Rattle.cuts.proofs.From.{bonds-most, at-start}
 use Rattle.rounding.proofs.Chains.{packed-is}
-use Rattle.cutform.proofs.Early.{Early, early-demand, early-then, early-each, early-shape}
 use Rattle.cutform.proofs.Cuts.{volume, round-of}
 
 -- ---- what stands in the work before any turn is the chain
-module _ (eps : Float) (s : Shape) (l work : List Float) (long : length l ≡ entriesOf s) (same : take (entriesOf s) work ≡ l) where
+module _ (cutting : Cutting) (s : Shape) (l work : List Float) (long : length l ≡ entriesOf s) (same : take (entriesOf s) work ≡ l) where
   standing-source : (k : ℕ) → k < s .d → coreAt s l k ≡ standing s s work k
   unfolding standing coreAt
   standing-source k lt =
@@ -67,93 +69,68 @@ module _ (eps : Float) (s : Shape) (l work : List Float) (long : length l ≡ en
       let n = slot-length (coreSize s) k l (omega arith) in
       ap (coreWith (leftOf s k) (pointsOf s k) (rightOf s k)) (e ∙ sym (take-all (coreSize s k) (slot (coreSize s) k work) (omega (arith, n, ap length e))))
 
-  pub source-walk : (h : Stepped) → h .chain ≡ work → rounding eps (coresOf s l) ≡ walk (λ (k : ℕ). roundCore eps (ltb (suc k) (s .d)) k) 0 (carryLeft s s h 0) (listed (s .d - 0) 0 (standing s s (h .chain)))
+  pub source-walk : (h : Stepped) → h .chain ≡ work → rounding cutting (coresOf s l) ≡ walk (λ (k : ℕ). roundCore cutting (ltb (suc k) (s .d)) k) 0 (carryLeft s s h 0) (listed (s .d - 0) 0 (standing s s (h .chain)))
   unfolding rounding coresOf carryLeft
   source-walk h e =
-      ap (λ (n : ℕ). walk (λ (k : ℕ). roundCore eps (ltb (suc k) n) k) 0 none (tab (s .d) (coreAt s l))) (listed-length (s .d) 0 (coreAt s l))
-      ∙ ap (λ (cs : List Core). walk (λ (k : ℕ). roundCore eps (ltb (suc k) (s .d)) k) 0 none cs) (listed-same (s .d) 0 (coreAt s l) (standing s s work) (λ k a b. standing-source k (omega arith)))
-      ∙ ap (λ (n : ℕ). walk (λ (k : ℕ). roundCore eps (ltb (suc k) (s .d)) k) 0 none (listed n 0 (standing s s work))) (sym (sub-zero (s .d)))
-      ∙ ap (λ (x : List Float). walk (λ (k : ℕ). roundCore eps (ltb (suc k) (s .d)) k) 0 none (listed (s .d - 0) 0 (standing s s x))) (sym e)
+      ap (λ (n : ℕ). walk (λ (k : ℕ). roundCore cutting (ltb (suc k) n) k) 0 none (tab (s .d) (coreAt s l))) (listed-length (s .d) 0 (coreAt s l))
+      ∙ ap (λ (cs : List Core). walk (λ (k : ℕ). roundCore cutting (ltb (suc k) (s .d)) k) 0 none cs) (listed-same (s .d) 0 (coreAt s l) (standing s s work) (λ k a b. standing-source k (omega arith)))
+      ∙ ap (λ (n : ℕ). walk (λ (k : ℕ). roundCore cutting (ltb (suc k) (s .d)) k) 0 none (listed n 0 (standing s s work))) (sym (sub-zero (s .d)))
+      ∙ ap (λ (x : List Float). walk (λ (k : ℕ). roundCore cutting (ltb (suc k) (s .d)) k) 0 none (listed (s .d - 0) 0 (standing s s x))) (sym e)
 
--- ---- a rounding refuses with 9 alone
-record Late {A : Type 0} (o : Answer A) : Type 0 where
-  nine : (r : Refusal) → o ≡ refused r → beforeWork r ≡ false
-
-late-done : {A : Type 0} (a : A) → Late (done a)
-late-done a = record { nine = λ r e. absurd (done-refused e) }
-
-late-making : {A : Type 0} (p : Part) (k : ℕ) (m : Made A) → Late (making p k m)
-late-making p k (done a) = late-done a
-late-making p k (refused i) = record { nine = λ r e. ap beforeWork (sym (refused-inj e)) }
-
-late-bind : {A B : Type 0} (o : Answer A) (f : A → Answer B) → Late o → ((a : A) → Late (f a)) → Late (bind o f)
-late-bind (done a) f h g = g a
-late-bind (refused q) f h g = record { nine = λ r e. h .nine r (ap refused (refused-inj e)) }
-
--- one stage that makes something, then what follows
-late-then : {A B : Type 0} (p : Part) (k : ℕ) (m : Made A) (f : A → Answer B) → ((a : A) → Late (f a)) → Late (bind (making p k m) f)
-late-then p k m f g = late-bind (making p k m) f (late-making p k m) g
-
-late-bond : (k : ℕ) (eps : Float) (c : Core) → Late (cutBond k eps c)
+-- ---- a rounding refuses by its work alone
+late-bond : (k : ℕ) (cutting : Cutting) (c : Core) → Late (cutBond k cutting c)
 unfolding cutBond
-late-bond k eps c =
+late-bond k cutting c =
     late-then Spectrum k (stored (gram c)) _ (λ g.
     late-then Spectrum k (diagonalized (c .rr) (eig g (eye (c .rr)))) _ (λ w.
     late-then Spectrum k (stored (singulars (c .rr) (w .eig .g))) _ (λ sv.
     let js = order (c .rr) sv in
     let ss = sorted (c .rr) sv in
-    let r = keptRank eps (c .rr) ss in
+    let r = keptRank (cutting .eps) (c .rr) ss in
     late-then Factor k (stored (leftFactor c r ss js (w .eig .v))) _ (λ u.
     late-then Factor k (stored (carryOf (c .rr) r ss js (w .eig .v))) _ (λ b.
     late-done _)))))
 
-late-cut : (more : Bool) (k : ℕ) (eps : Float) (c : Core) → Late (cutIf more k eps c)
-late-cut false k eps c = late-done (none, record { core = c; counts = []; flags = [] })
-late-cut true k eps c = late-bind (cutBond k eps c) _ (late-bond k eps c) (λ b. late-done _)
+late-cut : (more : Bool) (k : ℕ) (cutting : Cutting) (c : Core) → Late (cutIf more k cutting c)
+late-cut false k cutting c = late-done (none, record { core = c; bonds = [] })
+late-cut true k cutting c = late-bind (cutBond k cutting c) _ (late-bond k cutting c) (λ b. late-done _)
 
 late-taken : (k : ℕ) (s : Carry) (c : Core) → Late (takenIn k s c)
 late-taken k none c = late-done c
 late-taken k (some n b) c = late-then Factor k (stored (absorb n b c)) _ (λ l. late-done _)
 
-late-walk : (f : ℕ → Carry → Core → Answer (Carry × Cut)) → ((k : ℕ) (s : Carry) (c : Core) → Late (f k s c)) → (k : ℕ) (s : Carry) (cs : List Core) → Late (walk f k s cs)
-unfolding walk
-late-walk f h k s [] = late-done []
-late-walk f h k s (c ∷ cs) = late-bind (f k s c) _ (h k s c) (λ x. late-bind (walk f (suc k) (x .0) cs) _ (late-walk f h (suc k) (x .0) cs) (λ rs. late-done _))
-
-pub late-rounding : (eps : Float) (d k : ℕ) (s : Carry) (cs : List Core) (r : Refusal) → walk (λ (k : ℕ). roundCore eps (ltb (suc k) d) k) k s cs ≡ refused r → beforeWork r ≡ false
+pub late-rounding : (cutting : Cutting) (d k : ℕ) (s : Carry) (cs : List Core) → Late (walk (λ (k : ℕ). roundCore cutting (ltb (suc k) d) k) k s cs)
 unfolding roundCore
-late-rounding eps d k s cs = late-walk (λ (k : ℕ). roundCore eps (ltb (suc k) d) k) (λ k s c. late-bind (takenIn k s c) _ (late-taken k s c) (λ t. late-cut (ltb (suc k) d) k eps t)) k s cs .nine
+late-rounding cutting d k s cs = late-walk (λ (k : ℕ). roundCore cutting (ltb (suc k) d) k) (λ k s c. late-bind (takenIn k s c) _ (late-taken k s c) (λ t. late-cut (ltb (suc k) d) k cutting t)) k s cs
 
 all-map : {R : Type 0} {P Q : ℕ → R → Type 0} → ((j : ℕ) (r : R) → P j r → Q j r) → (k : ℕ) (rs : List R) → All P k rs → All Q k rs
 all-map f k [] a = tt
 all-map f k (r ∷ rs) a = (f k r (a .0), all-map f (suc k) rs (a .1))
 
 -- ---- what each zone left
-module _ (eps : Float) (s : Shape) where
+module _ (cutting : Cutting) (s : Shape) where
   abbrev Fine : ℕ → Core → Type 0
   Fine k c = (length (c .entries) ≡ volume c) × (c .n ≡ pointsOf s k)
 
   abbrev Left : ℕ → Carry × Cut → Type 0
-  Left k r = (length (r .1 .core .entries) ≡ volume (r .1 .core)) × (r .1 .core .n ≡ pointsOf s k) × (length (r .1 .counts) ≡ bondSize s k) × (length (r .1 .flags) ≡ bondSize s k)
+  Left k r = (length (r .1 .core .entries) ≡ volume (r .1 .core)) × (r .1 .core .n ≡ pointsOf s k) × (length (r .1 .bonds) ≡ bondSize s k)
 
-  counted : (more : Bool) (k : ℕ) (c : Core) (r : Carry × Cut) → cutIf more k eps c ≡ done r → (length (r .1 .counts) ≡ cond {A = ℕ} more 1 0) × (length (r .1 .flags) ≡ cond {A = ℕ} more 1 0)
-  counted false k c r h = let e = done-inj h in (ap (λ (x : Carry × Cut). length (x .1 .counts)) (sym e), ap (λ (x : Carry × Cut). length (x .1 .flags)) (sym e))
+  counted : (more : Bool) (k : ℕ) (c : Core) (r : Carry × Cut) → cutIf more k cutting c ≡ done r → length (r .1 .bonds) ≡ cond {A = ℕ} more 1 0
+  counted false k c r h = ap (λ (x : Carry × Cut). length (x .1 .bonds)) (sym (done-inj h))
   counted true k c r h =
-      let A = bind-done (cutBond k eps c) (λ b. done (some (b .core .rr) (b .carry), record { core = b .core; counts = b .sweeps ∷ []; flags = b .settles ∷ [] })) r h in
-      let e = done-inj (A .2) in
-      (ap (λ (x : Carry × Cut). length (x .1 .counts)) (sym e), ap (λ (x : Carry × Cut). length (x .1 .flags)) (sym e))
+      let A = bind-done (cutBond k cutting c) (λ b. done (some (b .bond .rank) (b .carry), record { core = b .core; bonds = b .bond ∷ [] })) r h in
+      ap (λ (x : Carry × Cut). length (x .1 .bonds)) (sym (done-inj (A .2)))
 
-  one-left : (k : ℕ) (y : Carry) (c : Core) (r : Carry × Cut) → Fine k c → roundCore eps (ltb (suc k) (s .d)) k y c ≡ done r → Left k r
+  one-left : (k : ℕ) (y : Carry) (c : Core) (r : Carry × Cut) → Fine k c → roundCore cutting (ltb (suc k) (s .d)) k y c ≡ done r → Left k r
   unfolding roundCore bondSize
   one-left k y c r f h =
-      let C = round-of eps k y c r (ltb (suc k) (s .d)) (f .0) h in
-      let A = bind-done (takenIn k y c) (λ t. cutIf (ltb (suc k) (s .d)) k eps t) r h in
-      let n = counted (ltb (suc k) (s .d)) k (A .0) r (A .2) in
-      (C .long, C .points ∙ f .1, n .0, n .1)
+      let C = round-of cutting k y c r (ltb (suc k) (s .d)) (f .0) h in
+      let A = bind-done (takenIn k y c) (λ t. cutIf (ltb (suc k) (s .d)) k cutting t) r h in
+      (C .long, C .points ∙ f .1, counted (ltb (suc k) (s .d)) k (A .0) r (A .2))
 
   -- the source's cores are as long as their sizes say
   module _ (h : Stepped) (long : entriesOf s ≤ length (h .chain)) (tr : List (Carry × Cut))
-      (e : walk (λ (k : ℕ). roundCore eps (ltb (suc k) (s .d)) k) 0 (carryLeft s s h 0) (listed (s .d - 0) 0 (standing s s (h .chain))) ≡ done tr) where
+      (e : walk (λ (k : ℕ). roundCore cutting (ltb (suc k) (s .d)) k) 0 (carryLeft s s h 0) (listed (s .d - 0) 0 (standing s s (h .chain))) ≡ done tr) where
     sources : All Fine 0 (listed (s .d - 0) 0 (standing s s (h .chain)))
     unfolding standing coreSize
     sources = listed-all Fine (s .d - 0) 0 (standing s s (h .chain)) (λ j a b.
@@ -161,18 +138,18 @@ module _ (eps : Float) (s : Shape) where
         (length-take-le (coreSize s j) (slot (coreSize s) j (h .chain)) (omega (arith, slot-length (coreSize s) j (h .chain) (omega arith))), refl))
 
     lefts : All Left 0 tr
-    lefts = walk-all (λ (k : ℕ). roundCore eps (ltb (suc k) (s .d)) k) Fine Left one-left 0 (carryLeft s s h 0) (listed (s .d - 0) 0 (standing s s (h .chain))) tr sources e
+    lefts = walk-all (λ (k : ℕ). roundCore cutting (ltb (suc k) (s .d)) k) Fine Left one-left 0 (carryLeft s s h 0) (listed (s .d - 0) 0 (standing s s (h .chain))) tr sources e
 
     tr-length : length tr ≡ s .d
-    tr-length = walk-length (λ (k : ℕ). roundCore eps (ltb (suc k) (s .d)) k) 0 (carryLeft s s h 0) (listed (s .d - 0) 0 (standing s s (h .chain))) tr e ∙ listed-length (s .d - 0) 0 (standing s s (h .chain)) ∙ sub-zero (s .d)
+    tr-length = walk-length (λ (k : ℕ). roundCore cutting (ltb (suc k) (s .d)) k) 0 (carryLeft s s h 0) (listed (s .d - 0) 0 (standing s s (h .chain))) tr e ∙ listed-length (s .d - 0) 0 (standing s s (h .chain)) ∙ sub-zero (s .d)
 
     abbrev none-left : Carry × Cut
-    none-left = (none, record { core = coreWith 0 0 0 []; counts = []; flags = [] })
+    none-left = (none, record { core = coreWith 0 0 0 []; bonds = [] })
 
     left-at : (k : ℕ) → k < s .d → Left k (getD tr k none-left)
     left-at k lt = subst (λ (j : ℕ). Left j (getD tr k none-left)) (zero-add k) (all-at Left 0 tr lefts k none-left (omega (arith, tr-length)))
 
-    -- ---- counts and flags
+    -- ---- the bonds
     laid-all : {A : Type 0} (o : A) (f : Carry × Cut → List A) (k : ℕ) (rs : List (Carry × Cut)) → All (λ (j : ℕ) (r : Carry × Cut). length (f r) ≡ bondSize s j) k rs → laid (bondSize s) o k (map f rs) ≡ flat (map f rs)
     unfolding laid flat fit
     laid-all o f k [] a = refl
@@ -199,11 +176,8 @@ module _ (eps : Float) (s : Shape) where
         ∙ sym (fit-whole o mostAxes L (omega arith))
         ∙ ap (fit o mostAxes) (laid-all o f 0 tr a)
 
-    counts-all : All (λ (j : ℕ) (r : Carry × Cut). length (r .1 .counts) ≡ bondSize s j) 0 tr
-    counts-all = all-map (λ j r p. p .2) 0 tr lefts
-
-    flags-all : All (λ (j : ℕ) (r : Carry × Cut). length (r .1 .flags) ≡ bondSize s j) 0 tr
-    flags-all = all-map (λ j r p. p .3) 0 tr lefts
+    bonds-all : All (λ (j : ℕ) (r : Carry × Cut). length (r .1 .bonds) ≡ bondSize s j) 0 tr
+    bonds-all = all-map (λ j r p. p .2) 0 tr lefts
 
     -- ---- the cores in the work, and the shape
     core-in : (k : ℕ) → getD (coresIn tr) k (none-left .1 .core) ≡ getD tr k none-left .1 .core
@@ -229,16 +203,17 @@ module _ (eps : Float) (s : Shape) where
           ap (λ (x : Core). x .rl * x .n * x .rr) c ∙ sym (left-at k lt .0)
 
       -- what a walk that went through leaves is the call's end
-      pub ended-fits : (l w : List Float) → s .d ≤ mostAxes → (x : Walked) (work carries : List Float) → h .sweeps ≡ replicate mostAxes 0 → h .settled ≡ replicate mostAxes false → x .verdict ≡ Fits
+      pub ended-fits : (l w : List Float) → s .d ≤ mostAxes → (x : Walked) (work carries : List Float) → h .bonds ≡ replicate mostAxes noBond → x .verdict ≡ Fits
           → reshaped 0 s (coresIn tr) ≡ x .shape → keepStep s 0 tr h ≡ heldBy x work carries → Inside s (x .shape) → length work ≡ length w
           → endedBy s l w (done tr) ≡ finished s x l work
       unfolding endedBy keepStep scratchAfter
-      ended-fits l w m x work carries hs hf v g k I n =
-          let a : x .sweeps ≡ fit 0 mostAxes (countsIn tr) = ap (λ (y : Stepped). y .sweeps) (sym k) ∙ ap (write (bondSize s) 0 (s .d) 0 (map (λ (r : Carry × Cut). r .1 .counts) tr)) hs ∙ array-is 0 (λ (r : Carry × Cut). r .1 .counts) counts-all m in
-          let b : x .settled ≡ fit false mostAxes (flagsIn tr) = ap (λ (y : Stepped). y .settled) (sym k) ∙ ap (write (bondSize s) false (s .d) 0 (map (λ (r : Carry × Cut). r .1 .flags) tr)) hf ∙ array-is false (λ (r : Carry × Cut). r .1 .flags) flags-all m in
+      ended-fits l w m x work carries hb v g k I n =
+          let a : x .bonds ≡ fit noBond mostAxes (bondsIn tr) =
+          ap (λ (y : Stepped). y .bonds) (sym k) ∙ ap (write (bondSize s) noBond (s .d) 0 (map (λ (r : Carry × Cut). r .1 .bonds) tr)) hb
+          ∙ array-is noBond (λ (r : Carry × Cut). r .1 .bonds) bonds-all m in
           let c : fit zero64 (length l) (joined (s .d) (λ (j : ℕ). take (coreSize (x .shape) j) (slot (coreSize s) j work))) ≡ chainAfter l (coresIn tr) =
           packed-is s (x .shape) work l (none-left .1 .core) (coresIn tr) (length-map tr (λ (r : Carry × Cut). r .1 .core) ∙ tr-length) (λ j lt. stands j lt) in
-          rw v (rw (a, b, ← g, n) (ap (λ (y : List Float). record { result = record { verdict = Fits; shape = reshaped 0 s (coresIn tr); sweeps = fit 0 mostAxes (countsIn tr); settled = fit false mostAxes (flagsIn tr) }; chain = y; scratch = zeros (length w) }) (sym c ∙ ap (λ (t : Shape). fit zero64 (length l) (joined (s .d) (λ (j : ℕ). take (coreSize t j) (slot (coreSize s) j work)))) (sym g))))
+          rw v (rw (a, ← g, n) (ap (λ (y : List Float). record { result = record { verdict = Fits; shape = reshaped 0 s (coresIn tr); bonds = fit noBond mostAxes (bondsIn tr) }; chain = y; scratch = zeros (length w) }) (sym c ∙ ap (λ (t : Shape). fit zero64 (length l) (joined (s .d) (λ (j : ℕ). take (coreSize t j) (slot (coreSize s) j work)))) (sym g))))
         where
           stands : (j : ℕ) → j < s .d → getD (coresIn tr) j (none-left .1 .core) .entries ≡ take (coreSize (x .shape) j) (slot (coreSize s) j work)
           stands j lt =
@@ -259,8 +234,8 @@ places-there l d o h = let g : d - 1 < length l = go l (d - 1) h in omega arith
     go (x ∷ l) (suc k) e = suc-le-suc (go l k e)
 
 -- ---- the call's work, by what `round_from` says of it
-module _ (eps : Float) (s : Shape) (l w start : List Float) (long : length l ≡ entriesOf s) (same : take (length l) start ≡ l) (wide : entriesOf s ≤ length start) (shp : Shaped s)
-    (u : Walked) (i : u ≡ unrounded s) (held : List Float) (x : Walked) (work carries : List Float) (e : roundFrom eps s 0 (u .shape) (heldBy u start held) ≡ answered (x .verdict) (x .shape, heldBy x work carries)) (I : x .verdict ≡ Fits → Inside s (x .shape)) (n : length work ≡ length w) where
+module _ (cutting : Cutting) (s : Shape) (l w start : List Float) (long : length l ≡ entriesOf s) (same : take (length l) start ≡ l) (wide : entriesOf s ≤ length start) (shp : Shaped s)
+    (u : Walked) (i : u ≡ unrounded s) (held : List Float) (x : Walked) (work carries : List Float) (e : roundFrom cutting s 0 (u .shape) (heldBy u start held) ≡ answered (x .verdict) (x .shape, heldBy x work carries)) (I : x .verdict ≡ Fits → Inside s (x .shape)) (n : length work ≡ length w) where
   abbrev h : Stepped
   h = heldBy (unrounded s) start held
 
@@ -274,25 +249,25 @@ module _ (eps : Float) (s : Shape) (l w start : List Float) (long : length l ≡
   b = places-there (s .right) (s .d) (shp .least) (shp .sizes .right (s .d - 1) (omega (arith, shp .least)) .0)
 
   abbrev whole : Answer (List (Carry × Cut))
-  whole = walk (λ (k : ℕ). roundCore eps (ltb (suc k) (s .d)) k) 0 (carryLeft s s h 0) (listed (s .d - 0) 0 (standing s s start))
+  whole = walk (λ (k : ℕ). roundCore cutting (ltb (suc k) (s .d)) k) 0 (carryLeft s s h 0) (listed (s .d - 0) 0 (standing s s start))
 
   by-outcome : (o : Answer (List (Carry × Cut))) → whole ≡ o → (v : Verdict) → x .verdict ≡ v → bind {B = Shape × Stepped} o (λ tr. done (reshaped 0 s (coresIn tr), keepStep s 0 tr h)) ≡ answered v (x .shape, heldBy x work carries) → endedBy s l w o ≡ finished s x l work
   unfolding answered endedBy scratchAfter pick
   by-outcome (done tr) f Fits v g =
       let p = done-inj g in
-      ended-fits eps s h wide tr f a b l w m x work carries refl refl v (ap (λ (y : Shape × Stepped). y .0) p) (ap (λ (y : Shape × Stepped). y .1) p) (I v) n
+      ended-fits cutting s h wide tr f a b l w m x work carries refl v (ap (λ (y : Shape × Stepped). y .0) p) (ap (λ (y : Shape × Stepped). y .1) p) (I v) n
   by-outcome (done tr) f (Refused q) v g = absurd (done-refused g)
   by-outcome (refused r) f Fits v g = absurd (done-refused (sym g))
   by-outcome (refused r) f (Refused q) v g =
-      let t = late-rounding eps (s .d) 0 (carryLeft s s h 0) (listed (s .d - 0) 0 (standing s s start)) r f in
+      let t = late-rounding cutting (s .d) 0 (carryLeft s s h 0) (listed (s .d - 0) 0 (standing s s start)) r f in
       let u = refused-inj g in
-      rw (v, t, n) (ap (λ (y : Refusal). record { result = record { verdict = Refused y; shape = s; sweeps = replicate mostAxes 0; settled = replicate mostAxes false }; chain = l; scratch = zeros (length w) }) u)
+      rw (v, t, n) (ap (λ (y : Refusal). record { result = record { verdict = Refused y; shape = s; bonds = replicate mostAxes noBond }; chain = l; scratch = zeros (length w) }) u)
 
-  pub ended-is : endedBy s l w (rounding eps (coresOf s l)) ≡ finished s x l work
+  pub ended-is : endedBy s l w (rounding cutting (coresOf s l)) ≡ finished s x l work
   unfolding roundFrom
   ended-is =
-      ap (endedBy s l w) (source-walk eps s l start long (subst (λ (j : ℕ). take j start ≡ l) long same) h refl)
-      ∙ by-outcome whole refl (x .verdict) refl (subst (λ (y : Walked). roundFrom eps s 0 (y .shape) (heldBy y start held) ≡ answered (x .verdict) (x .shape, heldBy x work carries)) i e)
+      ap (endedBy s l w) (source-walk cutting s l start long (subst (λ (j : ℕ). take j start ≡ l) long same) h refl)
+      ∙ by-outcome whole refl (x .verdict) refl (subst (λ (y : Walked). roundFrom cutting s 0 (y .shape) (heldBy y start held) ≡ answered (x .verdict) (x .shape, heldBy x work carries)) i e)
 
 -- ---- the parts of the code
 pub loaded : (l scratch x : List Float) → x ≡ l → take (length l) (x ++ drop (length l - 0) scratch) ≡ l
@@ -300,11 +275,11 @@ loaded l scratch x e = ap (λ (y : List Float). take (length l) (y ++ drop (leng
 
 -- the call's end: c and z are what `leave` left
 module _ (s : Shape) (w : Walked) (chain scratch : List Float) (c z : List Float) (g : c ≡ leftBy (w .verdict) s (w .shape) chain scratch) (f : z ≡ zeros (length scratch)) (r : Rounded) where
-  pub finish-stops : (q : Refusal) → w .verdict ≡ Refused q → r ≡ record { verdict = Refused q; shape = s; sweeps = replicate mostAxes 0; settled = replicate mostAxes false }
+  pub finish-stops : (q : Refusal) → w .verdict ≡ Refused q → r ≡ record { verdict = Refused q; shape = s; bonds = replicate mostAxes noBond }
       → _≡_ {A = Ended} (record { result = r; chain = c; scratch = z }) (finished s w chain scratch)
   finish-stops q v e = let h : c ≡ chain = g ∙ ap (λ (y : Verdict). leftBy y s (w .shape) chain scratch) v in rw (v, e, f, h)
 
-  pub finish-goes : w .verdict ≡ Fits → r ≡ record { verdict = Fits; shape = w .shape; sweeps = w .sweeps; settled = w .settled }
+  pub finish-goes : w .verdict ≡ Fits → r ≡ record { verdict = Fits; shape = w .shape; bonds = w .bonds }
       → _≡_ {A = Ended} (record { result = r; chain = c; scratch = z }) (finished s w chain scratch)
   finish-goes v e = let h : c ≡ leftBy Fits s (w .shape) chain scratch = g ∙ ap (λ (y : Verdict). leftBy y s (w .shape) chain scratch) v in rw (v, e, f, h)
 
@@ -313,32 +288,32 @@ pub start-at : (s : Shape) (u : Walked) (work carries : List Float) → Shaped s
     → AtZone s 0 0 (u .shape) (heldBy u work carries)
 start-at s u work carries h e a b c d =
     subst (λ (u : Walked). AtZone s 0 0 (u .shape) (heldBy u work carries)) (sym e)
-    (at-start s s (heldBy (unrounded s) work carries) (h .joins) (inside-itself s h) (h .least) a b refl refl refl c (omega (arith, carries-most s (h .sizes) (s .d) (le-refl (s .d)))))
+    (at-start s s (heldBy (unrounded s) work carries) (h .joins) (inside-itself s h) (h .least) a b refl c (omega (arith, carries-most s (h .sizes) (s .d) (le-refl (s .d)))))
 
 -- ---- the call, by the verdict of its checks
 pub early-lengths : (s : Shape) (i chain j scratch : ℕ) → Early (lengthsOk s i chain j scratch)
 unfolding lengthsOk
 early-lengths s i chain j scratch = early-then _ _ (early-demand _ (Length i) refl) (early-demand _ (Length j) refl)
 
-early-round : (s : Shape) (eps : Float) (chain : List Float) (scratch : ℕ) → Early (roundOk s eps chain scratch)
+early-round : (s : Shape) (cutting : Cutting) (chain : List Float) (scratch : ℕ) → Early (roundOk s cutting chain scratch)
 unfolding roundOk roundFinite
-early-round s eps chain scratch =
+early-round s cutting chain scratch =
     early-then _ _ (early-shape s (λ (k : ℕ). true))
     (early-then _ _ (early-lengths s 0 (length chain) 1 scratch)
     (early-then _ _ (early-then _ _ (early-demand _ (Number 0) refl) (early-each Number _ (s .d) 0 (λ j. refl))) (early-demand _ (Setting 0) refl)))
 
-module _ (s : Shape) (eps : Float) (chain scratch : List Float) (v : Verdict) (e : v ≡ verdictOf (roundOk s eps chain (length scratch))) where
-  pub round-stops : (q : Refusal) → v ≡ Refused q → (r : Rounded) → r ≡ record { verdict = Refused q; shape = s; sweeps = replicate mostAxes 0; settled = replicate mostAxes false }
-      → _≡_ {A = Ended} (record { result = r; chain = chain; scratch = scratch }) (roundCall s eps chain scratch)
+module _ (s : Shape) (cutting : Cutting) (chain scratch : List Float) (v : Verdict) (e : v ≡ verdictOf (roundOk s cutting chain (length scratch))) where
+  pub round-stops : (q : Refusal) → v ≡ Refused q → (r : Rounded) → r ≡ record { verdict = Refused q; shape = s; bonds = replicate mostAxes noBond }
+      → _≡_ {A = Ended} (record { result = r; chain = chain; scratch = scratch }) (roundCall s cutting chain scratch)
   unfolding roundCall endedBy scratchAfter pick
   round-stops q h r f =
-      let g = verdict-refused (roundOk s eps chain (length scratch)) v q e h in
-      let b = early-round s eps chain (length scratch) .first q g in
+      let g = verdict-refused (roundOk s cutting chain (length scratch)) v q e h in
+      let b = early-round s cutting chain (length scratch) .first q g in
       rw (f, g, b)
 
   module _ (h : v ≡ Fits) where
-    abbrev passed : roundOk s eps chain (length scratch) ≡ done tt
-    passed = verdict-passed (roundOk s eps chain (length scratch)) v e h
+    abbrev passed : roundOk s cutting chain (length scratch) ≡ done tt
+    passed = verdict-passed (roundOk s cutting chain (length scratch)) v e h
 
     pub round-asks : (chainOk s ≡ done tt) × ((length chain ≡ entriesOf s) × (entriesOf s ≤ length scratch))
     unfolding roundOk lengthsOk
@@ -348,6 +323,6 @@ module _ (s : Shape) (eps : Float) (chain scratch : List Float) (v : Verdict) (e
         let c = lengths-say (length chain) (entriesOf s) (length scratch) (scratchFor (entriesOf s)) (Length 0) (Length 1) (b .0) in
         (a .0, (c .0, omega (arith, c .1)))
 
-    pub round-goes : (x : Ended) → x ≡ endedBy s chain scratch (rounding eps (coresOf s chain)) → x ≡ roundCall s eps chain scratch
+    pub round-goes : (x : Ended) → x ≡ endedBy s chain scratch (rounding cutting (coresOf s chain)) → x ≡ roundCall s cutting chain scratch
     unfolding roundCall
-    round-goes x f = f ∙ sym (ap (λ (c : Check). endedBy s chain scratch (c then rounding eps (coresOf s chain))) passed)
+    round-goes x f = f ∙ sym (ap (λ (c : Check). endedBy s chain scratch (c then rounding cutting (coresOf s chain))) passed)

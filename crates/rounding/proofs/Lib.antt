@@ -1,4 +1,5 @@
 pub mod Rooms
+-- the chain packed
 pub mod Chains
 -- the call
 pub mod Ends

@@ -11,7 +11,7 @@ use Rattle.answers.specs.declared.Verdict.{Verdict}
 use Rattle.answers.specs.declared.Verdict.the-variants.{Fits, Refused}
 use Rattle.lists.specs.Slots.{offset}
 use Rattle.lists.proofs.Slots.{offset-suc}
-use Rattle.lists.proofs.Packs.{Room}
+use Rattle.lists.proofs.Packs.{PackRoom}
 use Rattle.shape.specs.declared.Shape.{Shape}
 use Rattle.shape.specs.Shapes.{coreSize, entriesOf}
 use Rattle.shape.specs.Sizes.{Inside}
@@ -20,7 +20,7 @@ use Rattle.shape.proofs.Offsets.{offset-none}
 use Rattle.rounding.specs.Left.{leftBy}
 
 module _ (s t : Shape) (work l : List Float) where
-  pub room-of : t .d ≡ s .d → ((k : ℕ) → k < s .d → coreSize t k ≤ coreSize s k) → entriesOf s ≤ length work → entriesOf t ≤ length l → Room (coreSize s) (coreSize t) (s .d) work l
+  pub room-of : t .d ≡ s .d → ((k : ℕ) → k < s .d → coreSize t k ≤ coreSize s k) → entriesOf s ≤ length work → entriesOf t ≤ length l → PackRoom (coreSize s) (coreSize t) (s .d) work l
   room-of same fits long wide = record { fits = fits; long = long; wide = subst (λ (n : ℕ). offset (coreSize t) n ≤ length l) same wide }
 
 pub inside-entries : (s t : Shape) → Inside s t → entriesOf t ≤ entriesOf s

@@ -1,6 +1,5 @@
 -- A whole chain before its rounding, and the end of the call. Definitions for code only.
 use Prim.Native.Nat.{ℕ}
-use mathlib.Core.Bool.{false}
 use mathlib.Core.List.{List}
 use lib.ListN.{length, take, replicate}
 use lib.Ieee.{Float}
@@ -13,22 +12,23 @@ use Rattle.lists.specs.Floats.{zeros}
 use Rattle.shape.specs.declared.Shape.{Shape}
 use Rattle.shape.specs.Limits.{mostAxes}
 use Rattle.shape.specs.Shapes.{coreSize}
+use Rattle.cutform.specs.Bonds.{noBond}
 use Rattle.cuts.specs.declared.Walked.{Walked}
 use Rattle.cutform.specs.Call.{Ended}
 
 -- a chain before any of its bonds is cut
 abbrev pub unrounded : Shape → Walked
-unrounded s = record { verdict = Fits; shape = s; ranks = replicate mostAxes 0; sweeps = replicate mostAxes 0; settled = replicate mostAxes false }
+unrounded s = record { verdict = Fits; shape = s; bonds = replicate mostAxes noBond }
 
 -- the end of a call, by what its rounding came to
 abbrev pub finishedBy : Verdict → Shape → Walked → List Float → List Float → Ended
 finishedBy Fits s w chain scratch = record {
-  result = record { verdict = Fits; shape = w .shape; sweeps = w .sweeps; settled = w .settled };
+  result = record { verdict = Fits; shape = w .shape; bonds = w .bonds };
   chain = fit zero64 (length chain) (joined (s .d) (λ (k : ℕ). take (coreSize (w .shape) k) (slot (coreSize s) k scratch)));
   scratch = zeros (length scratch);
 }
 finishedBy (Refused q) s w chain scratch = record {
-  result = record { verdict = Refused q; shape = s; sweeps = replicate mostAxes 0; settled = replicate mostAxes false };
+  result = record { verdict = Refused q; shape = s; bonds = replicate mostAxes noBond };
   chain = chain;
   scratch = zeros (length scratch);
 }

@@ -2,7 +2,6 @@
 pub mod packing;
 ghost use mathlib.Core.Path.{_≡_};
 ghost use Prim.Native.Nat.{_≤_};
-ghost use mathlib.Core.Bool.{false};
 ghost use lib.ListN.{length, replicate, take};
 ghost use Rattle.answers.specs.declared.Verdict.the-variants.{Fits, Refused};
 ghost use Rattle.answers.specs.Outcome.{done};
@@ -10,20 +9,21 @@ ghost use Rattle.shape.specs.Limits.{mostAxes};
 ghost use Rattle.shape.specs.Shapes.{chainOk, entriesOf};
 ghost use Rattle.shape.specs.Sizes.{SizesWithin, Inside};
 ghost use Rattle.shape.specs.Cores.{coresOf};
+ghost use Rattle.cutform.specs.Bonds.{noBond};
 ghost use Rattle.cutform.specs.Rounding.{rounding};
 ghost use Rattle.cutform.specs.Call.{endedBy, roundCall};
 ghost use Rattle.rounding.specs.Slots.{unrounded, finished};
 use cutform::Rounded;
 
-// A refusal leaves the shape as it was and counts no sweeps.
+// A refusal leaves the shape as it was and says nothing of any bond.
 pub fn refused_rounding(r: answers::Refusal, s: shape::Shape) -> Rounded
-    ensures { λ o. ⌜ o ≡ record { verdict = Refused r; shape = s; sweeps = replicate mostAxes 0; settled = replicate mostAxes false } ⌝ }
+    ensures { λ o. ⌜ o ≡ record { verdict = Refused r; shape = s; bonds = replicate mostAxes noBond } ⌝ }
 {
+    let none = bond::no_bond();
     Rounded {
         verdict: answers::Verdict::Refused(r),
         shape: s,
-        sweeps: [0; shape::MOST_AXES],
-        settled: [false; shape::MOST_AXES],
+        bonds: [none; shape::MOST_AXES],
     }
 }
 
@@ -31,26 +31,23 @@ pub fn refused_rounding(r: answers::Refusal, s: shape::Shape) -> Rounded
 pub fn unrounded(s: shape::Shape) -> cuts::Walked
     ensures { λ w. ⌜ w ≡ unrounded s ⌝ }
 {
+    let none = bond::no_bond();
     cuts::Walked {
         verdict: answers::Verdict::Fits,
         shape: s,
-        ranks: [0; shape::MOST_AXES],
-        sweeps: [0; shape::MOST_AXES],
-        settled: [false; shape::MOST_AXES],
+        bonds: [none; shape::MOST_AXES],
     }
 }
 
 fn rounded_of(w: cuts::Walked) -> Rounded
-    ensures { λ r. ⌜ r ≡ record { verdict = Fits; shape = w .shape; sweeps = w .sweeps; settled = w .settled } ⌝ }
+    ensures { λ r. ⌜ r ≡ record { verdict = Fits; shape = w .shape; bonds = w .bonds } ⌝ }
 {
     let shape = w.shape;
-    let sweeps = w.sweeps;
-    let settled = w.settled;
+    let bonds = w.bonds;
     Rounded {
         verdict: answers::Verdict::Fits,
         shape,
-        sweeps,
-        settled,
+        bonds,
     }
 }
 
@@ -84,33 +81,46 @@ pub fn load(chain: &[f64], scratch: &mut [f64])
     lists::copy(chain, &mut scratch[0..n]);
 }
 
-// What a core, and the carries of a chain, have at most.
-pub const MOST_CORE: usize = shape::MOST_RANK * shape::MOST_POINTS * shape::MOST_RANK;
-
-pub const MOST_CARRIES: usize = shape::MOST_AXES * (shape::MOST_RANK * shape::MOST_RANK);
-
 // The rounding of a chain that passed the checks.
-fn round_all(s: shape::Shape, eps: f64, chain: &mut [f64], scratch: &mut [f64]) -> Rounded
+fn round_all(
+    s: shape::Shape,
+    cutting: cutform::Cutting,
+    chain: &mut [f64],
+    scratch: &mut [f64],
+) -> Rounded
     requires { ⌜ chainOk s ≡ done tt ⌝ }
     requires { ⌜ (length (now chain) ≡ entriesOf s) × (entriesOf s ≤ length (now scratch)) ⌝ }
     ensures { λ r. ⌜ record { result = r; chain = now (chain .exit); scratch = now (scratch .exit) }
-        ≡ endedBy s (now (chain .entry)) (now (scratch .entry)) (rounding eps (coresOf s (now (chain .entry)))) ⌝ }
+        ≡ endedBy s (now (chain .entry)) (now (scratch .entry)) (rounding cutting (coresOf s (now (chain .entry)))) ⌝ }
 {
-    let mut carries = [0.0; MOST_CARRIES];
-    let mut room = [0.0; MOST_CORE];
+    let mut carries = [0.0; shape::MOST_CARRIES];
+    let mut room = [0.0; shape::MOST_CORE];
     load(chain, scratch);
-    let w = cuts::round_from(0, s, unrounded(s), eps, scratch, &mut carries, &mut room);
+    let w = cuts::round_from(
+        0,
+        s,
+        unrounded(s),
+        cutting,
+        scratch,
+        &mut carries,
+        &mut room,
+    );
     finish(s, w, chain, scratch)
 }
 
 // Rounds a chain: bond by bond from the left.
-pub fn tt_round(s: shape::Shape, eps: f64, chain: &mut [f64], scratch: &mut [f64]) -> Rounded
+pub fn tt_round(
+    s: shape::Shape,
+    cutting: cutform::Cutting,
+    chain: &mut [f64],
+    scratch: &mut [f64],
+) -> Rounded
     ensures { λ r. ⌜ record { result = r; chain = now (chain .exit); scratch = now (scratch .exit) }
-        ≡ roundCall s eps (now (chain .entry)) (now (scratch .entry)) ⌝ }
+        ≡ roundCall s cutting (now (chain .entry)) (now (scratch .entry)) ⌝ }
 {
-    let ok = checks::round_ok(s, eps, chain, scratch.len());
+    let ok = checks::round_ok(s, cutting, chain, scratch.len());
     if let answers::Verdict::Refused(r) = ok {
         return refused_rounding(r, s);
     }
-    round_all(s, eps, chain, scratch)
+    round_all(s, cutting, chain, scratch)
 }

@@ -18,37 +18,41 @@ use Rattle.shape.specs.Sizes.{Inside}
 use Rattle.shape.specs.Cores.{Core, coreWith, withCore}
 use Rattle.shape.proofs.Shaped.{Shaped, shaped, within-is}
 use Rattle.shape.proofs.Ranks.{left-other, right-other, left-here, right-here}
-use Rattle.run_checks.specs.Ranks.{rankHeld, leftHeld, rightHeld, Ranked}
+use Rattle.cutform.specs.declared.Bond.{Bond as Told}
+use Rattle.cutform.specs.Keeping.{rankAmong}
+use Rattle.runform.specs.Kept.{leftHeld, rightHeld}
+use Rattle.runform.specs.Checks.{rankOk}
+use Rattle.run_checks.specs.Ranks.{Ranked}
 
-module _ (s : Shape) (ranks : List ℕ) (k : ℕ) where
-  pub rank-bond : k + 1 < s .d → (b : Bool) → b ≡ within (rightOf s k) (getD ranks k 0) → b ≡ rankHeld s ranks k
-  unfolding rankHeld
-  rank-bond l b e = e ∙ sym (ap (λ (x : Bool). cond x (within (rightOf s k) (getD ranks k 0)) true) (ltb-yes (suc k) (s .d) (omega arith)))
+module _ (s : Shape) (bonds : List Told) (k : ℕ) where
+  pub rank-bond : k + 1 < s .d → (b : Bool) → b ≡ within (rightOf s k) (rankAmong bonds k) → b ≡ rankOk s bonds k
+  unfolding rankOk
+  rank-bond l b e = e ∙ sym (ap (λ (x : Bool). cond x (within (rightOf s k) (rankAmong bonds k)) true) (ltb-yes (suc k) (s .d) (omega arith)))
 
-  pub rank-end : s .d ≤ k + 1 → true ≡ rankHeld s ranks k
-  unfolding rankHeld
-  rank-end l = sym (ap (λ (x : Bool). cond x (within (rightOf s k) (getD ranks k 0)) true) (ltb-no (suc k) (s .d) (omega arith)))
+  pub rank-end : s .d ≤ k + 1 → true ≡ rankOk s bonds k
+  unfolding rankOk
+  rank-end l = sym (ap (λ (x : Bool). cond x (within (rightOf s k) (rankAmong bonds k)) true) (ltb-no (suc k) (s .d) (omega arith)))
 
-  pub right-bond : k + 1 < s .d → getD ranks k 0 ≡ rightHeld s ranks k
-  right-bond l = sym (ap (λ (x : Bool). cond x (getD ranks k 0) (rightOf s k)) (ltb-yes (suc k) (s .d) (omega arith)))
+  pub right-bond : k + 1 < s .d → rankAmong bonds k ≡ rightHeld s bonds k
+  right-bond l = sym (ap (λ (x : Bool). cond x (rankAmong bonds k) (rightOf s k)) (ltb-yes (suc k) (s .d) (omega arith)))
 
-  pub right-end : s .d ≤ k + 1 → rightOf s k ≡ rightHeld s ranks k
-  right-end l = sym (ap (λ (x : Bool). cond x (getD ranks k 0) (rightOf s k)) (ltb-no (suc k) (s .d) (omega arith)))
+  pub right-end : s .d ≤ k + 1 → rightOf s k ≡ rightHeld s bonds k
+  right-end l = sym (ap (λ (x : Bool). cond x (rankAmong bonds k) (rightOf s k)) (ltb-no (suc k) (s .d) (omega arith)))
 
-pub left-first : (ranks : List ℕ) (k : ℕ) → k < 1 → 1 ≡ leftHeld ranks k
-left-first ranks zero l = refl
-left-first ranks (suc k) l = let z : ⊥ = omega arith in absurd z
+pub left-first : (bonds : List Told) (k : ℕ) → k < 1 → 1 ≡ leftHeld bonds k
+left-first bonds zero l = refl
+left-first bonds (suc k) l = let z : ⊥ = omega arith in absurd z
 
-pub left-next : (ranks : List ℕ) (k : ℕ) → 1 ≤ k → getD ranks (k - 1) 0 ≡ leftHeld ranks k
-left-next ranks zero l = let z : ⊥ = omega arith in absurd z
-left-next ranks (suc k) l = let e : suc k - 1 ≡ k = omega arith in ap (λ (j : ℕ). getD ranks j 0) e
+pub left-next : (bonds : List Told) (k : ℕ) → 1 ≤ k → rankAmong bonds (k - 1) ≡ leftHeld bonds k
+left-next bonds zero l = let z : ⊥ = omega arith in absurd z
+left-next bonds (suc k) l = let e : suc k - 1 ≡ k = omega arith in ap (λ (j : ℕ). rankAmong bonds j) e
 
 pub both-found : (a b p q : Bool) → a ≡ p → b ≡ q → (a && b) ≡ (p && q)
 both-found a b p q e f = ap (λ (x : Bool). x && b) e ∙ ap (λ (x : Bool). p && x) f
 
 -- ---- the shape, core by core
-pub ranked-none : (s : Shape) (ranks : List ℕ) → length (s .left) ≡ mostAxes → length (s .right) ≡ mostAxes → Ranked s ranks s 0
-ranked-none s ranks a b = record {
+pub ranked-none : (s : Shape) (bonds : List Told) → length (s .left) ≡ mostAxes → length (s .right) ≡ mostAxes → Ranked s bonds s 0
+ranked-none s bonds a b = record {
   axes = refl;
   points = refl;
   left = λ k l. let z : ⊥ = omega arith in absurd z;
@@ -57,12 +61,14 @@ ranked-none s ranks a b = record {
   rights = b;
 }
 
-pub ranked-more : (s : Shape) (ranks : List ℕ) (t : Shape) (k l r n : ℕ) (t' : Shape) → s .d ≤ mostAxes → k < s .d → Ranked s ranks t k → l ≡ leftHeld ranks k → r ≡ rightHeld s ranks k → t' ≡ withCore t k (coreWith l n r []) → Ranked s ranks t' (k + 1)
-ranked-more s ranks t k l r n t' few lt R e f g = subst (λ (x : Shape). Ranked s ranks x (k + 1)) (sym g) (record {
+pub ranked-more : (s : Shape) (bonds : List Told) (t : Shape) (k l r n : ℕ) (t' : Shape)
+    → s .d ≤ mostAxes → k < s .d → Ranked s bonds t k → l ≡ leftHeld bonds k → r ≡ rightHeld s bonds k
+    → t' ≡ withCore t k (coreWith l n r []) → Ranked s bonds t' (k + 1)
+ranked-more s bonds t k l r n t' few lt R e f g = subst (λ (x : Shape). Ranked s bonds x (k + 1)) (sym g) (record {
   axes = R .axes;
   points = R .points;
-  left = λ j m. here (eqb j k) refl m (λ q. ap (leftOf new) q ∙ left-here t k c (omega (arith, R .lefts)) ∙ e ∙ ap (leftHeld ranks) (sym q)) (λ q o. left-other t k c j q ∙ R .left j o);
-  right = λ j m. here (eqb j k) refl m (λ q. ap (rightOf new) q ∙ right-here t k c (omega (arith, R .rights)) ∙ f ∙ ap (rightHeld s ranks) (sym q)) (λ q o. right-other t k c j q ∙ R .right j o);
+  left = λ j m. here (eqb j k) refl m (λ q. ap (leftOf new) q ∙ left-here t k c (omega (arith, R .lefts)) ∙ e ∙ ap (leftHeld bonds) (sym q)) (λ q o. left-other t k c j q ∙ R .left j o);
+  right = λ j m. here (eqb j k) refl m (λ q. ap (rightOf new) q ∙ right-here t k c (omega (arith, R .rights)) ∙ f ∙ ap (rightHeld s bonds) (sym q)) (λ q o. right-other t k c j q ∙ R .right j o);
   lefts = length-set (t .left) k l ∙ R .lefts;
   rights = length-set (t .right) k r ∙ R .rights;
 })
@@ -77,8 +83,8 @@ ranked-more s ranks t k l r n t' few lt R e f g = subst (λ (x : Shape). Ranked 
     here true q m x y = x (eqb-is _ k q)
     here false q m x y = let o = eqb-not _ k q in y o (omega arith)
 
-pub ranked-all : (s : Shape) (ranks : List ℕ) (t : Shape) (k : ℕ) → Ranked s ranks t k → s .d ≤ k → Ranked s ranks t (s .d)
-ranked-all s ranks t k R l = record { axes = R .axes; points = R .points; left = λ j m. R .left j (omega arith); right = λ j m. R .right j (omega arith); lefts = R .lefts; rights = R .rights }
+pub ranked-all : (s : Shape) (bonds : List Told) (t : Shape) (k : ℕ) → Ranked s bonds t k → s .d ≤ k → Ranked s bonds t (s .d)
+ranked-all s bonds t k R l = record { axes = R .axes; points = R .points; left = λ j m. R .left j (omega arith); right = λ j m. R .right j (omega arith); lefts = R .lefts; rights = R .rights }
 
 bonds-pass : (s : Shape) (kept : ℕ → Bool) → shapeOk s kept ≡ done tt → demandEach Bond (λ (k : ℕ). bondOk s k && kept k) (s .d) 0 ≡ done tt
 unfolding shapeOk
@@ -89,27 +95,27 @@ bonds-pass s kept ok =
     then-is (demand (eqb (leftOf s 0) 1) (Bond 0)) (demandEach Bond (λ (k : ℕ). bondOk s k && kept k) (s .d) 0) tt (b .1) .1
 
 -- ---- a run whose shape and ranks pass has a chain that stands in the room of its source
-module _ (s : Shape) (ranks : List ℕ) (ok : shapeOk s (rankHeld s ranks) ≡ done tt) where
+module _ (s : Shape) (bonds : List Told) (ok : shapeOk s (rankOk s bonds) ≡ done tt) where
   abbrev shp : Shaped s
-  shp = shaped s (rankHeld s ranks) ok
+  shp = shaped s (rankOk s bonds) ok
 
-  rank-within : (k : ℕ) → k + 1 < s .d → (1 ≤ getD ranks k 0) × (getD ranks k 0 ≤ rightOf s k)
+  pub rank-within : (k : ℕ) → k + 1 < s .d → (1 ≤ rankAmong bonds k) × (rankAmong bonds k ≤ rightOf s k)
   rank-within k l =
-      let h = both (bondOk s k) (rankHeld s ranks k) (each-is Bond (λ (i : ℕ). bondOk s i && rankHeld s ranks i) (s .d) 0 (bonds-pass s (rankHeld s ranks) ok) k (omega arith) (omega arith)) .1 in
-      within-is (rightOf s k) (getD ranks k 0) (rank-bond s ranks k l (within (rightOf s k) (getD ranks k 0)) refl ∙ h)
+      let h = both (bondOk s k) (rankOk s bonds k) (each-is Bond (λ (i : ℕ). bondOk s i && rankOk s bonds i) (s .d) 0 (bonds-pass s (rankOk s bonds) ok) k (omega arith) (omega arith)) .1 in
+      within-is (rightOf s k) (rankAmong bonds k) (rank-bond s bonds k l (within (rightOf s k) (rankAmong bonds k)) refl ∙ h)
 
-  right-within : (k : ℕ) → k < s .d → (1 ≤ rightHeld s ranks k) × (rightHeld s ranks k ≤ rightOf s k)
+  pub right-within : (k : ℕ) → k < s .d → (1 ≤ rightHeld s bonds k) × (rightHeld s bonds k ≤ rightOf s k)
   right-within k l = go (ltb (k + 1) (s .d)) refl
     where
-      go : (b : Bool) → ltb (k + 1) (s .d) ≡ b → (1 ≤ rightHeld s ranks k) × (rightHeld s ranks k ≤ rightOf s k)
-      go true e = let m = ltb-is (k + 1) (s .d) e in subst (λ (x : ℕ). (1 ≤ x) × (x ≤ rightOf s k)) (right-bond s ranks k m) (rank-within k m)
-      go false e = let m = ltb-not (k + 1) (s .d) e in subst (λ (x : ℕ). (1 ≤ x) × (x ≤ rightOf s k)) (right-end s ranks k m) (shp .right k l, le-refl (rightOf s k))
+      go : (b : Bool) → ltb (k + 1) (s .d) ≡ b → (1 ≤ rightHeld s bonds k) × (rightHeld s bonds k ≤ rightOf s k)
+      go true e = let m = ltb-is (k + 1) (s .d) e in subst (λ (x : ℕ). (1 ≤ x) × (x ≤ rightOf s k)) (right-bond s bonds k m) (rank-within k m)
+      go false e = let m = ltb-not (k + 1) (s .d) e in subst (λ (x : ℕ). (1 ≤ x) × (x ≤ rightOf s k)) (right-end s bonds k m) (shp .right k l, le-refl (rightOf s k))
 
-  left-within : (k : ℕ) → k < s .d → (1 ≤ leftHeld ranks k) × (leftHeld ranks k ≤ leftOf s k)
+  pub left-within : (k : ℕ) → k < s .d → (1 ≤ leftHeld bonds k) × (leftHeld bonds k ≤ leftOf s k)
   left-within zero l = (le-refl 1, omega (arith, shp .first))
   left-within (suc k) l = let r = rank-within k (omega arith) in (r .0, omega (arith, r .1, shp .joins k l))
 
-  pub ranked-inside : (t : Shape) → Ranked s ranks t (s .d) → Inside s t
+  pub ranked-inside : (t : Shape) → Ranked s bonds t (s .d) → Inside s t
   ranked-inside t R =
       let a = R .axes in
       record {
@@ -122,7 +128,7 @@ module _ (s : Shape) (ranks : List ℕ) (ok : shapeOk s (rankHeld s ranks) ≡ d
         points = R .points;
         left = λ k l. let w = left-within k l in let e = R .left k l in omega (arith, w .1);
         right = λ k l. let w = right-within k l in let e = R .right k l in omega (arith, w .1);
-        joins = λ k l. R .right k (omega arith) ∙ sym (right-bond s ranks k (omega arith)) ∙ sym (R .left (suc k) l);
+        joins = λ k l. R .right k (omega arith) ∙ sym (right-bond s bonds k (omega arith)) ∙ sym (R .left (suc k) l);
         first = R .left 0 (omega (arith, shp .least));
-        last = λ k l. R .right k (omega arith) ∙ sym (right-end s ranks k (omega arith)) ∙ shp .last k l;
+        last = λ k l. R .right k (omega arith) ∙ sym (right-end s bonds k (omega arith)) ∙ shp .last k l;
       }

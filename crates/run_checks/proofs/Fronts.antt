@@ -5,14 +5,14 @@ use native.Mathlib.Nat.{zero-add, mul-le-mul, mul-le-mul-right}
 use native.Mathlib.Omega.{arith}
 use mathlib.Core.Bool.{Bool, true, cond, _||_}
 use mathlib.Core.List.{List}
-use lib.ListN.{length, take, drop}
+use lib.ListN.{length, getD, take, drop}
 use lib.Seq.{take-take}
 use lib.Ieee.{Float}
 use mir.Syntax.{w64}
 use mir.Val as val
 use Rattle.answers.specs.declared.Refusal.the-variants.{Reach}
 use Rattle.answers.specs.declared.Verdict.the-variants.{Fits, Refused}
-use Rattle.answers.specs.Outcome.{demandEach, verdictOf}
+use Rattle.answers.specs.Outcome.{done, demandEach, verdictOf}
 use Rattle.answers.proofs.Checks.{each-same, each-from}
 use Rattle.lists.specs.Lists.{firstNot}
 use Rattle.lists.specs.Slots.{offset, slot}
@@ -21,18 +21,21 @@ use Rattle.lists.proofs.Asked.{place-wrong, places-right}
 use Rattle.lists.proofs.Tests.{ltb-yes, ltb-no}
 use Rattle.lists.proofs.Slots.{offset-suc, offset-mono}
 use Rattle.shape.specs.declared.Shape.{Shape}
-use Rattle.shape.specs.Shapes.{rightOf, coreSize, entriesOf}
-use Rattle.shape.specs.Sizes.{SizesWithin, Inside}
-use Rattle.shape.specs.Cores.{standing}
-use Rattle.shape.proofs.Insides.{inside-size}
+use Rattle.shape.specs.Limits.{mostPoints, mostRank}
+use Rattle.shape.specs.Shapes.{leftOf, pointsOf, rightOf, shapeOk, coreSize, entriesOf}
+use Rattle.shape.proofs.Shaped.{Shaped, shaped}
 use Rattle.stepform.specs.declared.Axis.{Axis}
-use Rattle.cutform.specs.Keeping.{carrySize}
+use Rattle.cutform.specs.Keeping.{rankAmong, carrySize}
 use Rattle.cutform.proofs.BondSlots.{carry-bond}
 use Rattle.sumform.specs.Sums.{sumSize}
 use Rattle.product.proofs.Slotted.{sum-size}
 use Rattle.stepform.specs.declared.Settings.{Settings}
-use Rattle.checks.specs.Over.{axisReaches}
-use Rattle.run_checks.specs.Rooms.{coreHeld, carryHeld, sumsHeld, reachFrom}
+use Rattle.stepform.specs.Call.{axisReaches}
+use Rattle.cutform.specs.declared.Bond.{Bond}
+use Rattle.runform.specs.Kept.{allCarries, allSums, leftHeld, rightHeld, heldCore, heldCarry}
+use Rattle.runform.specs.Checks.{rankOk, coreHeld, carryHeld, sumsHeld}
+use Rattle.run_checks.specs.Reach.{reachFrom}
+use Rattle.run_checks.proofs.Bonded.{rank-within, right-within, left-within}
 
 pub front-found : (l : List Float) (at used : ℕ) (b : Bool) → b ≡ allFinite (take (at + used - at) (drop at l)) → b ≡ allFinite (take used (drop at l))
 front-found l at used b e = let n : at + used - at ≡ used = omega arith in e ∙ ap (λ (m : ℕ). allFinite (take m (drop at l))) n
@@ -46,51 +49,85 @@ module _ (size : ℕ → ℕ) (d k : ℕ) (l : List Float) (lt : k < d) (room : 
   unfolding slot
   front-is = ap (λ (m : ℕ). take used (drop m l)) e ∙ sym (take-take used (size k) (drop (offset size k) l) f)
 
-module _ (s t : Shape) (I : Inside s t) (k : ℕ) (lt : k < s .d) where
-  module _ (chain : List Float) (room : entriesOf s ≤ length chain) (at used : ℕ) (e : at ≡ offset (coreSize s) k) (f : used ≡ coreSize t k) where
-    small : used ≤ coreSize s k
-    small = omega (arith, inside-size s t I k lt)
+-- ---- of a run whose shape and ranks passed
+module _ (s : Shape) (bonds : List Bond) (ok : shapeOk s (rankOk s bonds) ≡ done tt) (k : ℕ) (lt : k < s .d) where
+  abbrev shp : Shaped s
+  shp = shaped s (rankOk s bonds) ok
 
-    pub core-room : at + used ≤ length chain
-    core-room = front-room (coreSize s) (s .d) k chain lt room at used e small
+  -- the core, of which l and r are the ranks
+  module _ (l r : ℕ) (a : l ≡ leftHeld bonds k) (b : r ≡ rightHeld s bonds k) where
+    abbrev n : ℕ
+    n = pointsOf s k
 
-    pub core-found : (b : Bool) → b ≡ allFinite (take used (drop at chain)) → b ≡ coreHeld s t chain k
-    unfolding coreHeld standing
-    core-found b g = g ∙ ap allFinite (front-is (coreSize s) (s .d) k chain lt room at used e small ∙ ap (λ (m : ℕ). take m (slot (coreSize s) k chain)) f)
+    wide : l * n ≤ leftOf s k * n
+    wide = mul-le-mul-right n (omega (arith, left-within s bonds ok k lt .1))
 
-  module _ (carries : List Float) (room : offset (carrySize s) (s .d) ≤ length carries) where
+    small : l * n * r ≤ coreSize s k
+    unfolding coreSize
+    small = mul-le-mul wide (omega (arith, right-within s bonds ok k lt .1))
+
+    pub core-part-fits : val.Fits w64 (l * n)
+    core-part-fits = record { fits = omega (arith, mul-le-mul (shp .sizes .left k lt .1) (shp .sizes .axes .points k lt .1), wide) }
+
+    pub core-used-fits : val.Fits w64 (l * n * r)
+    core-used-fits =
+        let p : l * n ≤ mostRank * mostPoints = omega (arith, mul-le-mul (shp .sizes .left k lt .1) (shp .sizes .axes .points k lt .1), wide) in
+        let q : r ≤ mostRank = omega (arith, right-within s bonds ok k lt .1, shp .sizes .right k lt .1) in
+        record { fits = omega (arith, mul-le-mul p q) }
+
+    module _ (chain : List Float) (room : entriesOf s ≤ length chain) (at : ℕ) (e : at ≡ offset (coreSize s) k) where
+      pub core-room : at + l * n * r ≤ length chain
+      core-room = front-room (coreSize s) (s .d) k chain lt room at (l * n * r) e small
+
+      pub core-found : (x : Bool) → x ≡ allFinite (take (l * n * r) (drop at chain)) → x ≡ coreHeld s bonds chain k
+      unfolding coreHeld heldCore
+      core-found x g =
+          g
+          ∙ ap allFinite (front-is (coreSize s) (s .d) k chain lt room at (l * n * r) e small)
+          ∙ ap (λ (m : ℕ). allFinite (take (m * n * r) (slot (coreSize s) k chain))) a
+          ∙ ap (λ (m : ℕ). allFinite (take (leftHeld bonds k * n * m) (slot (coreSize s) k chain))) b
+
+  -- the carry
+  module _ (carries : List Float) (room : allCarries s ≤ length carries) where
     module _ (bond : k + 1 < s .d) where
-      few : rightOf t k * rightOf s k ≤ carrySize s k
-      few = omega (arith, carry-bond s k bond, mul-le-mul-right (rightOf s k) (I .right k lt))
+      abbrev used : ℕ
+      used = rankAmong bonds k * rightOf s k
 
-      pub carry-used-fits : SizesWithin s → val.Fits w64 (rightOf t k * rightOf s k)
-      carry-used-fits w = record { fits = omega (arith, mul-le-mul (I .sizes .right k (omega (arith, I .axes)) .1) (w .right k lt .1)) }
+      few : used ≤ carrySize s k
+      few = omega (arith, carry-bond s k bond, mul-le-mul-right (rightOf s k) (rank-within s bonds ok k bond .1))
+
+      pub carry-used-fits : val.Fits w64 used
+      carry-used-fits = record { fits = omega (arith, mul-le-mul-right (rightOf s k) (rank-within s bonds ok k bond .1), mul-le-mul (shp .sizes .right k lt .1) (shp .sizes .right k lt .1)) }
 
       module _ (at : ℕ) (e : at ≡ offset (carrySize s) k) where
-        pub carry-room : at + rightOf t k * rightOf s k ≤ length carries
-        carry-room = front-room (carrySize s) (s .d) k carries lt room at (rightOf t k * rightOf s k) e few
+        pub carry-room : at + used ≤ length carries
+        carry-room = front-room (carrySize s) (s .d) k carries lt room at used e few
 
-        pub carry-found : (b : Bool) → b ≡ allFinite (take (rightOf t k * rightOf s k) (drop at carries)) → b ≡ carryHeld s t carries k
+        pub carry-found : (b : Bool) → b ≡ allFinite (take used (drop at carries)) → b ≡ carryHeld s bonds carries k
         unfolding carryHeld
         carry-found b g =
             g
-            ∙ ap allFinite (front-is (carrySize s) (s .d) k carries lt room at (rightOf t k * rightOf s k) e few)
-            ∙ sym (ap (λ (x : Bool). cond x (allFinite (take (rightOf t k * rightOf s k) (slot (carrySize s) k carries))) true) (ltb-yes (suc k) (s .d) (omega arith)))
+            ∙ ap allFinite (front-is (carrySize s) (s .d) k carries lt room at used e few)
+            ∙ sym (ap (λ (x : Bool). cond x (allFinite (heldCarry s bonds carries k)) true) (ltb-yes (suc k) (s .d) (omega arith)))
 
-    pub carry-none : s .d ≤ k + 1 → true ≡ carryHeld s t carries k
+    pub carry-none : s .d ≤ k + 1 → true ≡ carryHeld s bonds carries k
     unfolding carryHeld
-    carry-none l = sym (ap (λ (x : Bool). cond x (allFinite (take (rightOf t k * rightOf s k) (slot (carrySize s) k carries))) true) (ltb-no (suc k) (s .d) (omega arith)))
+    carry-none l = sym (ap (λ (x : Bool). cond x (allFinite (heldCarry s bonds carries k)) true) (ltb-no (suc k) (s .d) (omega arith)))
 
-  module _ (sums : List Float) (room : offset (sumSize s) (s .d) ≤ length sums) (at : ℕ) (e : at ≡ offset (sumSize s) k) where
-    less : rightOf t k ≤ sumSize s k
-    less = omega (arith, I .right k lt, sum-size s k)
+  -- the sums, of which there are r
+  module _ (sums : List Float) (room : allSums s ≤ length sums) (at r : ℕ) (e : at ≡ offset (sumSize s) k) (f : r ≡ rightHeld s bonds k) where
+    less : r ≤ sumSize s k
+    less = omega (arith, right-within s bonds ok k lt .1, sum-size s k)
 
-    pub sums-room : at + rightOf t k ≤ length sums
-    sums-room = front-room (sumSize s) (s .d) k sums lt room at (rightOf t k) e less
+    pub sums-room : at + r ≤ length sums
+    sums-room = front-room (sumSize s) (s .d) k sums lt room at r e less
 
-    pub sums-found : (b : Bool) → b ≡ allFinite (take (rightOf t k) (drop at sums)) → b ≡ sumsHeld s t sums k
+    pub sums-found : (b : Bool) → b ≡ allFinite (take r (drop at sums)) → b ≡ sumsHeld s bonds sums k
     unfolding sumsHeld
-    sums-found b g = g ∙ ap allFinite (front-is (sumSize s) (s .d) k sums lt room at (rightOf t k) e less)
+    sums-found b g =
+        g
+        ∙ ap allFinite (front-is (sumSize s) (s .d) k sums lt room at r e less)
+        ∙ ap (λ (m : ℕ). allFinite (take m (slot (sumSize s) k sums))) f
 
 -- ---- the shifts from z on
 module _ (z : ℕ) (set : Settings) (s : Shape) (xs : List Axis) where

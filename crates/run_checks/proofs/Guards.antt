@@ -10,7 +10,7 @@ use Rattle.answers.specs.declared.Refusal.{Refusal}
 use Rattle.answers.specs.declared.Refusal.the-variants.{Number, Setting}
 use Rattle.answers.specs.declared.Verdict.{Verdict}
 use Rattle.answers.specs.declared.Verdict.the-variants.{Fits, Refused}
-use Rattle.answers.specs.Outcome.{Check, _then_, demand, demandEach, verdictOf}
+use Rattle.answers.specs.Outcome.{done, Check, _then_, demand, demandEach, verdictOf}
 use Rattle.answers.proofs.Checks.{demand-yes, demand-no, then-stops, then-passes}
 use Rattle.lists.specs.Lists.{pick, firstNot}
 use Rattle.lists.specs.Floats.{allFinite}
@@ -19,8 +19,8 @@ use Rattle.shape.specs.Cores.{coreAt, pointsAt}
 use Rattle.stepform.specs.declared.Axis.{Axis}
 use Rattle.stepform.specs.Axes.{axisFinite, axisAt}
 use Rattle.cutform.specs.Call.{coreFinite}
-use Rattle.run_checks.specs.Rooms.{coreHeld, carryHeld, sumsHeld}
-use Rattle.run_checks.specs.Slices.{madeFinite, heldFinite}
+use Rattle.cutform.specs.declared.Bond.{Bond}
+use Rattle.runform.specs.Checks.{coreHeld, carryHeld, sumsHeld, madeFinite, heldFinite}
 use Rattle.lists.proofs.Tests.{below-or-not, ltb-yes, ltb-no, eqb-yes, eqb-no}
 use Rattle.lists.proofs.Demands.{both-left, both-right, first-is}
 use Rattle.lists.proofs.Asked.{length-wrong, length-right, test-wrong, test-right, place-wrong, places-right}
@@ -48,7 +48,11 @@ module _ (r : Refusal) (a x m : ℕ) (e : m ≡ x) where
   pub size-right : a ≡ m → Fits ≡ verdictOf (demand (eqb a x) r)
   size-right h = length-right a x r (h ∙ e)
 
-pub ruleset sized = (size-stops, size-passes, below-stops, below-passes, size-wrong, size-right, then-stops, then-passes)
+-- nothing is left to ask
+pub all-asked : Fits ≡ verdictOf {A = Unit {0}} (done tt)
+all-asked = refl
+
+pub ruleset sized = (all-asked, size-stops, size-passes, below-stops, below-passes, size-wrong, size-right, then-stops, then-passes)
 
 -- the lesser of two first places
 pub least-fails : (p q : ℕ → Bool) (n i j m : ℕ) → i ≡ firstNot p n → j ≡ firstNot q n → (i ≤ j → m ≡ i) × (j < i → m ≡ j) → m ≡ firstNot (λ (k : ℕ). p k && q k) n
@@ -111,16 +115,19 @@ pub ruleset numbers-found = (lone-wrong, number-wrong, mild-wrong, setting-wrong
 
 -- ---- the first zone with a number that isn't finite: i, j and l are the first of each kind, m of the last two, n of all
 module _ (s : Shape) (i j l m n : ℕ) (f : (j ≤ l → m ≡ j) × (l < j → m ≡ l)) (g : (i ≤ m → n ≡ i) × (m < i → n ≡ m)) where
-  pub made-first : (xs : List Axis) (source weights : List Float) → i ≡ firstNot (λ (k : ℕ). allFinite (coreAt s source k .entries)) (s .d) → j ≡ firstNot (λ (k : ℕ). axisFinite (axisAt xs k)) (s .d) → l ≡ firstNot (λ (k : ℕ). allFinite (pointsAt s weights k)) (s .d)
+  pub made-first : (xs : List Axis) (source weights : List Float)
+      → i ≡ firstNot (λ (k : ℕ). allFinite (coreAt s source k .entries)) (s .d) → j ≡ firstNot (λ (k : ℕ). axisFinite (axisAt xs k)) (s .d)
+      → l ≡ firstNot (λ (k : ℕ). allFinite (pointsAt s weights k)) (s .d)
       → n ≡ firstNot (madeFinite s xs source weights) (s .d)
   unfolding madeFinite coreFinite
   made-first xs source weights a b c =
       least-fails (λ (k : ℕ). allFinite (coreAt s source k .entries)) (λ (k : ℕ). axisFinite (axisAt xs k) && allFinite (pointsAt s weights k)) (s .d) i m n a
       (least-fails (λ (k : ℕ). axisFinite (axisAt xs k)) (λ (k : ℕ). allFinite (pointsAt s weights k)) (s .d) j l m b c f) g
 
-  pub held-first : (t : Shape) (chain carries sums : List Float) → i ≡ firstNot (coreHeld s t chain) (s .d) → j ≡ firstNot (carryHeld s t carries) (s .d) → l ≡ firstNot (sumsHeld s t sums) (s .d)
-      → n ≡ firstNot (heldFinite s t chain carries sums) (s .d)
+  pub held-first : (bonds : List Bond) (chain carries sums : List Float)
+      → i ≡ firstNot (coreHeld s bonds chain) (s .d) → j ≡ firstNot (carryHeld s bonds carries) (s .d) → l ≡ firstNot (sumsHeld s bonds sums) (s .d)
+      → n ≡ firstNot (heldFinite s bonds chain carries sums) (s .d)
   unfolding heldFinite
-  held-first t chain carries sums a b c =
-      least-fails (coreHeld s t chain) (λ (k : ℕ). carryHeld s t carries k && sumsHeld s t sums k) (s .d) i m n a
-      (least-fails (carryHeld s t carries) (sumsHeld s t sums) (s .d) j l m b c f) g
+  held-first bonds chain carries sums a b c =
+      least-fails (coreHeld s bonds chain) (λ (k : ℕ). carryHeld s bonds carries k && sumsHeld s bonds sums k) (s .d) i m n a
+      (least-fails (carryHeld s bonds carries) (sumsHeld s bonds sums) (s .d) j l m b c f) g

@@ -3,7 +3,7 @@ use mathlib.Core.Path.{_≡_, refl, sym, ap, _∙_}
 use Prim.Native.Nat.{ℕ, zero, suc, _-_, _<_}
 use native.Mathlib.Omega.{arith}
 use mathlib.Core.List.{List, map}
-use lib.ListN.{take}
+use lib.ListN.{getD, take}
 use lib.Ieee.{Float}
 use Rattle.numbers.specs.Arithmetic.{zero64}
 use Rattle.answers.specs.Outcome.{Answer, done, bind}
@@ -14,19 +14,27 @@ use Rattle.lists.specs.Walks.{walk}
 use Rattle.lists.specs.Floats.{at}
 use Rattle.lists.proofs.Tables.{listed-same}
 use Rattle.shape.specs.declared.Shape.{Shape}
-use Rattle.shape.specs.Shapes.{leftOf}
-use Rattle.shape.specs.Cores.{Core, pointsAt}
+use Rattle.shape.specs.Shapes.{leftOf, pointsOf, coreSize}
+use Rattle.shape.specs.Cores.{Core, pointsAt, standing}
 use Rattle.cutform.specs.Keeping.{Stepped}
 use Rattle.sumform.specs.Product.{sumAxis}
 use Rattle.sumform.specs.Sums.{sumSize, sumsLeft, weighedIn, sumsFrom}
 use Rattle.stepform.specs.Zones.{rules}
 use Rattle.run_checks.specs.Ranks.{Ranked}
 use Rattle.run_checks.proofs.Bonded.{right-bond}
-use Rattle.runform.specs.Kept.{Inputs, Summed, sumsAt, weighedAt, weighedFrom}
+use Rattle.runform.specs.Kept.{Inputs, Summed, heldCore, keptCore, sumsAt, weighedAt, weighedFrom}
 use Rattle.runform.specs.Work.{keepSums, sumZone, resum}
-use Rattle.run_checks.proofs.Asks.{core-kept}
 
-module _ (i : Inputs) (h : Stepped) (t : Shape) (R : Ranked (i .shape) (h .ranks) t (i .shape .d)) where
+-- a chain of the kept shape t stands where the run keeps it
+core-kept : (s : Shape) (h : Stepped) (t : Shape) → Ranked s (h .bonds) t (s .d) → (k : ℕ) → k < s .d → standing s t (h .chain) k ≡ keptCore s h k
+unfolding standing heldCore coreSize
+core-kept s h t R k lt =
+    let a = R .left k lt in
+    let b = R .right k lt in
+    let c : pointsOf t k ≡ pointsOf s k = ap (λ (x : List ℕ). getD x k 0) (R .points) in
+    cc (a, b, c)
+
+module _ (i : Inputs) (h : Stepped) (t : Shape) (R : Ranked (i .shape) (h .bonds) t (i .shape .d)) where
   abbrev s : Shape
   s = i .shape
 
@@ -34,7 +42,7 @@ module _ (i : Inputs) (h : Stepped) (t : Shape) (R : Ranked (i .shape) (h .ranks
   left-sums : (u : Summed) (z : ℕ) → z < s .d → sumsAt s h u z ≡ sumsLeft s (leftOf t z) (u .sums) z
   unfolding sumsAt sumsLeft
   left-sums u zero l = refl
-  left-sums u (suc z) l = ap (λ (n : ℕ). take n (slot (sumSize s) z (u .sums))) (sym (right-bond s (h .ranks) z (omega arith)) ∙ sym (R .left (suc z) l))
+  left-sums u (suc z) l = ap (λ (n : ℕ). take n (slot (sumSize s) z (u .sums))) (sym (right-bond s (h .bonds) z (omega arith)) ∙ sym (R .left (suc z) l))
 
   pairs-same : (z : ℕ) → weighedFrom i h z ≡ listed (s .d - z) z (weighedIn s t (h .chain) (i .weights))
   unfolding weighedAt weighedIn

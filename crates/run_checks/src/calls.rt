@@ -2,10 +2,10 @@
 ghost use mathlib.Core.Path.{_≡_};
 ghost use Rattle.answers.specs.Outcome.{verdictOf};
 ghost use Rattle.runform.specs.Kept.{keptOf};
-ghost use Rattle.runform.specs.Checks.{freshOk};
+ghost use Rattle.runform.specs.Checks.{scratchLent, freshOk};
+ghost use Rattle.runform.specs.Call.{roomLent};
 ghost use Rattle.stepform.specs.Zones.{rules};
 ghost use Rattle.runform.specs.Requests.{newCore, newWeights, replaceOk};
-ghost use Rattle.run_checks.specs.Asking.{scratchOf, roomOf};
 
 // All that a fresh run asks.
 pub fn fresh_ok(
@@ -19,13 +19,14 @@ pub fn fresh_ok(
     sums: usize,
     scratch: usize,
 ) -> answers::Verdict
-    ensures { λ v. ⌜ v ≡ verdictOf (freshOk rules (roomOf s chain carries sums scratch) (record { shape = s; axes = xs; set = set; source = now (source .entry); weights = now (weights .entry) })) ⌝ }
+    ensures { λ v. ⌜ v ≡ verdictOf (freshOk rules (roomLent s chain carries sums scratch)
+        (record { shape = s; axes = xs; set = set; source = now (source .entry); weights = now (weights .entry) })) ⌝ }
 {
     let shaped = s.check();
     if let answers::Verdict::Refused(q) = shaped {
         return answers::Verdict::Refused(q);
     }
-    let l = crate::found::Lengths {
+    let l = runform::Lengths {
         source: source.len(),
         weights: weights.len(),
         chain,
@@ -36,7 +37,7 @@ pub fn fresh_ok(
     if let answers::Verdict::Refused(q) = lent {
         return answers::Verdict::Refused(q);
     }
-    if scratch != 4 * s.entries() + checks::SCRATCH_BESIDE {
+    if scratch != shape::SCRATCH_TIMES * s.entries() + shape::SCRATCH_BESIDE {
         return answers::Verdict::Refused(answers::Refusal::Length(5));
     }
     let numbers = crate::numeric::numbers_made(s, xs, set, source, weights);
@@ -58,25 +59,27 @@ pub fn weights_ok(
     part: &[f64],
     scratch: usize,
 ) -> answers::Verdict
-    ensures { λ v. ⌜ v ≡ verdictOf (replaceOk rules (scratchOf (r .shape) 6 scratch) (keptOf r (now (source .entry)) (now (weights .entry)) (now (chain .entry)) (now (carries .entry)) (now (sums .entry))) (newWeights z (now (part .entry)))) ⌝ }
+    ensures { λ v. ⌜ v ≡ verdictOf (replaceOk rules (scratchLent (r .shape) 6 scratch)
+        (keptOf r (now (source .entry)) (now (weights .entry)) (now (chain .entry)) (now (carries .entry)) (now (sums .entry)))
+        (newWeights z (now (part .entry)))) ⌝ }
 {
     let s = r.shape;
-    let ranks = r.ranks;
-    let l = crate::found::Lengths {
+    let bonds = r.bonds;
+    let l = runform::Lengths {
         source: source.len(),
         weights: weights.len(),
         chain: chain.len(),
         carries: carries.len(),
         sums: sums.len(),
     };
-    let found = crate::found::found_ok(s, ranks, z, l);
+    let found = crate::found::found_ok(s, bonds, z, l);
     if let answers::Verdict::Refused(q) = found {
         return answers::Verdict::Refused(q);
     }
     if part.len() != s.n[z] {
         return answers::Verdict::Refused(answers::Refusal::Length(5));
     }
-    if scratch != 4 * s.entries() + checks::SCRATCH_BESIDE {
+    if scratch != shape::SCRATCH_TIMES * s.entries() + shape::SCRATCH_BESIDE {
         return answers::Verdict::Refused(answers::Refusal::Length(6));
     }
     let finite = lists::all_finite(part);
@@ -95,25 +98,27 @@ pub fn core_ok(
     part: &[f64],
     scratch: usize,
 ) -> answers::Verdict
-    ensures { λ v. ⌜ v ≡ verdictOf (replaceOk rules (scratchOf (r .shape) 6 scratch) (keptOf r (now (source .entry)) (now (weights .entry)) (now (chain .entry)) (now (carries .entry)) (now (sums .entry))) (newCore z (now (part .entry)))) ⌝ }
+    ensures { λ v. ⌜ v ≡ verdictOf (replaceOk rules (scratchLent (r .shape) 6 scratch)
+        (keptOf r (now (source .entry)) (now (weights .entry)) (now (chain .entry)) (now (carries .entry)) (now (sums .entry)))
+        (newCore z (now (part .entry)))) ⌝ }
 {
     let s = r.shape;
-    let ranks = r.ranks;
-    let l = crate::found::Lengths {
+    let bonds = r.bonds;
+    let l = runform::Lengths {
         source: source.len(),
         weights: weights.len(),
         chain: chain.len(),
         carries: carries.len(),
         sums: sums.len(),
     };
-    let found = crate::found::found_ok(s, ranks, z, l);
+    let found = crate::found::found_ok(s, bonds, z, l);
     if let answers::Verdict::Refused(q) = found {
         return answers::Verdict::Refused(q);
     }
     if part.len() != s.core_size(z) {
         return answers::Verdict::Refused(answers::Refusal::Length(5));
     }
-    if scratch != 4 * s.entries() + checks::SCRATCH_BESIDE {
+    if scratch != shape::SCRATCH_TIMES * s.entries() + shape::SCRATCH_BESIDE {
         return answers::Verdict::Refused(answers::Refusal::Length(6));
     }
     let finite = lists::all_finite(part);

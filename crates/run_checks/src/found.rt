@@ -5,28 +5,18 @@ ghost use Prim.Native.Nat.{ℕ, _≤_, _<_};
 ghost use lib.Dec.{eqb};
 ghost use lib.ListN.{length};
 ghost use Rattle.answers.specs.declared.Refusal.the-variants.{Number, Setting};
-ghost use Rattle.answers.specs.Outcome.{verdictOf, _then_, demand, demandEach};
+ghost use Rattle.answers.specs.Outcome.{verdictOf, done, _then_, demand, demandEach};
 ghost use Rattle.lists.specs.Lists.{pick, firstNot};
-ghost use Rattle.lists.specs.Slots.{offset};
-ghost use Rattle.shape.specs.Shapes.{entriesOf, allPoints};
-ghost use Rattle.shape.specs.Sizes.{SizesWithin, Inside};
-ghost use Rattle.cutform.specs.Keeping.{carrySize};
-ghost use Rattle.sumform.specs.Sums.{sumSize};
-ghost use Rattle.run_checks.specs.Slices.{lentBy, foundBy, madeFinite, heldFinite};
-
-// The lengths of a run's slices.
-pub struct Lengths {
-    pub source: usize,
-    pub weights: usize,
-    pub chain: usize,
-    pub carries: usize,
-    pub sums: usize,
-}
+ghost use Rattle.shape.specs.Shapes.{shapeOk, entriesOf, allPoints};
+ghost use Rattle.shape.specs.Sizes.{SizesWithin};
+ghost use Rattle.runform.specs.Kept.{allCarries, allSums, lengthsIn};
+ghost use Rattle.runform.specs.Checks.{rankOk, lentFrom, madeFinite, heldFinite};
+ghost use Rattle.runform.specs.Requests.{foundOk};
 
 // Refusal 5 of a run's slices.
-pub fn lent(s: shape::Shape, l: Lengths) -> answers::Verdict
+pub fn lent(s: shape::Shape, l: runform::Lengths) -> answers::Verdict
     requires { ⌜ SizesWithin s ⌝ }
-    ensures { λ r. ⌜ r ≡ verdictOf (lentBy s (l .source) (l .weights) (l .chain) (l .carries) (l .sums)) ⌝ }
+    ensures { λ r. ⌜ r ≡ verdictOf (lentFrom s 0 (lengthsIn l)) ⌝ }
 {
     let entries = s.entries();
     if l.source != entries {
@@ -51,13 +41,13 @@ pub fn lent(s: shape::Shape, l: Lengths) -> answers::Verdict
 // Refusals 1 to 5 of a run and a zone of it.
 pub fn found_ok(
     s: shape::Shape,
-    ranks: [usize; shape::MOST_AXES],
+    bonds: [cutform::Bond; shape::MOST_AXES],
     z: usize,
-    l: Lengths,
+    l: runform::Lengths,
 ) -> answers::Verdict
-    ensures { λ r. ⌜ r ≡ verdictOf (foundBy s ranks z (l .source) (l .weights) (l .chain) (l .carries) (l .sums)) ⌝ }
+    ensures { λ r. ⌜ r ≡ verdictOf (foundOk s bonds z (lengthsIn l)) ⌝ }
 {
-    let shaped = crate::ranks::shape_ok(s, ranks);
+    let shaped = crate::ranks::shape_ok(s, bonds);
     if let answers::Verdict::Refused(r) = shaped {
         return answers::Verdict::Refused(r);
     }
@@ -99,18 +89,18 @@ pub fn first_bad_made(
 // The first zone of which a number is kept that isn't finite, or d.
 pub fn first_bad_held(
     s: shape::Shape,
-    t: shape::Shape,
+    bonds: [cutform::Bond; shape::MOST_AXES],
     chain: &[f64],
     carries: &[f64],
     sums: &[f64],
 ) -> usize
-    requires { ⌜ (SizesWithin s) × (Inside s t) ⌝ }
-    requires { ⌜ (entriesOf s ≤ length (now chain)) × (offset (carrySize s) (s .d) ≤ length (now carries)) × (offset (sumSize s) (s .d) ≤ length (now sums)) ⌝ }
-    ensures { λ r. ⌜ r ≡ firstNot (heldFinite s t (now (chain .entry)) (now (carries .entry)) (now (sums .entry))) (s .d) ⌝ }
+    requires { ⌜ (SizesWithin s) × (shapeOk s (rankOk s bonds) ≡ done tt) ⌝ }
+    requires { ⌜ (entriesOf s ≤ length (now chain)) × (allCarries s ≤ length (now carries)) × (allSums s ≤ length (now sums)) ⌝ }
+    ensures { λ r. ⌜ r ≡ firstNot (heldFinite s bonds (now (chain .entry)) (now (carries .entry)) (now (sums .entry))) (s .d) ⌝ }
 {
-    let core = crate::rooms::first_bad_core(s, t, chain);
-    let carry = crate::rooms::first_bad_carry(s, t, carries);
-    let sum = crate::rooms::first_bad_sum(s, t, sums);
+    let core = crate::rooms::first_bad_core(s, bonds, chain);
+    let carry = crate::rooms::first_bad_carry(s, bonds, carries);
+    let sum = crate::rooms::first_bad_sum(s, bonds, sums);
     let other = least(carry, sum);
     least(core, other)
 }

@@ -4,7 +4,7 @@ ghost use Rattle.answers.specs.Outcome.{verdictOf};
 ghost use Rattle.stepform.specs.Zones.{rules};
 ghost use Rattle.runform.specs.Kept.{keptOf};
 ghost use Rattle.runform.specs.Requests.{newAxis, replaceOk};
-ghost use Rattle.run_checks.specs.Asking.{scratchOf};
+ghost use Rattle.runform.specs.Checks.{scratchLent};
 
 pub fn axis_ok(
     r: runform::Run,
@@ -17,22 +17,24 @@ pub fn axis_ok(
     sums: &[f64],
     scratch: usize,
 ) -> answers::Verdict
-    ensures { λ v. ⌜ v ≡ verdictOf (replaceOk rules (scratchOf (r .shape) 5 scratch) (keptOf r (now (source .entry)) (now (weights .entry)) (now (chain .entry)) (now (carries .entry)) (now (sums .entry))) (newAxis z a)) ⌝ }
+    ensures { λ v. ⌜ v ≡ verdictOf (replaceOk rules (scratchLent (r .shape) 5 scratch)
+        (keptOf r (now (source .entry)) (now (weights .entry)) (now (chain .entry)) (now (carries .entry)) (now (sums .entry)))
+        (newAxis z a)) ⌝ }
 {
     let s = r.shape;
-    let ranks = r.ranks;
-    let l = crate::found::Lengths {
+    let bonds = r.bonds;
+    let l = runform::Lengths {
         source: source.len(),
         weights: weights.len(),
         chain: chain.len(),
         carries: carries.len(),
         sums: sums.len(),
     };
-    let found = crate::found::found_ok(s, ranks, z, l);
+    let found = crate::found::found_ok(s, bonds, z, l);
     if let answers::Verdict::Refused(q) = found {
         return answers::Verdict::Refused(q);
     }
-    if scratch != 4 * s.entries() + checks::SCRATCH_BESIDE {
+    if scratch != shape::SCRATCH_TIMES * s.entries() + shape::SCRATCH_BESIDE {
         return answers::Verdict::Refused(answers::Refusal::Length(5));
     }
     let finite = axes::axis_finite(a);

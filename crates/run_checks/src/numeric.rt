@@ -6,30 +6,9 @@ ghost use Rattle.answers.specs.Outcome.{verdictOf, done};
 ghost use Rattle.lists.specs.Lists.{firstNot};
 ghost use Rattle.shape.specs.Shapes.{shapeOk, entriesOf, allPoints};
 ghost use Rattle.shape.specs.Sizes.{SizesWithin};
-ghost use Rattle.run_checks.specs.Ranks.{rankHeld};
-ghost use Rattle.run_checks.specs.Slices.{lentBy};
-ghost use Rattle.runform.specs.Kept.{keptOf};
-ghost use Rattle.runform.specs.Checks.{loneFinite, loneOk};
-ghost use Rattle.run_checks.specs.Asking.{zoneFound, foundNumbers, madeNumbers};
-
-// The lone settings are finite.
-fn lone_finite(set: stepform::Settings) -> bool
-    ensures { λ r. ⌜ r ≡ loneFinite set ⌝ }
-{
-    let tau = numbers::is_finite(set.tau);
-    let c = numbers::is_finite(set.c);
-    let eps = numbers::is_finite(set.eps);
-    tau & (c & eps)
-}
-
-// tau and eps are not below zero.
-fn lone_ok(set: stepform::Settings) -> bool
-    ensures { λ r. ⌜ r ≡ loneOk set ⌝ }
-{
-    let tau = checks::not_below_zero(set.tau);
-    let eps = checks::not_below_zero(set.eps);
-    tau & eps
-}
+ghost use Rattle.runform.specs.Kept.{keptOf, lengthsOf};
+ghost use Rattle.runform.specs.Checks.{rankOk, lentFrom, madeOk};
+ghost use Rattle.runform.specs.Requests.{zoneFound, foundNumbers};
 
 // The first zone with a number that isn't finite, in what it is made from or in what is kept of it, or d.
 fn first_bad_number(
@@ -40,17 +19,17 @@ fn first_bad_number(
     carries: &[f64],
     sums: &[f64],
 ) -> usize
-    requires { ⌜ shapeOk (r .shape) (rankHeld (r .shape) (r .ranks)) ≡ done tt ⌝ }
-    requires { ⌜ lentBy (r .shape) (length (now source)) (length (now weights)) (length (now chain)) (length (now carries)) (length (now sums)) ≡ done tt ⌝ }
-    ensures { λ n. ⌜ n ≡ firstNot (zoneFound (keptOf r (now (source .entry)) (now (weights .entry)) (now (chain .entry)) (now (carries .entry)) (now (sums .entry)))) (r .shape .d) ⌝ }
+    requires { ⌜ shapeOk (r .shape) (rankOk (r .shape) (r .bonds)) ≡ done tt ⌝ }
+    requires { ⌜ lentFrom (r .shape) 0 (lengthsOf (keptOf r (now source) (now weights) (now chain) (now carries) (now sums))) ≡ done tt ⌝ }
+    ensures { λ n. ⌜ n ≡ firstNot (zoneFound
+        (keptOf r (now (source .entry)) (now (weights .entry)) (now (chain .entry)) (now (carries .entry)) (now (sums .entry)))) (r .shape .d) ⌝ }
 {
     let s = r.shape;
     let xs = r.axes;
-    let ranks = r.ranks;
+    let bonds = r.bonds;
     let d = s.d;
-    let t = crate::ranks::kept_shape(s, ranks);
     let made = crate::found::first_bad_made(s, xs, source, weights);
-    let held = crate::found::first_bad_held(s, t, chain, carries, sums);
+    let held = crate::found::first_bad_held(s, bonds, chain, carries, sums);
     crate::found::either(made, held, d)
 }
 
@@ -66,9 +45,10 @@ pub fn numbers_found(
     carries: &[f64],
     sums: &[f64],
 ) -> answers::Verdict
-    requires { ⌜ (z < r .shape .d) × (shapeOk (r .shape) (rankHeld (r .shape) (r .ranks)) ≡ done tt) ⌝ }
-    requires { ⌜ lentBy (r .shape) (length (now source)) (length (now weights)) (length (now chain)) (length (now carries)) (length (now sums)) ≡ done tt ⌝ }
-    ensures { λ v. ⌜ v ≡ verdictOf (foundNumbers (keptOf r (now (source .entry)) (now (weights .entry)) (now (chain .entry)) (now (carries .entry)) (now (sums .entry))) z part axis) ⌝ }
+    requires { ⌜ (z < r .shape .d) × (shapeOk (r .shape) (rankOk (r .shape) (r .bonds)) ≡ done tt) ⌝ }
+    requires { ⌜ lentFrom (r .shape) 0 (lengthsOf (keptOf r (now source) (now weights) (now chain) (now carries) (now sums))) ≡ done tt ⌝ }
+    ensures { λ v. ⌜ v ≡ verdictOf (foundNumbers
+        (keptOf r (now (source .entry)) (now (weights .entry)) (now (chain .entry)) (now (carries .entry)) (now (sums .entry))) z part axis) ⌝ }
 {
     let s = r.shape;
     let xs = r.axes;
@@ -78,9 +58,9 @@ pub fn numbers_found(
     let number = crate::found::with_part(first, part, z, d);
     let below = checks::settings::first_below_zero(d, xs);
     let setting = crate::found::with_part(below, axis, z, d);
-    let lone = lone_finite(set);
+    let lone = checks::settings::lone_finite(set);
     let figure = numbers::is_finite(r.figure);
-    let mild = lone_ok(set);
+    let mild = checks::settings::lone_ok(set);
     crate::found::numbers_ok(lone & figure, number, mild, setting, d)
 }
 
@@ -94,12 +74,13 @@ pub fn numbers_made(
 ) -> answers::Verdict
     requires { ⌜ SizesWithin s ⌝ }
     requires { ⌜ (entriesOf s ≤ length (now source)) × (allPoints s ≤ length (now weights)) ⌝ }
-    ensures { λ v. ⌜ v ≡ verdictOf (madeNumbers (record { shape = s; axes = xs; set = set; source = now (source .entry); weights = now (weights .entry) })) ⌝ }
+    ensures { λ v. ⌜ v ≡ verdictOf (madeOk
+        (record { shape = s; axes = xs; set = set; source = now (source .entry); weights = now (weights .entry) })) ⌝ }
 {
     let d = s.d;
     let number = crate::found::first_bad_made(s, xs, source, weights);
     let setting = checks::settings::first_below_zero(d, xs);
-    let lone = lone_finite(set);
-    let mild = lone_ok(set);
+    let lone = checks::settings::lone_finite(set);
+    let mild = checks::settings::lone_ok(set);
     crate::found::numbers_ok(lone, number, mild, setting, d)
 }

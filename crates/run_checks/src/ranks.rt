@@ -6,28 +6,30 @@ ghost use Rattle.answers.specs.Outcome.{verdictOf};
 ghost use Rattle.lists.specs.Lists.{firstNot};
 ghost use Rattle.shape.specs.Limits.{mostAxes};
 ghost use Rattle.shape.specs.Shapes.{bondOk, shapeOk};
-ghost use Rattle.run_checks.specs.Ranks.{rankHeld, leftHeld, rightHeld, Ranked};
+ghost use Rattle.runform.specs.Kept.{leftHeld, rightHeld};
+ghost use Rattle.runform.specs.Checks.{rankOk};
+ghost use Rattle.run_checks.specs.Ranks.{Ranked};
 
 // Whether the kept rank of bond k is at least 1 and at most its source's; right of the last core there is none.
-fn rank_ok(s: shape::Shape, ranks: [usize; shape::MOST_AXES], k: usize) -> bool
+fn rank_ok(s: shape::Shape, bonds: [cutform::Bond; shape::MOST_AXES], k: usize) -> bool
     requires { ⌜ (k < s .d) × (s .d ≤ mostAxes) ⌝ }
-    ensures { λ r. ⌜ r ≡ rankHeld s ranks k ⌝ }
+    ensures { λ r. ⌜ r ≡ rankOk s bonds k ⌝ }
 {
     if k + 1 < s.d {
-        return shape::within(s.right[k], ranks[k]);
+        return shape::within(s.right[k], bonds[k].rank);
     }
     true
 }
 
 // The first core whose bond, or its kept rank, does not hold, or d.
-fn first_bad_bond(s: shape::Shape, ranks: [usize; shape::MOST_AXES]) -> usize
+fn first_bad_bond(s: shape::Shape, bonds: [cutform::Bond; shape::MOST_AXES]) -> usize
     requires { ⌜ s .d ≤ mostAxes ⌝ }
-    ensures { λ r. ⌜ r ≡ firstNot (λ (k : ℕ). bondOk s k && rankHeld s ranks k) (s .d) ⌝ }
+    ensures { λ r. ⌜ r ≡ firstNot (λ (k : ℕ). bondOk s k && rankOk s bonds k) (s .d) ⌝ }
 {
     let mut k = 0;
     while k < s.d {
         let joined = s.bond_ok(k);
-        let kept = rank_ok(s, ranks, k);
+        let kept = rank_ok(s, bonds, k);
         if !(joined & kept) {
             return k;
         }
@@ -37,8 +39,8 @@ fn first_bad_bond(s: shape::Shape, ranks: [usize; shape::MOST_AXES]) -> usize
 }
 
 // Refusals 1 to 3, of a shape and the ranks that are kept of it.
-pub fn shape_ok(s: shape::Shape, ranks: [usize; shape::MOST_AXES]) -> answers::Verdict
-    ensures { λ r. ⌜ r ≡ verdictOf (shapeOk s (rankHeld s ranks)) ⌝ }
+pub fn shape_ok(s: shape::Shape, bonds: [cutform::Bond; shape::MOST_AXES]) -> answers::Verdict
+    ensures { λ r. ⌜ r ≡ verdictOf (shapeOk s (rankOk s bonds)) ⌝ }
 {
     let d = s.d;
     if !shape::within(shape::MOST_AXES, d) {
@@ -51,42 +53,43 @@ pub fn shape_ok(s: shape::Shape, ranks: [usize; shape::MOST_AXES]) -> answers::V
     if s.left[0] != 1 {
         return answers::Verdict::Refused(answers::Refusal::Bond(0));
     }
-    let bond = first_bad_bond(s, ranks);
+    let bond = first_bad_bond(s, bonds);
     if bond < d {
         return answers::Verdict::Refused(answers::Refusal::Bond(bond));
     }
     answers::Verdict::Fits
 }
 
-fn left_rank(ranks: [usize; shape::MOST_AXES], k: usize) -> usize
+// The kept ranks left and right of core k.
+pub fn left_rank(bonds: [cutform::Bond; shape::MOST_AXES], k: usize) -> usize
     requires { ⌜ k < mostAxes ⌝ }
-    ensures { λ r. ⌜ r ≡ leftHeld ranks k ⌝ }
+    ensures { λ r. ⌜ r ≡ leftHeld bonds k ⌝ }
 {
     if k < 1 {
         return 1;
     }
-    ranks[k - 1]
+    bonds[k - 1].rank
 }
 
-fn right_rank(s: shape::Shape, ranks: [usize; shape::MOST_AXES], k: usize) -> usize
+pub fn right_rank(s: shape::Shape, bonds: [cutform::Bond; shape::MOST_AXES], k: usize) -> usize
     requires { ⌜ (k < s .d) × (s .d ≤ mostAxes) ⌝ }
-    ensures { λ r. ⌜ r ≡ rightHeld s ranks k ⌝ }
+    ensures { λ r. ⌜ r ≡ rightHeld s bonds k ⌝ }
 {
     if k + 1 < s.d {
-        return ranks[k];
+        return bonds[k].rank;
     }
     s.right[k]
 }
 
 // The shape of the chain that is kept: s with the kept ranks.
-pub fn kept_shape(s: shape::Shape, ranks: [usize; shape::MOST_AXES]) -> shape::Shape
+pub fn kept_shape(s: shape::Shape, bonds: [cutform::Bond; shape::MOST_AXES]) -> shape::Shape
     requires { ⌜ s .d ≤ mostAxes ⌝ }
-    ensures { λ t. ⌜ Ranked s ranks t (s .d) ⌝ }
+    ensures { λ t. ⌜ Ranked s bonds t (s .d) ⌝ }
 {
     let mut t = s;
     let mut k = 0;
     while k < s.d {
-        t = t.with_core(k, left_rank(ranks, k), right_rank(s, ranks, k));
+        t = t.with_core(k, left_rank(bonds, k), right_rank(s, bonds, k));
         k += 1;
     }
     t

@@ -3,16 +3,15 @@ ghost use mathlib.Core.Path.{_≡_};
 ghost use Prim.Native.Nat.{_+_, _-_, _≤_, _<_};
 ghost use lib.ListN.{length, take, drop};
 ghost use Rattle.answers.specs.declared.Refusal.the-variants.{Reach};
-ghost use Rattle.answers.specs.Outcome.{verdictOf, demandEach};
+ghost use Rattle.answers.specs.Outcome.{verdictOf, done, demandEach};
 ghost use Rattle.lists.specs.Lists.{firstNot};
-ghost use Rattle.lists.specs.Slots.{offset};
 ghost use Rattle.lists.specs.Floats.{allFinite};
-ghost use Rattle.shape.specs.Shapes.{entriesOf};
-ghost use Rattle.shape.specs.Sizes.{PointsWithin, SizesWithin, Inside};
-ghost use Rattle.cutform.specs.Keeping.{carrySize};
-ghost use Rattle.sumform.specs.Sums.{sumSize};
-ghost use Rattle.checks.specs.Over.{axisReaches};
-ghost use Rattle.run_checks.specs.Rooms.{coreHeld, carryHeld, sumsHeld, reachFrom};
+ghost use Rattle.shape.specs.Shapes.{shapeOk, entriesOf};
+ghost use Rattle.shape.specs.Sizes.{PointsWithin, SizesWithin};
+ghost use Rattle.stepform.specs.Call.{axisReaches};
+ghost use Rattle.runform.specs.Kept.{allCarries, allSums};
+ghost use Rattle.runform.specs.Checks.{rankOk, coreHeld, carryHeld, sumsHeld};
+ghost use Rattle.run_checks.specs.Reach.{reachFrom};
 
 // Whether the numbers at the front of what begins at `at` are all finite.
 fn front_finite(l: &[f64], at: usize, used: usize) -> bool
@@ -23,23 +22,28 @@ fn front_finite(l: &[f64], at: usize, used: usize) -> bool
     lists::all_finite(&l[at..end])
 }
 
-fn core_held(s: shape::Shape, t: shape::Shape, chain: &[f64], k: usize) -> bool
-    requires { ⌜ (SizesWithin s) × (Inside s t) × (k < s .d) × (entriesOf s ≤ length (now chain)) ⌝ }
-    ensures { λ r. ⌜ r ≡ coreHeld s t (now (chain .entry)) k ⌝ }
+fn core_held(s: shape::Shape, bonds: [cutform::Bond; shape::MOST_AXES], chain: &[f64], k: usize) -> bool
+    requires { ⌜ (SizesWithin s) × (shapeOk s (rankOk s bonds) ≡ done tt) × (k < s .d) × (entriesOf s ≤ length (now chain)) ⌝ }
+    ensures { λ r. ⌜ r ≡ coreHeld s bonds (now (chain .entry)) k ⌝ }
 {
     let at = s.offset(k);
-    let used = t.core_size(k);
-    front_finite(chain, at, used)
+    let left = crate::ranks::left_rank(bonds, k);
+    let right = crate::ranks::right_rank(s, bonds, k);
+    front_finite(chain, at, left * s.n[k] * right)
 }
 
 // The first core that is kept with a number that isn't finite, or d.
-pub fn first_bad_core(s: shape::Shape, t: shape::Shape, chain: &[f64]) -> usize
-    requires { ⌜ (SizesWithin s) × (Inside s t) × (entriesOf s ≤ length (now chain)) ⌝ }
-    ensures { λ r. ⌜ r ≡ firstNot (coreHeld s t (now (chain .entry))) (s .d) ⌝ }
+pub fn first_bad_core(
+    s: shape::Shape,
+    bonds: [cutform::Bond; shape::MOST_AXES],
+    chain: &[f64],
+) -> usize
+    requires { ⌜ (SizesWithin s) × (shapeOk s (rankOk s bonds) ≡ done tt) × (entriesOf s ≤ length (now chain)) ⌝ }
+    ensures { λ r. ⌜ r ≡ firstNot (coreHeld s bonds (now (chain .entry))) (s .d) ⌝ }
 {
     let mut k = 0;
     while k < s.d {
-        if !core_held(s, t, chain, k) {
+        if !core_held(s, bonds, chain, k) {
             return k;
         }
         k += 1;
@@ -47,26 +51,35 @@ pub fn first_bad_core(s: shape::Shape, t: shape::Shape, chain: &[f64]) -> usize
     k
 }
 
-fn carry_held(s: shape::Shape, t: shape::Shape, carries: &[f64], k: usize) -> bool
-    requires { ⌜ (SizesWithin s) × (Inside s t) × (k < s .d) × (offset (carrySize s) (s .d) ≤ length (now carries)) ⌝ }
-    ensures { λ r. ⌜ r ≡ carryHeld s t (now (carries .entry)) k ⌝ }
+fn carry_held(
+    s: shape::Shape,
+    bonds: [cutform::Bond; shape::MOST_AXES],
+    carries: &[f64],
+    k: usize,
+) -> bool
+    requires { ⌜ (SizesWithin s) × (shapeOk s (rankOk s bonds) ≡ done tt) × (k < s .d) × (allCarries s ≤ length (now carries)) ⌝ }
+    ensures { λ r. ⌜ r ≡ carryHeld s bonds (now (carries .entry)) k ⌝ }
 {
     if k + 1 < s.d {
         let at = cuts::carry_offset(s, k);
-        let used = t.right[k] * s.right[k];
+        let used = bonds[k].rank * s.right[k];
         return front_finite(carries, at, used);
     }
     true
 }
 
 // The first bond whose carry has a number that isn't finite, or d.
-pub fn first_bad_carry(s: shape::Shape, t: shape::Shape, carries: &[f64]) -> usize
-    requires { ⌜ (SizesWithin s) × (Inside s t) × (offset (carrySize s) (s .d) ≤ length (now carries)) ⌝ }
-    ensures { λ r. ⌜ r ≡ firstNot (carryHeld s t (now (carries .entry))) (s .d) ⌝ }
+pub fn first_bad_carry(
+    s: shape::Shape,
+    bonds: [cutform::Bond; shape::MOST_AXES],
+    carries: &[f64],
+) -> usize
+    requires { ⌜ (SizesWithin s) × (shapeOk s (rankOk s bonds) ≡ done tt) × (allCarries s ≤ length (now carries)) ⌝ }
+    ensures { λ r. ⌜ r ≡ firstNot (carryHeld s bonds (now (carries .entry))) (s .d) ⌝ }
 {
     let mut k = 0;
     while k < s.d {
-        if !carry_held(s, t, carries, k) {
+        if !carry_held(s, bonds, carries, k) {
             return k;
         }
         k += 1;
@@ -74,22 +87,27 @@ pub fn first_bad_carry(s: shape::Shape, t: shape::Shape, carries: &[f64]) -> usi
     k
 }
 
-fn sums_held(s: shape::Shape, t: shape::Shape, sums: &[f64], k: usize) -> bool
-    requires { ⌜ (SizesWithin s) × (Inside s t) × (k < s .d) × (offset (sumSize s) (s .d) ≤ length (now sums)) ⌝ }
-    ensures { λ r. ⌜ r ≡ sumsHeld s t (now (sums .entry)) k ⌝ }
+fn sums_held(s: shape::Shape, bonds: [cutform::Bond; shape::MOST_AXES], sums: &[f64], k: usize) -> bool
+    requires { ⌜ (SizesWithin s) × (shapeOk s (rankOk s bonds) ≡ done tt) × (k < s .d) × (allSums s ≤ length (now sums)) ⌝ }
+    ensures { λ r. ⌜ r ≡ sumsHeld s bonds (now (sums .entry)) k ⌝ }
 {
     let at = product::sums::sum_offset(s, k);
-    front_finite(sums, at, t.right[k])
+    let used = crate::ranks::right_rank(s, bonds, k);
+    front_finite(sums, at, used)
 }
 
 // The first axis whose sums have a number that isn't finite, or d.
-pub fn first_bad_sum(s: shape::Shape, t: shape::Shape, sums: &[f64]) -> usize
-    requires { ⌜ (SizesWithin s) × (Inside s t) × (offset (sumSize s) (s .d) ≤ length (now sums)) ⌝ }
-    ensures { λ r. ⌜ r ≡ firstNot (sumsHeld s t (now (sums .entry))) (s .d) ⌝ }
+pub fn first_bad_sum(
+    s: shape::Shape,
+    bonds: [cutform::Bond; shape::MOST_AXES],
+    sums: &[f64],
+) -> usize
+    requires { ⌜ (SizesWithin s) × (shapeOk s (rankOk s bonds) ≡ done tt) × (allSums s ≤ length (now sums)) ⌝ }
+    ensures { λ r. ⌜ r ≡ firstNot (sumsHeld s bonds (now (sums .entry))) (s .d) ⌝ }
 {
     let mut k = 0;
     while k < s.d {
-        if !sums_held(s, t, sums, k) {
+        if !sums_held(s, bonds, sums, k) {
             return k;
         }
         k += 1;

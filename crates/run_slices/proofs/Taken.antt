@@ -14,7 +14,7 @@ use Rattle.shape.specs.declared.Shape.{Shape}
 use Rattle.shape.specs.Sizes.{SizesWithin}
 use Rattle.sumform.specs.Sums.{sumSize}
 use Rattle.product.proofs.Slotted.{sum-size, sums-most}
-use Rattle.run_slices.specs.Slices.{Beside, over}
+use Rattle.run_slices.specs.Slices.{Beside, overFrom}
 
 module _ (size : ℕ → ℕ) (z d : ℕ) where
   -- left of zone 0 there is none
@@ -67,8 +67,8 @@ module _ (size : ℕ → ℕ) (z d : ℕ) where
 pub slot-starts : (size : ℕ → ℕ) (z d : ℕ) → z ≤ d → (at : ℕ) → at ≡ offset size z → (n : ℕ) → n ≡ offset size d → at ≤ n
 slot-starts size z d le at e n h = omega (arith, offset-mono size z d le)
 
-pub over-at : (at n : ℕ) → at ≡ n → (l w l' : List Float) → l' ≡ over at l w → l' ≡ over n l w
-over-at at n e l w l' f = f ∙ ap (λ (j : ℕ). over j l w) e
+pub over-at : (at n : ℕ) → at ≡ n → (l w l' : List Float) → l' ≡ overFrom at l w → l' ≡ overFrom n l w
+over-at at n e l w l' f = f ∙ ap (λ (j : ℕ). overFrom j l w) e
 
 -- the figure stands first in the last slot
 module _ (s : Shape) (w : SizesWithin s) (last : ℕ) (e : last ≡ offset (sumSize s) (s .d - 1)) (n m : ℕ) (h : n ≡ offset (sumSize s) (s .d)) (l : n ≤ m) where

@@ -12,5 +12,5 @@ Beside size zero l l' = Unit {0}
 Beside size (suc k) l l' = slot size k l' ≡ slot size k l
 
 -- l with what w holds from place `at` on
-abbrev pub over : ℕ → List Float → List Float → List Float
-over at l w = take at l ++ drop at (take (length l) w)
+abbrev pub overFrom : ℕ → List Float → List Float → List Float
+overFrom at l w = take at l ++ drop at (take (length l) w)

@@ -3,12 +3,12 @@ ghost use mathlib.Core.Path.{_≡_};
 ghost use mathlib.Core.List.{_++_};
 ghost use Prim.Native.Nat.{_+_, _≤_};
 ghost use lib.ListN.{length, take, drop};
-ghost use Rattle.run_slices.specs.Slices.{over};
+ghost use Rattle.run_slices.specs.Slices.{overFrom};
 
 // What stands in `from` from `at` on, as far as `to` goes; what stands before is not written.
 pub fn copy_from(at: usize, from: &[f64], to: &mut [f64])
     requires { ⌜ (at ≤ length (now to)) × (length (now to) ≤ length (now from)) ⌝ }
-    ensures { λ _. ⌜ now (to .exit) ≡ over at (now (to .entry)) (now (from .entry)) ⌝ }
+    ensures { λ _. ⌜ now (to .exit) ≡ overFrom at (now (to .entry)) (now (from .entry)) ⌝ }
 {
     let end = to.len();
     lists::copy(&from[at..end], &mut to[at..end]);

@@ -9,7 +9,7 @@ ghost use Rattle.shape.specs.Shapes.{coreSize, entriesOf};
 ghost use Rattle.shape.specs.Sizes.{SizesWithin};
 ghost use Rattle.cutform.specs.Keeping.{carrySize};
 ghost use Rattle.sumform.specs.Sums.{sumSize};
-ghost use Rattle.run_slices.specs.Slices.{Beside, over};
+ghost use Rattle.run_slices.specs.Slices.{Beside, overFrom};
 
 // The carry left of zone z, in its slot of held; left of zone 0 there is none.
 pub fn take_carry(z: usize, s: shape::Shape, carries: &[f64], held: &mut [f64])
@@ -54,9 +54,9 @@ pub fn commit(
     requires { ⌜ (length (now chain) ≡ entriesOf s) × (length (now carries) ≡ offset (carrySize s) (s .d)) × (length (now sums) ≡ offset (sumSize s) (s .d)) ⌝ }
     requires { ⌜ (length (now chain) ≤ length (now work)) × (length (now carries) ≤ length (now held)) × (length (now sums) ≤ length (now summed)) ⌝ }
     ensures { λ f. ⌜ (f ≡ at (now (summed .entry)) (offset (sumSize s) (s .d - 1)))
-        × (now (chain .exit) ≡ over (offset (coreSize s) z) (now (chain .entry)) (now (work .entry)))
-        × (now (carries .exit) ≡ over (offset (carrySize s) z) (now (carries .entry)) (now (held .entry)))
-        × (now (sums .exit) ≡ over (offset (sumSize s) z) (now (sums .entry)) (now (summed .entry))) ⌝ }
+        × (now (chain .exit) ≡ overFrom (offset (coreSize s) z) (now (chain .entry)) (now (work .entry)))
+        × (now (carries .exit) ≡ overFrom (offset (carrySize s) z) (now (carries .entry)) (now (held .entry)))
+        × (now (sums .exit) ≡ overFrom (offset (sumSize s) z) (now (sums .entry)) (now (summed .entry))) ⌝ }
 {
     let core = s.offset(z);
     let carry = cuts::carry_offset(s, z);

@@ -1,17 +1,20 @@
--- The work from zone z on is refused with 9 alone: no refusal of it leaves scratch unwritten. Assumes nothing.
+-- The work from zone z on refuses late: no refusal of it leaves scratch unwritten. Assumes nothing.
 use Prim.Native.Nat.{ℕ}
 use mathlib.Core.List.{List}
 use lib.Ieee.{Float}
 use Rattle.answers.specs.declared.Part.the-variants.{Sum}
+use Rattle.answers.specs.Table.{Late}
+use Rattle.answers.proofs.Late.{late-done, late-making, late-bind}
 use Rattle.lists.specs.Walks.{walk}
 use Rattle.lists.specs.Floats.{stored}
+use Rattle.lists.proofs.Late.{late-walk}
 use Rattle.shape.specs.Cores.{Core}
 use Rattle.sumform.specs.Contract.{contract}
 use Rattle.sumform.specs.Product.{contractAt}
 use Rattle.cutform.specs.Keeping.{keepStep}
 use Rattle.stepform.specs.Zones.{rules}
 use Rattle.stepform.specs.Steps.{stepFrom}
-use Rattle.steps.proofs.Late.{Late, late-done, late-making, late-bind, late-walk, late-from}
+use Rattle.steps.proofs.Late.{late-from}
 use Rattle.runform.specs.Kept.{Kept, running, zonesFrom, carryAt, sumsAt, weighedFrom}
 use Rattle.runform.specs.Work.{keepSums, sumZone, restep, resum, sumFrom, workFrom}
 

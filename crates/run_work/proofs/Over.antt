@@ -26,13 +26,14 @@ use Rattle.shape.proofs.Shaped.{Shaped}
 use Rattle.cutform.specs.Rounding.{Carry, some, Cut, numbersIn}
 use Rattle.cutform.specs.Keeping.{Stepped, carrySize, rankAt, keepStep}
 use Rattle.sumform.specs.Sums.{sumSize}
-use Rattle.stepform.specs.Zones.{zone, axisAt, rules}
+use Rattle.stepform.specs.Axes.{axisAt}
+use Rattle.stepform.specs.Zones.{zone, rules}
 use Rattle.stepform.specs.Steps.{stepFrom}
 use Rattle.stepform.proofs.Restart.{step-length}
 use Rattle.run_slices.proofs.Committed.{committed-from}
-use Rattle.runform.specs.Kept.{Inputs, Summed, Kept, running, allCarries, allSums, zoneAt, zonesFrom, leftRank, rightRank, keptCore, carryAt, sumsAt, weighedAt, weighedFrom}
+use Rattle.runform.specs.Kept.{Inputs, Summed, Kept, running, allCarries, allSums, zoneAt, zonesFrom, leftRank, rightRank, heldCore, keptCore, carryAt, sumsAt, weighedAt, weighedFrom}
 use Rattle.runform.specs.Work.{keepSums, sumZone, restep, resum, sumFrom, workFrom}
-use Rattle.run_slices.specs.Slices.{Beside, over}
+use Rattle.run_slices.specs.Slices.{Beside, overFrom}
 use Rattle.run_work.specs.InPlace.{inPlace, summedIn, Memory, steppedOver, summedOver}
 
 abbrev Traces : Type 0
@@ -118,7 +119,7 @@ module _ (i : Inputs) (shp : Shaped (i .shape)) (h : Stepped) (u : Summed) (z : 
     left-same (suc k) = refl
 
     core-same : (k : ℕ) → z ≤ k → k < i .shape .d → keptCore (i .shape) new k ≡ keptCore (i .shape) new' k
-    unfolding keptCore keepStep
+    unfolding heldCore keepStep
     core-same k ge lt =
         let f : Carry × Cut → List Float = λ x. x .1 .core .entries in
         let n = pointsOf s k in
@@ -191,11 +192,11 @@ module _ (i : Inputs) (shp : Shaped (i .shape)) (h : Stepped) (u : Summed) (z : 
         let ranks : new (x .0) (n .0) .ranks ≡ t .ranks = ap (λ (y : Stepped). y .ranks) p in
         let sweeps : new (x .0) (n .0) .sweeps ≡ t .sweeps = ap (λ (y : Stepped). y .sweeps) p in
         let settled : new (x .0) (n .0) .settled ≡ t .settled = ap (λ (y : Stepped). y .settled) p in
-        let chain : new (x .0) (n .0) .chain ≡ over a (h .chain) (t .chain) =
+        let chain : new (x .0) (n .0) .chain ≡ overFrom a (h .chain) (t .chain) =
         sym (committed-from (coreSize s) z a core-at zero64 (s .d) (map f (x .0)) nf (h .chain) work (t .chain) (M .chain-long) (M .cores) (ap (λ (y : Stepped). take (entriesOf s) (y .chain)) (sym p))) in
-        let held : new (x .0) (n .0) .carries ≡ over b (h .carries) (t .carries) =
+        let held : new (x .0) (n .0) .carries ≡ overFrom b (h .carries) (t .carries) =
         sym (committed-from (carrySize s) z b carry-at zero64 (s .d) (map m (x .0)) nm (h .carries) carries (t .carries) (M .carries-long) (M .carried) (ap (λ (y : Stepped). take (allCarries s) (y .carries)) (sym p))) in
-        let summed : keepSums s z (x .1) u .sums ≡ over c (u .sums) sums' =
+        let summed : keepSums s z (x .1) u .sums ≡ overFrom c (u .sums) sums' =
         sym (committed-from (sumSize s) z c sum-at zero64 (s .d) (map e (x .1)) ne (u .sums) sums sums' (M .sums-long) (M .summed) (ap (take (allSums s)) (sym q))) in
         let figure : keepSums s z (x .1) u .figure ≡ at sums' (offset (sumSize s) (s .d - 1)) = figure-same (map e (x .1)) ne ∙ ap (λ (l : List Float). at l (offset (sumSize s) (s .d - 1))) q in
         run-same ranks sweeps settled chain held summed figure

@@ -14,11 +14,11 @@ use Rattle.answers.specs.Outcome.{answered}
 use Rattle.lists.specs.Slots.{offset, put}
 use Rattle.lists.proofs.Slots.{offset-suc, offset-mono, put-length}
 use Rattle.shape.specs.declared.Shape.{Shape}
-use Rattle.shape.specs.Limits.{mostAxes, mostRank}
+use Rattle.shape.specs.Limits.{mostSums}
 use Rattle.shape.specs.Shapes.{pointSize, allPoints, entriesOf}
 use Rattle.shape.specs.Sizes.{SizesWithin, Inside}
 use Rattle.sumform.specs.Sums.{sumSize, sumsFrom}
-use Rattle.product.specs.Lent.{Stands}
+use Rattle.product.specs.Lent.{SumsStand}
 use Rattle.product.proofs.Slotted.{sum-size, sums-most}
 use Rattle.run_slices.proofs.Committed.{put-slot}
 
@@ -66,11 +66,11 @@ module _ (s t : Shape) (z : ℕ) (chain weights sums a x u : List Float) (f : x 
       ∙ e
       ∙ ap (answered v) (sym (take-at u (drop (length sums - 0) x) (length sums) (n ∙ ap length front-held)))
 
-pub sums-fit : (s : Shape) → SizesWithin s → (n : ℕ) → n ≡ offset (sumSize s) (s .d) → n ≤ mostAxes * mostRank
+pub sums-fit : (s : Shape) → SizesWithin s → (n : ℕ) → n ≡ offset (sumSize s) (s .d) → n ≤ mostSums
 sums-fit s w n e = omega (arith, sums-most s w (s .d) (omega arith))
 
 -- what the sums ask
-pub stands : (s t : Shape) (z : ℕ) (chain weights part w : List Float) → SizesWithin s → Inside s t → entriesOf s ≤ length chain → z < s .d → length part ≡ pointSize s z → length weights ≡ allPoints s → w ≡ put (pointSize s) z part weights → Stands s t chain w
+pub stands : (s t : Shape) (z : ℕ) (chain weights part w : List Float) → SizesWithin s → Inside s t → entriesOf s ≤ length chain → z < s .d → length part ≡ pointSize s z → length weights ≡ allPoints s → w ≡ put (pointSize s) z part weights → SumsStand s t chain w
 stands s t z chain weights part w a b c lt p e f =
     let n = put-length (pointSize s) z part weights p (omega (arith, offset-mono (pointSize s) (suc z) (s .d) lt)) in
     record { within = a; inside = b; cores = c; points = le-of-eq (sym (ap length f ∙ n ∙ e)) }

@@ -29,7 +29,7 @@ use Rattle.runform.proofs.Rules.{rules-sound}
 use Rattle.runform.proofs.Held.{no-cut}
 use Rattle.runform.proofs.Before.{Roomy, rank-before}
 use Rattle.run_work.specs.InPlace.{RanksWithin}
-use Rattle.run_work.proofs.Writes.{slot-written}
+use Rattle.lists.proofs.Written.{slot-written}
 
 module _ (i : Inputs) (shp : Shaped (i .shape)) where
   abbrev s : Shape

@@ -13,6 +13,7 @@ use Rattle.answers.specs.Outcome.{answered}
 use Rattle.lists.specs.Slots.{offset}
 use Rattle.lists.specs.Floats.{at}
 use Rattle.shape.specs.declared.Shape.{Shape}
+use Rattle.shape.specs.Limits.{mostCarries, mostSums}
 use Rattle.shape.specs.Shapes.{coreSize, entriesOf}
 use Rattle.shape.specs.Sizes.{SizesWithin}
 use Rattle.shape.proofs.Shaped.{Shaped, shaped}
@@ -27,38 +28,38 @@ use Rattle.runform.specs.declared.Run.{Run}
 use Rattle.runform.specs.declared.Ran.{Ran}
 use Rattle.runform.specs.Kept.{Kept, keptOf, allCarries, allSums}
 use Rattle.runform.specs.Work.{workFrom}
-use Rattle.run_slices.specs.Slices.{Beside, over}
+use Rattle.run_slices.specs.Slices.{Beside, overFrom}
 use Rattle.run_work.specs.InPlace.{inPlace, heldIn, Steps, Sums, Memory}
 use Rattle.run_work.proofs.Over.{work-over}
-use Rattle.run_work.specs.Renewed.{SourcesFrom, Asked, Renewed, walkedOf, runWith}
+use Rattle.run_work.specs.Renewed.{SourcesFrom, RenewAsks, Renewed, walkedOf, runWith}
 
-module _ (r : Run) (z : ℕ) (weights chain carries sums scratch : List Float) (A : Asked r z weights chain carries sums scratch) where
+module _ (r : Run) (z : ℕ) (weights chain carries sums scratch : List Float) (A : RenewAsks r z weights chain carries sums scratch) where
   shp : Shaped (r .shape)
   shp = shaped (r .shape) (λ (k : ℕ). true) (A .ok)
 
   sizes : SizesWithin (r .shape)
   sizes = shp .sizes
 
-  all-carries : (n : ℕ) → n ≡ 1024 → allCarries (r .shape) ≤ n
+  all-carries : (n : ℕ) → n ≡ mostCarries → allCarries (r .shape) ≤ n
   all-carries n e = omega (arith, carries-most (r .shape) sizes (r .shape .d) (omega arith))
 
-  all-sums : (n : ℕ) → n ≡ 128 → allSums (r .shape) ≤ n
+  all-sums : (n : ℕ) → n ≡ mostSums → allSums (r .shape) ≤ n
   all-sums n e = omega (arith, sums-most (r .shape) sizes (r .shape .d) (omega arith))
 
-  pub carry-asks : (y n : ℕ) → y < r .shape .d → n ≡ 1024 → SizesWithin (r .shape) × ((y < r .shape .d) × (offset (carrySize (r .shape)) (r .shape .d) ≤ length carries) × (offset (carrySize (r .shape)) (r .shape .d) ≤ n))
+  pub carry-asks : (y n : ℕ) → y < r .shape .d → n ≡ mostCarries → SizesWithin (r .shape) × ((y < r .shape .d) × (offset (carrySize (r .shape)) (r .shape .d) ≤ length carries) × (offset (carrySize (r .shape)) (r .shape .d) ≤ n))
   carry-asks y n l e = (sizes, (l, omega (arith, A .carries-long), all-carries n e))
 
-  pub sum-asks : (n : ℕ) → n ≡ 128 → SizesWithin (r .shape) × ((z < r .shape .d) × (offset (sumSize (r .shape)) (r .shape .d) ≤ length sums) × (offset (sumSize (r .shape)) (r .shape .d) ≤ n))
+  pub sum-asks : (n : ℕ) → n ≡ mostSums → SizesWithin (r .shape) × ((z < r .shape .d) × (offset (sumSize (r .shape)) (r .shape .d) ≤ length sums) × (offset (sumSize (r .shape)) (r .shape .d) ≤ n))
   sum-asks n e = (sizes, (A .zone, omega (arith, A .sums-long), all-sums n e))
 
-  pub commit-asks : (work held summed : ℕ) → work ≡ length scratch → held ≡ 1024 → summed ≡ 128
+  pub commit-asks : (work held summed : ℕ) → work ≡ length scratch → held ≡ mostCarries → summed ≡ mostSums
       → ((SizesWithin (r .shape)) × (z < r .shape .d)) × (((length chain ≡ entriesOf (r .shape)) × (length carries ≡ allCarries (r .shape)) × (length sums ≡ allSums (r .shape))) × ((length chain ≤ work) × (length carries ≤ held) × (length sums ≤ summed)))
   commit-asks work held summed a b c =
       let h = all-carries held b in
       let u = all-sums summed c in
       ((sizes, A .zone), ((A .chain-long, A .carries-long, A .sums-long), (omega (arith, A .chain-long, A .room), omega (arith, A .carries-long), omega (arith, A .sums-long))))
 
-  module _ (w : Walked) (e : w ≡ walkedOf r) (held summed : List Float) (hn : length held ≡ 1024) (sn : length summed ≡ 128) where
+  module _ (w : Walked) (e : w ≡ walkedOf r) (held summed : List Float) (hn : length held ≡ mostCarries) (sn : length summed ≡ mostSums) where
     hl : allCarries (r .shape) ≤ length held
     hl = all-carries (length held) hn
 
@@ -87,7 +88,7 @@ module _ (r : Run) (z : ℕ) (weights chain carries sums scratch : List Float) (
       -- whatever its source is elsewhere
       came : (source : List Float) → SourcesFrom (r .shape) z source scratch
           → workFrom rules (keptOf r source weights chain carries sums) z
-          ≡ answered (x .verdict) (keptOf (runWith r x figure) source weights (over (offset (coreSize (r .shape)) z) chain work) (over (offset (carrySize (r .shape)) z) carries held') (over (offset (sumSize (r .shape)) z) sums summed'))
+          ≡ answered (x .verdict) (keptOf (runWith r x figure) source weights (overFrom (offset (coreSize (r .shape)) z) chain work) (overFrom (offset (carrySize (r .shape)) z) carries held') (overFrom (offset (sumSize (r .shape)) z) sums summed'))
       came source f =
           let k = keptOf r source weights chain carries sums in
           let M : Memory (k .inputs) (k .stepped) (k .summed) z scratch held summed = record { sources = f; carry = carry; sum = sum; cores = A .room; carried = hl; summed = sl; chain-long = A .chain-long; carries-long = A .carries-long; sums-long = A .sums-long } in
@@ -100,17 +101,17 @@ module _ (r : Run) (z : ℕ) (weights chain carries sums scratch : List Float) (
         work =
             λ source h. came source h ∙ ap
             (λ (v : Verdict). answered v
-            (keptOf (runWith r x figure) source weights (over (offset (coreSize s) z) chain work) (over (offset (carrySize s) z) carries held')
-            (over (offset (sumSize s) z) sums summed'))) f;
+            (keptOf (runWith r x figure) source weights (overFrom (offset (coreSize s) z) chain work) (overFrom (offset (carrySize s) z) carries held')
+            (overFrom (offset (sumSize s) z) sums summed'))) f;
         left = λ p h. (refl, refl, refl, refl);
       })
 
-      pub renew-fits : x .verdict ≡ Fits → (chain' carries' sums' : List Float) (f : Float) → (f ≡ figure) × (chain' ≡ over (offset (coreSize (r .shape)) z) chain work) × (carries' ≡ over (offset (carrySize (r .shape)) z) carries held') × (sums' ≡ over (offset (sumSize (r .shape)) z) sums summed')
+      pub renew-fits : x .verdict ≡ Fits → (chain' carries' sums' : List Float) (f : Float) → (f ≡ figure) × (chain' ≡ overFrom (offset (coreSize (r .shape)) z) chain work) × (carries' ≡ overFrom (offset (carrySize (r .shape)) z) carries held') × (sums' ≡ overFrom (offset (sumSize (r .shape)) z) sums summed')
           → (a : Ran) → a ≡ record { verdict = Fits; run = runWith r x f } → Renewed r z weights chain carries sums scratch a chain' carries' sums'
       renew-fits v chain' carries' sums' f c a g = subst (λ (y : Ran). Renewed r z weights chain carries sums scratch y chain' carries' sums') (sym g) (record {
         work = λ source h.
             came source h
-            ∙ ap (λ (y : Verdict). answered y (end source figure (over (offset (coreSize s) z) chain work) (over (offset (carrySize s) z) carries held') (over (offset (sumSize s) z) sums summed'))) v
+            ∙ ap (λ (y : Verdict). answered y (end source figure (overFrom (offset (coreSize s) z) chain work) (overFrom (offset (carrySize s) z) carries held') (overFrom (offset (sumSize s) z) sums summed'))) v
             ∙ ap (answered Fits) (parts source (sym (c .0)) (sym (c .1)) (sym (c .2)) (sym (c .3)));
         left = λ p h. let n : _≡_ {A = ℕ} 0 1 = cc in let m : ⊥ = omega arith in absurd m;
       })

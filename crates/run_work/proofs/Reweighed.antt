@@ -12,12 +12,15 @@ use Rattle.answers.specs.declared.Refusal.{Refusal}
 use Rattle.answers.specs.declared.Verdict.{Verdict}
 use Rattle.answers.specs.declared.Verdict.the-variants.{Fits, Refused}
 use Rattle.answers.specs.Outcome.{Answer, done, refused, bind, answered}
+use Rattle.answers.specs.Table.{Late}
+use Rattle.answers.proofs.Late.{late-done, late-making, late-bind}
 use Rattle.answers.proofs.Outcomes.{bind-assoc, bind-done, done-inj}
 use Rattle.lists.specs.Lists.{pick, listed}
 use Rattle.lists.specs.Slots.{offset, put}
 use Rattle.lists.specs.Walks.{walk}
 use Rattle.lists.specs.Floats.{at, zeros, stored}
 use Rattle.lists.proofs.Slots.{offset-mono, write-before}
+use Rattle.lists.proofs.Late.{late-walk}
 use Rattle.shape.specs.declared.Shape.{Shape}
 use Rattle.shape.specs.Shapes.{leftOf, pointSize}
 use Rattle.shape.specs.Cores.{Core}
@@ -27,7 +30,6 @@ use Rattle.cutform.specs.Call.{scratchAfter}
 use Rattle.sumform.specs.Sums.{sumSize, sumsLeft, weighedIn, sumsFrom}
 use Rattle.stepform.specs.Zones.{rules}
 use Rattle.run_checks.specs.Ranks.{Ranked}
-use Rattle.steps.proofs.Late.{Late, late-done, late-making, late-bind, late-walk}
 use Rattle.runform.specs.declared.Run.{Run}
 use Rattle.runform.specs.declared.Ran.{Ran}
 use Rattle.runform.specs.Kept.{Summed, Kept, running, keptOf}

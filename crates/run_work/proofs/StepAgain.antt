@@ -22,14 +22,16 @@ use Rattle.shape.specs.Cores.{coreWith, coreAt, standing, reshaped}
 use Rattle.shape.proofs.Shaped.{Shaped, shaped}
 use Rattle.shape.proofs.Insides.{inside-itself}
 use Rattle.stepform.specs.declared.Axis.{Axis}
+use Rattle.stepform.specs.Axes.{axisAt}
 use Rattle.cutform.specs.Rounding.{Carry, some, Cut, coresIn}
 use Rattle.cuts.specs.declared.Walked.{Walked}
 use Rattle.cutform.specs.Keeping.{Stepped, carrySize, rankAt, keepStep, carryLeft}
 use Rattle.cuts.specs.Slots.{AtZone, heldBy, rankLeft}
 use Rattle.stepform.specs.declared.Settings.{Settings}
-use Rattle.stepform.specs.Zones.{Zone, zone, axisAt, rules}
+use Rattle.stepform.specs.Zones.{Zone, zone, rules}
 use Rattle.stepform.specs.Steps.{stepFrom}
-use Rattle.checks.specs.Over.{axisReaches, zoneIn, Stands, Rooms}
+use Rattle.stepform.specs.Call.{axisReaches}
+use Rattle.checks.specs.Over.{zoneIn, Stands, Rooms}
 use Rattle.steps.specs.Held.{stepHeld}
 use Rattle.runform.specs.Kept.{Inputs, zoneAt, zonesFrom, carryAt}
 use Rattle.runform.specs.Work.{restep}

@@ -19,11 +19,12 @@ use Rattle.cuts.specs.declared.Walked.{Walked}
 use Rattle.cutform.specs.Keeping.{Stepped}
 use Rattle.cuts.specs.Slots.{heldBy}
 use Rattle.sumform.specs.Sums.{sumsFrom}
-use Rattle.product.specs.Lent.{Stands}
+use Rattle.product.specs.Lent.{SumsStand}
 use Rattle.stepform.specs.Zones.{rules}
-use Rattle.run_checks.specs.Ranks.{rankHeld, Ranked}
+use Rattle.run_checks.specs.Ranks.{Ranked}
 use Rattle.run_checks.proofs.Bonded.{ranked-inside}
 use Rattle.runform.specs.Kept.{Inputs, Summed, Kept, running}
+use Rattle.runform.specs.Checks.{rankOk}
 use Rattle.runform.specs.Work.{restep, resum, sumFrom, workFrom}
 use Rattle.run_checks.proofs.Resums.{resum-is}
 use Rattle.run_work.specs.InPlace.{summedIn, heldIn, RanksWithin, Sums}
@@ -33,18 +34,18 @@ few-axes s ok = shaped s (λ (k : ℕ). true) ok .most
 
 -- ---- a chain with such ranks stands in the room of its source
 module _ (s : Shape) (ok : chainOk s ≡ done tt) (ranks : List ℕ) (R : RanksWithin s ranks (s .d)) where
-  rank-passes : (k : ℕ) → k < s .d → rankHeld s ranks k ≡ true
-  unfolding rankHeld
+  rank-passes : (k : ℕ) → k < s .d → rankOk s ranks k ≡ true
+  unfolding rankOk
   rank-passes k l = go (ltb (suc k) (s .d)) refl
     where
       go : (b : Bool) → ltb (suc k) (s .d) ≡ b → cond b (within (rightOf s k) (getD ranks k 0)) true ≡ true
       go true e = let r = R k l (ltb-is (suc k) (s .d) e) in and-yes _ _ (leb-yes 1 (getD ranks k 0) (r .0)) (leb-yes (getD ranks k 0) (rightOf s k) (r .1))
       go false e = refl
 
-  pub ranks-pass : shapeOk s (rankHeld s ranks) ≡ done tt
-  ranks-pass = shape-same s (rankHeld s ranks) (λ (k : ℕ). true) rank-passes ∙ ok
+  pub ranks-pass : shapeOk s (rankOk s ranks) ≡ done tt
+  ranks-pass = shape-same s (rankOk s ranks) (λ (k : ℕ). true) rank-passes ∙ ok
 
-  pub sums-stand : (t : Shape) → Ranked s ranks t (s .d) → (work weights sums : List Float) → Sums s weights sums → entriesOf s ≤ length work → Stands s t work weights
+  pub sums-stand : (t : Shape) → Ranked s ranks t (s .d) → (work weights sums : List Float) → Sums s weights sums → entriesOf s ≤ length work → SumsStand s t work weights
   sums-stand t Q work weights sums S l = record { within = shaped s (λ (k : ℕ). true) ok .sizes; inside = ranked-inside s ranks ranks-pass t Q; cores = l; points = S .points }
 
 -- ---- both

@@ -8,7 +8,7 @@ use lib.Ieee.{Float}
 use Rattle.answers.specs.declared.Verdict.the-variants.{Fits}
 use Rattle.answers.specs.Outcome.{done}
 use Rattle.lists.specs.Slots.{offset, slot}
-use Rattle.run_slices.specs.Slices.{Beside, over}
+use Rattle.run_slices.specs.Slices.{Beside, overFrom}
 use Rattle.lists.specs.Floats.{at}
 use Rattle.shape.specs.declared.Shape.{Shape}
 use Rattle.shape.specs.Shapes.{rightOf, chainOk, coreSize, entriesOf, allPoints}
@@ -18,7 +18,7 @@ use Rattle.cutform.specs.Keeping.{Stepped, carrySize}
 use Rattle.cuts.specs.Slots.{heldBy}
 use Rattle.sumform.specs.Sums.{sumSize}
 use Rattle.stepform.specs.declared.Settings.{Settings}
-use Rattle.checks.specs.Over.{axisReaches}
+use Rattle.stepform.specs.Call.{axisReaches}
 use Rattle.runform.specs.Kept.{Inputs, Summed, Kept, running, allCarries, allSums}
 
 -- what the work is made from: the sources as they stand in it
@@ -67,7 +67,7 @@ pub record Memory (i : Inputs) (h : Stepped) (u : Summed) (z : ℕ) (work carrie
 -- ---- what is committed
 -- what a run kept, with what the work t left of each zone from one on: its core stands at a, its carry at b; its sums at c
 abbrev pub steppedOver : ℕ → ℕ → Stepped → Stepped → Stepped
-steppedOver a b h t = record { ranks = t .ranks; sweeps = t .sweeps; settled = t .settled; chain = over a (h .chain) (t .chain); carries = over b (h .carries) (t .carries) }
+steppedOver a b h t = record { ranks = t .ranks; sweeps = t .sweeps; settled = t .settled; chain = overFrom a (h .chain) (t .chain); carries = overFrom b (h .carries) (t .carries) }
 
 abbrev pub summedOver : Shape → ℕ → List Float → List Float → Summed
-summedOver s c sums sums' = record { sums = over c sums sums'; figure = at sums' (offset (sumSize s) (s .d - 1)) }
+summedOver s c sums sums' = record { sums = overFrom c sums sums'; figure = at sums' (offset (sumSize s) (s .d - 1)) }

@@ -13,7 +13,7 @@ use Rattle.shape.specs.declared.Shape.{Shape}
 use Rattle.shape.specs.Shapes.{chainOk, coreSize, entriesOf, allPoints}
 use Rattle.cuts.specs.declared.Walked.{Walked}
 use Rattle.stepform.specs.Zones.{rules}
-use Rattle.checks.specs.Over.{axisReaches}
+use Rattle.stepform.specs.Call.{axisReaches}
 use Rattle.runform.specs.declared.Run.{Run}
 use Rattle.runform.specs.declared.Ran.{Ran}
 use Rattle.runform.specs.Kept.{keptOf, allCarries, allSums}
@@ -25,7 +25,7 @@ abbrev pub SourcesFrom : Shape → ℕ → List Float → List Float → Type 0
 SourcesFrom s z source work = (k : ℕ) → z ≤ k → k < s .d → slot (coreSize s) k work ≡ slot (coreSize s) k source
 
 -- what the checks let through
-pub record Asked (r : Run) (z : ℕ) (weights chain carries sums scratch : List Float) : Type 0 where
+pub record RenewAsks (r : Run) (z : ℕ) (weights chain carries sums scratch : List Float) : Type 0 where
   pub ok : chainOk (r .shape) ≡ done tt
   pub zone : z < r .shape .d
   pub reach : (k : ℕ) → z ≤ k → k < r .shape .d → axisReaches (r .set) (r .shape) (r .axes) k ≡ true

@@ -24,8 +24,8 @@ fn step_again(
         ≡ answered (r .verdict) (heldBy r (now (work .exit)) (now (carries .exit)))) × (r .verdict ≡ Fits → RanksWithin (w .shape) (r .ranks) (w .shape .d)) ⌝ }
 {
     let s = w.shape;
-    let mut room = [0.0; rounding::MOST_CORE];
-    let mut block = [0.0; steps::MOST_BLOCK];
+    let mut room = [0.0; shape::MOST_CORE];
+    let mut block = [0.0; shape::MOST_BLOCK];
     steps::step_from(z, s, w, set, xs, work, carries, &mut room, &mut block)
 }
 

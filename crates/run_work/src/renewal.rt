@@ -7,12 +7,7 @@ ghost use Rattle.lists.specs.Slots.{put};
 ghost use Rattle.lists.specs.Floats.{zeros};
 ghost use Rattle.shape.specs.Shapes.{coreSize, entriesOf};
 ghost use Rattle.shape.specs.Sizes.{SizesWithin};
-ghost use Rattle.run_work.specs.Renewed.{SourcesFrom, Asked, Renewed, walkedOf, runWith};
-
-// The most numbers that all carries of a run have, and all its sums.
-const CARRIES: usize = 1024;
-
-const SUMS: usize = 128;
+ghost use Rattle.run_work.specs.Renewed.{SourcesFrom, RenewAsks, Renewed, walkedOf, runWith};
 
 // The sources of the zones from z on, where they stand.
 pub fn take_sources(z: usize, s: shape::Shape, source: &[f64], work: &mut [f64])
@@ -88,14 +83,14 @@ fn worked(
     sums: &mut [f64],
     scratch: &mut [f64],
 ) -> runform::Ran
-    requires { ⌜ Asked r z (now weights) (now chain) (now carries) (now sums) (now scratch) ⌝ }
+    requires { ⌜ RenewAsks r z (now weights) (now chain) (now carries) (now sums) (now scratch) ⌝ }
     ensures { λ a. ⌜ Renewed r z (now (weights .entry)) (now (chain .entry)) (now (carries .entry)) (now (sums .entry)) (now (scratch .entry)) a (now (chain .exit)) (now (carries .exit)) (now (sums .exit)) ⌝ }
 {
     let s = r.shape;
     let xs = r.axes;
     let set = r.set;
-    let mut held = [0.0; CARRIES];
-    let mut summed = [0.0; SUMS];
+    let mut held = [0.0; shape::MOST_CARRIES];
+    let mut summed = [0.0; shape::MOST_SUMS];
     run_slices::take_carry(z, s, carries, &mut held);
     run_slices::take_sum(z, s, sums, &mut summed);
     let w = crate::again::redo_from(
@@ -126,7 +121,7 @@ pub fn renew(
     sums: &mut [f64],
     scratch: &mut [f64],
 ) -> runform::Ran
-    requires { ⌜ Asked r z (now weights) (now chain) (now carries) (now sums) (now scratch) ⌝ }
+    requires { ⌜ RenewAsks r z (now weights) (now chain) (now carries) (now sums) (now scratch) ⌝ }
     ensures { λ a. ⌜ (Renewed r z (now (weights .entry)) (now (chain .entry)) (now (carries .entry)) (now (sums .entry)) (now (scratch .entry)) a (now (chain .exit)) (now (carries .exit)) (now (sums .exit))) × (now (scratch .exit) ≡ zeros (length (now (scratch .entry)))) ⌝ }
 {
     let a = worked(z, r, weights, chain, carries, sums, scratch);

@@ -11,13 +11,8 @@ ghost use Rattle.lists.specs.Floats.{at, zeros};
 ghost use Rattle.shape.specs.Shapes.{shapeOk, pointSize, entriesOf, allPoints};
 ghost use Rattle.shape.specs.Sizes.{PointsWithin, SizesWithin, Inside};
 ghost use Rattle.sumform.specs.Sums.{sumSize, sumsFrom};
-ghost use Rattle.run_checks.specs.Ranks.{rankHeld};
+ghost use Rattle.runform.specs.Checks.{rankOk};
 ghost use Rattle.run_work.specs.Weights.{Lent, weightsEnd};
-
-// The most numbers that the weights of a run have, and its sums.
-const WEIGHTS: usize = shape::MOST_AXES * shape::MOST_POINTS;
-
-const SUMS: usize = shape::MOST_AXES * shape::MOST_RANK;
 
 // The weights with the new part in, at the front of anew.
 fn with_part(s: shape::Shape, z: usize, weights: &[f64], part: &[f64], anew: &mut [f64])
@@ -47,7 +42,7 @@ fn sums_anew(
     ensures { λ v. ⌜ sumsFrom s t (now (chain .entry)) (put (pointSize s) z (now (part .entry)) (now (weights .entry))) z (now (sums .entry))
         ≡ answered v (take (length (now (sums .entry))) (now (held .exit))) ⌝ }
 {
-    let mut anew = [0.0; WEIGHTS];
+    let mut anew = [0.0; shape::MOST_WEIGHTS];
     with_part(s, z, weights, part, &mut anew);
     run_slices::copies::put_at(0, sums, held);
     let n = weights.len();
@@ -98,7 +93,7 @@ pub fn resummed(
     sums: &mut [f64],
     part: &[f64],
 ) -> runform::Ran
-    requires { ⌜ shapeOk (r .shape) (rankHeld (r .shape) (r .ranks)) ≡ done tt ⌝ }
+    requires { ⌜ shapeOk (r .shape) (rankOk (r .shape) (r .ranks)) ≡ done tt ⌝ }
     requires { ⌜ Lent (r .shape) z (now part) (now weights) (now chain) (now sums) ⌝ }
     ensures { λ a. ⌜ ((source carries scratch : List Float) →
         record { result = a; source = source; weights = now (weights .exit); chain = now (chain .entry); carries = carries; sums = now (sums .exit); scratch = zeros (length scratch) } ≡ weightsEnd r z source (now (weights .entry)) (now (chain .entry)) carries (now (sums .entry)) (now (part .entry)) scratch) ⌝ }
@@ -106,7 +101,7 @@ pub fn resummed(
     let s = r.shape;
     let ranks = r.ranks;
     let t = run_checks::ranks::kept_shape(s, ranks);
-    let mut held = [0.0; SUMS];
+    let mut held = [0.0; shape::MOST_SUMS];
     let made = sums_anew(z, s, t, chain, weights, part, sums, &mut held);
     if let answers::Verdict::Refused(q) = made {
         return run_checks::refused(q, r);

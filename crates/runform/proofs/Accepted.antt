@@ -6,33 +6,30 @@ use Rattle.answers.proofs.Checks.{demand-is, then-is}
 use Rattle.lists.proofs.Tests.{ltb-is}
 use Rattle.shape.specs.Shapes.{shapeOk}
 use Rattle.stepform.specs.Zones.{Rules}
-use Rattle.runform.specs.Kept.{Kept, running}
-use Rattle.runform.specs.Checks.{rankOk, inputsLent, keptLent}
-use Rattle.runform.specs.Requests.{Request, zoneOf, present, partFits, InOrder, numbersOk, replaceOk, redo, replace}
+use Rattle.runform.specs.Kept.{Kept, running, lengthsOf}
+use Rattle.runform.specs.Checks.{rankOk, lentFrom}
+use Rattle.runform.specs.Requests.{Request, zoneOf, present, partFits, InOrder, foundOk, numbersOk, replaceOk, redo, replace}
 
 pub record Accepted (R : Rules) (room : Check) (k : Kept) (q : Request) : Type 0 where
-  pub shape : shapeOk (k .inputs .shape) (rankOk (k .inputs .shape) (k .stepped)) ≡ done tt
+  pub shape : shapeOk (k .inputs .shape) (rankOk (k .inputs .shape) (k .stepped .bonds)) ≡ done tt
   pub order : InOrder (k .inputs .shape) q
-  pub inputs : inputsLent (k .inputs) ≡ done tt
-  pub slices : keptLent (k .inputs .shape) (k .stepped .chain) (k .stepped .carries) (k .summed .sums) ≡ done tt
+  pub slices : lentFrom (k .inputs .shape) 0 (lengthsOf k) ≡ done tt
   pub scratch : room ≡ done tt
   pub numbers : numbersOk R k q ≡ done tt
 
 pub checks-say : (R : Rules) (room : Check) (k : Kept) (q : Request) → replaceOk R room k q ≡ done tt → Accepted R room k q
-unfolding replaceOk
+unfolding replaceOk foundOk
 checks-say R room k q e =
     let s = k .inputs .shape in
-    let a = then-is _ _ tt e in
+    let c = then-is _ _ tt e in
+    let a = then-is _ _ tt (c .0) in
     let b = then-is _ _ tt (a .1) in
-    let c = then-is _ _ tt (b .1) in
-    let d = then-is _ _ tt (c .1) in
-    let f = then-is _ _ tt (d .1) in
+    let f = then-is _ _ tt (c .1) in
     let g = then-is _ _ tt (f .1) in
     record {
       shape = a .0;
       order = record { inside = ltb-is (zoneOf q) (s .d) (demand-is _ Zone (b .0)); fits = demand-is (partFits s q) (Length 5) (f .0) };
-      inputs = c .0;
-      slices = d .0;
+      slices = b .1;
       scratch = g .0;
       numbers = g .1;
     }

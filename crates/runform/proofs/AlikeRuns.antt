@@ -4,7 +4,7 @@ use Prim.Native.Nat.{ℕ, zero, suc, _+_, _*_, _≤_, _<_}
 use native.Mathlib.Omega.{arith}
 use mathlib.Core.Bool.{Bool, true, false, cond, _&&_}
 use mathlib.Core.List.{List, map}
-use lib.Dec.{ltb}
+use lib.Dec.{ltb, eqb}
 use lib.ListN.{length, take, getD, length-map}
 use lib.Ieee.{Float}
 use Rattle.numbers.specs.Arithmetic.{zero64}
@@ -13,6 +13,7 @@ use Rattle.answers.specs.declared.Refusal.the-variants.{Zone, Length, Number}
 use Rattle.answers.specs.Outcome.{Answer, done, refused, Check, _then_, demand}
 use Rattle.answers.proofs.Checks.{then-on, each-same}
 use Rattle.lists.specs.Slots.{slot}
+use Rattle.lists.specs.Lists.{pick}
 use Rattle.lists.specs.Floats.{allFinite}
 use Rattle.lists.proofs.Tests.{ltb-is, below-or-not}
 use Rattle.lists.proofs.Slots.{write-alike}
@@ -22,12 +23,15 @@ use Rattle.shape.specs.Limits.{within}
 use Rattle.shape.specs.Shapes.{pointsOf, rightOf, coreSize}
 use Rattle.shape.specs.Cores.{Core, coreWith}
 use Rattle.shape.proofs.Shaped.{shape-same}
-use Rattle.cutform.specs.Rounding.{Carry, Cut, rankIn, numbersIn}
+use Rattle.cutform.specs.declared.Bond.{Bond}
+use Rattle.cutform.specs.Bonds.{noBond}
+use Rattle.cutform.specs.Rounding.{Carry, Cut, numbersIn}
 use Rattle.stepform.specs.Zones.{Rules}
-use Rattle.runform.specs.Kept.{Inputs, Summed, Kept, running, leftRank, rightRank, keptCore, keptCarry, keptSums}
+use Rattle.runform.specs.Kept.{Inputs, Summed, Kept, running, leftRank, rightRank, keptCore, keptCarry, keptSums, lengthsOf, heldCore}
 use Rattle.cutform.specs.Keeping.{Stepped, bondSize, carrySize, rankAt, keepStep}
-use Rattle.runform.specs.Checks.{rankOk, inputsLent, keptLent, loneFinite, zoneFinite, keptFinite}
-use Rattle.runform.specs.Requests.{Request, zoneOf, partFits, partFinite, numbersOk, replaceOk}
+use Rattle.stepform.specs.Lone.{loneFinite}
+use Rattle.runform.specs.Checks.{rankOk, lentFrom, zoneFinite, coreHeld, carryHeld, sumsHeld, heldFinite, keptFinite}
+use Rattle.runform.specs.Requests.{Request, zoneOf, partFits, newFinite, foundOk, foundNumbers, numbersOk, replaceOk}
 use Rattle.cutform.proofs.BondSlots.{bond-at}
 use Rattle.runform.proofs.Before.{Roomy, rank-before, core-before, carry-before}
 
@@ -66,37 +70,40 @@ module _ (R : Rules) (i : Inputs) (t t' : Stepped) (u u' : Summed) (E : Alike (r
   abbrev s : Shape
   s = i .shape
 
-  rank-same : (k : ℕ) → rankOk s t k ≡ rankOk s t' k
+  rank-same : (k : ℕ) → rankOk s (t .bonds) k ≡ rankOk s (t' .bonds) k
   unfolding rankOk
   rank-same k = bond-same s k (within (rightOf s k) (rankAt t k)) (within (rightOf s k) (rankAt t' k)) true (λ l. ap (within (rightOf s k)) (E .steps .ranks k l))
 
   kept-same : (k : ℕ) → k < i .shape .d → keptFinite s t u k ≡ keptFinite s t' u' k
-  unfolding keptFinite
+  unfolding heldFinite coreHeld carryHeld sumsHeld
   kept-same k lt =
       let a = ap (λ (c : Core). allFinite (c .entries)) (E .steps .cores k lt) in
       let b = bond-same s k (allFinite (keptCarry s t k)) (allFinite (keptCarry s t' k)) true (λ l. ap allFinite (E .steps .carries k l)) in
       let c = ap allFinite (E .sums k lt) in
       cc
 
-  lent-same : keptLent s (t .chain) (t .carries) (u .sums) ≡ keptLent s (t' .chain) (t' .carries) (u' .sums)
-  unfolding keptLent
+  lent-same : lentFrom s 0 (lengthsOf (running i t u)) ≡ lentFrom s 0 (lengthsOf (running i t' u'))
   lent-same = let a = E .steps .chain-long in let b = E .steps .carries-long in let c = E .sums-long in cc
 
   numbers-same : (q : Request) → numbersOk R (running i t u) q ≡ numbersOk R (running i t' u') q
-  unfolding numbersOk
+  unfolding numbersOk foundNumbers
   numbers-same q =
-      then-on _ _ _ _ (ap (λ (x : Float). demand (loneFinite (i .set) && finite x) (Number 0)) (E .figure))
+      let part : ℕ → Bool = λ k. pick (eqb k (zoneOf q)) (newFinite q) true in
+      then-on _ _ _ _
+      (then-on _ _ _ _ (ap (λ (x : Float). demand (loneFinite (i .set) && finite x) (Number 0)) (E .figure))
       (then-on _ _ _ _
-      (each-same Number (λ (k : ℕ). (zoneFinite i k && keptFinite s t u k) && partFinite q k) (λ (k : ℕ). (zoneFinite i k && keptFinite s t' u' k) && partFinite q k) (s .d) 0
-      (λ k a b. ap (λ (x : Bool). (zoneFinite i k && x) && partFinite q k) (kept-same k (omega arith))))
-      refl)
+      (each-same Number (λ (k : ℕ). (zoneFinite i k && keptFinite s t u k) && part k) (λ (k : ℕ). (zoneFinite i k && keptFinite s t' u' k) && part k) (s .d) 0
+      (λ k a b. ap (λ (x : Bool). (zoneFinite i k && x) && part k) (kept-same k (omega arith))))
+      refl))
+      refl
 
   pub checks-same : (room : Check) (q : Request) → replaceOk R room (running i t u) q ≡ replaceOk R room (running i t' u') q
-  unfolding replaceOk
+  unfolding replaceOk foundOk
   checks-same room q =
-      then-on _ _ _ _ (shape-same s (rankOk s t) (rankOk s t') (λ k lt. rank-same k))
-      (ap (λ (x : Check). demand (ltb (zoneOf q) (s .d)) Zone then inputsLent i then x)
-      (then-on _ _ _ _ lent-same (ap (λ (x : Check). demand (partFits s q) (Length 5) then room then x) (numbers-same q))))
+      then-on _ _ _ _
+      (then-on _ _ _ _ (shape-same s (rankOk s (t .bonds)) (rankOk s (t' .bonds)) (λ k lt. rank-same k))
+      (ap (λ (x : Check). demand (ltb (zoneOf q) (s .d)) Zone then x) lent-same))
+      (ap (λ (x : Check). demand (partFits s q) (Length 5) then room then x) (numbers-same q))
 
 -- ---- what a writing from z on leaves in slot k, where the slots before z are not asked for
 -- the step
@@ -113,10 +120,10 @@ module _ (s : Shape) (t t' : Stepped) (M : Roomy s t) (M' : Roomy s t') (E : Ali
   rank-after : (k : ℕ) → z ≤ k → suc k < s .d → rankAt new k ≡ rankAt new' k
   unfolding keepStep
   rank-after k ge lt =
-      let f : Carry × Cut → List ℕ = λ x. rankIn (x .0) in
-      sym (bond-at s k (new .ranks) lt 0)
-      ∙ ap (λ (l : List ℕ). getD l 0 0) (write-alike (bondSize s) 0 (s .d) z (map f c) (mapped f) (t .ranks) (t' .ranks) (M .ranks) (M' .ranks) k ge (omega arith))
-      ∙ bond-at s k (new' .ranks) lt 0
+      let f : Carry × Cut → List Bond = λ x. x .1 .bonds in
+      sym (ap (λ (b : Bond). b .rank) (bond-at s k (new .bonds) lt noBond))
+      ∙ ap (λ (l : List Bond). getD l 0 noBond .rank) (write-alike (bondSize s) noBond (s .d) z (map f c) (mapped f) (t .bonds) (t' .bonds) (M .bonds) (M' .bonds) k ge (omega arith))
+      ∙ ap (λ (b : Bond). b .rank) (bond-at s k (new' .bonds) lt noBond)
 
   ranks-alike : (k : ℕ) → suc k < s .d → rankAt new k ≡ rankAt new' k
   ranks-alike k lt = below-or-not k z (λ b. rank-before s t M z inside c k b ∙ E .ranks k lt ∙ sym (rank-before s t' M' z inside c k b)) (λ ge. rank-after k ge lt)
@@ -129,7 +136,7 @@ module _ (s : Shape) (t t' : Stepped) (M : Roomy s t) (M' : Roomy s t') (E : Ali
   right-alike k = bond-same s k (rankAt new k) (rankAt new' k) (rightOf s k) (ranks-alike k)
 
   core-after : (k : ℕ) → z ≤ k → k < s .d → keptCore s new k ≡ keptCore s new' k
-  unfolding keptCore keepStep
+  unfolding heldCore keepStep
   core-after k ge lt =
       let f : Carry × Cut → List Float = λ x. x .1 .core .entries in
       let n = pointsOf s k in

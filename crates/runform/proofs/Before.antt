@@ -16,8 +16,10 @@ use Rattle.lists.proofs.Slots.{offset-suc, offset-mono, slot-before, write-befo
 use Rattle.shape.specs.declared.Shape.{Shape}
 use Rattle.shape.specs.Shapes.{pointsOf, rightOf, coreSize}
 use Rattle.shape.specs.Cores.{Core, coreWith}
-use Rattle.cutform.specs.Rounding.{Carry, Cut, rankIn, numbersIn}
-use Rattle.runform.specs.Kept.{leftRank, rightRank, keptCore, keptCarry}
+use Rattle.cutform.specs.declared.Bond.{Bond}
+use Rattle.cutform.specs.Bonds.{noBond}
+use Rattle.cutform.specs.Rounding.{Carry, Cut, numbersIn}
+use Rattle.runform.specs.Kept.{leftRank, rightRank, keptCore, keptCarry, heldCore}
 use Rattle.cutform.specs.Keeping.{Stepped, bondSize, carrySize, rankAt, keepStep}
 use Rattle.cutform.proofs.BondSlots.{bond-offset}
 
@@ -36,9 +38,7 @@ bond-count s one =
 
 -- every zone has its place in arrays and slices
 pub record Roomy (s : Shape) (t : Stepped) : Type 0 where
-  pub ranks : offset (bondSize s) (s .d) ≤ length (t .ranks)
-  pub sweeps : offset (bondSize s) (s .d) ≤ length (t .sweeps)
-  pub settled : offset (bondSize s) (s .d) ≤ length (t .settled)
+  pub bonds : offset (bondSize s) (s .d) ≤ length (t .bonds)
   pub chain : offset (coreSize s) (s .d) ≤ length (t .chain)
   pub carries : offset (carrySize s) (s .d) ≤ length (t .carries)
 
@@ -47,11 +47,11 @@ module _ (s : Shape) (t : Stepped) (roomy : Roomy s t) (z : ℕ) (inside : z < s
   unfolding keepStep
   rank-before k lt =
       let m = offset-mono (bondSize s) z (s .d) (omega arith) in
-      let r = roomy .ranks in
-      let new = write (bondSize s) 0 (s .d) z (map (λ (x : Carry × Cut). rankIn (x .0)) c) (t .ranks) in
-      let e : take z new ≡ take z (t .ranks) =
-      subst (λ (j : ℕ). take j new ≡ take j (t .ranks)) (bond-offset s z inside) (write-before (bondSize s) 0 (s .d) z (map (λ (x : Carry × Cut). rankIn (x .0)) c) (t .ranks) (omega arith)) in
-      sym (getD-take z new k 0 lt) ∙ ap (λ (l : List ℕ). getD l k 0) e ∙ getD-take z (t .ranks) k 0 lt
+      let r = roomy .bonds in
+      let new = write (bondSize s) noBond (s .d) z (map (λ (x : Carry × Cut). x .1 .bonds) c) (t .bonds) in
+      let e : take z new ≡ take z (t .bonds) =
+      subst (λ (j : ℕ). take j new ≡ take j (t .bonds)) (bond-offset s z inside) (write-before (bondSize s) noBond (s .d) z (map (λ (x : Carry × Cut). x .1 .bonds) c) (t .bonds) (omega arith)) in
+      ap (λ (b : Bond). b .rank) (sym (getD-take z new k noBond lt) ∙ ap (λ (l : List Bond). getD l k noBond) e ∙ getD-take z (t .bonds) k noBond lt)
 
   pub left-before : (k : ℕ) → k ≤ z → leftRank (keepStep s z c t) k ≡ leftRank t k
   left-before zero le = refl
@@ -61,7 +61,7 @@ module _ (s : Shape) (t : Stepped) (roomy : Roomy s t) (z : ℕ) (inside : z < s
   right-before k lt = ap (λ (x : ℕ). cond (ltb (suc k) (s .d)) x (rightOf s k)) (rank-before k lt)
 
   pub core-before : (k : ℕ) → k < z → keptCore s (keepStep s z c t) k ≡ keptCore s t k
-  unfolding keptCore keepStep
+  unfolding heldCore keepStep
   core-before k lt =
       let m = offset-mono (coreSize s) z (s .d) (omega arith) in
       let r = roomy .chain in

@@ -17,6 +17,7 @@ use Rattle.shape.specs.declared.Shape.{Shape}
 use Rattle.shape.specs.Limits.{mostAxes}
 use Rattle.shape.specs.Cores.{coreAt, coresOf}
 use Rattle.stepform.specs.declared.Axis.{Axis}
+use Rattle.cutform.specs.Bonds.{noBond}
 use Rattle.cutform.specs.Rounding.{Carry, Cut, coresIn}
 use Rattle.cutform.proofs.CountedBonds.{all-counted}
 use Rattle.cutform.specs.Keeping.{bondSize, Stepped, keepStep}
@@ -58,7 +59,7 @@ kept-at {A} s f o cuts l j a empty all lt e =
     (written-slot (bondSize s) o (s .d) f no-cut empty cuts l j all (omega arith) ∙ ap (λ (n : ℕ). fit o n (f (getD cuts j no-cut))) (bond-one s j lt) ∙ ap (fit o 1) e)
 
 -- ANY RUN that is what a fresh run on the inputs i leaves
-pub run-counted : (i : Inputs) (k : Kept) → AsFresh rules i k → StepCounted (i .set) (i .axes) (coresOf (i .shape) (i .source)) (k .stepped .sweeps) (k .stepped .settled)
+pub run-counted : (i : Inputs) (k : Kept) → AsFresh rules i k → StepCounted (i .set) (i .axes) (coresOf (i .shape) (i .source)) (k .stepped .bonds)
 unfolding keepStep coresOf
 run-counted i k F =
     let s = i .shape in
@@ -70,15 +71,14 @@ run-counted i k F =
     let all : length cuts ≡ s .d = step-cuts (i .set) (i .axes) cs cuts (S .1) ∙ n in
     let m = P .3 in
     let t0 = blank i .stepped in
-    let told = all-counted (i .set .eps) (P .0) cuts (P .2) no-cut (keepStep s 0 cuts t0 .sweeps) (keepStep s 0 cuts t0 .settled)
-    (λ j c lt e. kept-at s (λ (r : Carry × Cut). r .1 .counts) 0 cuts (t0 .sweeps) j c refl all (omega arith) e)
-    (λ j b lt e. kept-at s (λ (r : Carry × Cut). r .1 .flags) false cuts (t0 .settled) j b refl all (omega arith) e) in
-    subst (λ (t : Stepped). StepCounted (i .set) (i .axes) cs (t .sweeps) (t .settled)) (S .2) (record { cores = P .0; moves = P .1; counted = told })
+    let told = all-counted (i .set .cutting) (P .0) cuts (P .2) no-cut (keepStep s 0 cuts t0 .bonds)
+    (λ j b lt e. kept-at s (λ (r : Carry × Cut). r .1 .bonds) noBond cuts (t0 .bonds) j b refl all (omega arith) e) in
+    subst (λ (t : Stepped). StepCounted (i .set) (i .axes) cs (t .bonds)) (S .2) (record { cores = P .0; moves = P .1; counted = told })
 
 -- and so of the call
 pub fresh-counted : (s : Shape) (axes : List Axis) (t : Settings) (source weights chain carries sums scratch : List Float) → length axes ≡ mostAxes
     → let e = freshCall s axes t source weights chain carries sums scratch in
-    e .result .verdict ≡ Fits → StepCounted t axes (coresOf s source) (e .result .run .sweeps) (e .result .run .settled)
+    e .result .verdict ≡ Fits → StepCounted t axes (coresOf s source) (e .result .run .bonds)
 fresh-counted s axes t source weights chain carries sums scratch all e =
     let i : Inputs = record { shape = s; axes = axes; set = t; source = source; weights = weights } in
     let m : Room = record { chain = chain; carries = carries; sums = sums; scratch = scratch } in
@@ -91,6 +91,6 @@ pub calls-counted : (s : Shape) (axes : List Axis) (t : Settings) (source weight
     let k = keptAfterFresh i (freshCall s axes t source weights chain carries sums scratch) in
     let j = presentAfterAll rules i k cs in
     let l = keptAfterAll rules k cs in
-    AllLend rules k cs → StepCounted (j .set) (j .axes) (coresOf (j .shape) (j .source)) (l .stepped .sweeps) (l .stepped .settled)
+    AllLend rules k cs → StepCounted (j .set) (j .axes) (coresOf (j .shape) (j .source)) (l .stepped .bonds)
 calls-counted s axes t source weights chain carries sums scratch all e cs L =
     run-counted _ _ (demand3-calls s axes t source weights chain carries sums scratch all e cs L)

@@ -40,7 +40,7 @@ module _ (R : Rules) (S : Sound R) where
       k' = found k (c .slices)
 
       room : Check
-      room = scratchLent (k .inputs .shape) (scratchPlace (c .request)) (c .scratch)
+      room = scratchLent (k .inputs .shape) (scratchPlace (c .request)) (length (c .scratch))
 
       go : (o : Answer Kept) → replace R room k' (c .request) ≡ o → AsFresh R (takenUp (verdictOf o) i (c .request)) (returned k (c .slices) (keptAfter (replaceEnd k' (c .scratch) o)))
       go (done x) h = absurd (ne (accepted-lengths R room k' (c .request) (accepted R room k' x (c .request) h .0)))
@@ -64,8 +64,8 @@ module _ (R : Rules) (S : Sound R) where
       → replaceBy R k q scratch .result .verdict ≡ freshBy R (present i q) m .result .verdict
   unfolding replaceBy replaceEnd freshBy freshEnd scratchLent
   refused-same i k F q O scratch long m lent =
-      let room : scratchLent (k .inputs .shape) (scratchPlace q) scratch ≡ done tt =
-      ap (λ (j : Inputs). scratchLent (j .shape) (scratchPlace q) scratch) (F .inputs) ∙ demand-yes _ (Length (scratchPlace q)) (eqb-yes (length scratch) (scratchFor (entriesOf (i .shape))) long) in
+      let room : scratchLent (k .inputs .shape) (scratchPlace q) (length scratch) ≡ done tt =
+      ap (λ (j : Inputs). scratchLent (j .shape) (scratchPlace q) (length scratch)) (F .inputs) ∙ demand-yes _ (Length (scratchPlace q)) (eqb-yes (length scratch) (scratchFor (entriesOf (i .shape))) long) in
       ap (λ (c : Check). verdictOf (replace R c k q)) room
       ∙ ap verdictOf (answers-same R S i k F q O)
       ∙ ap (λ (c : Check). verdictOf (freshRun R c (present i q))) (sym (ap (λ (s : Shape). roomOk s m) (present-shape i q) ∙ lent))

@@ -25,7 +25,9 @@ use Rattle.lists.proofs.Walks.{All, all-at, listed-all, every-all, walk-all, wa
 use Rattle.shape.specs.Shapes.{pointsOf, rightOf, coreSize}
 use Rattle.shape.specs.Cores.{Core, coreWith, coreAt}
 use Rattle.shape.proofs.Shaped.{Shaped, shaped}
-use Rattle.cutform.specs.Rounding.{Carry, none, some, Cut, rankIn, numbersIn}
+use Rattle.cutform.specs.declared.Bond.{Bond}
+use Rattle.cutform.specs.Bonds.{noBond}
+use Rattle.cutform.specs.Rounding.{Carry, none, some, Cut, numbersIn}
 use Rattle.cutform.specs.Call.{coreFinite}
 use Rattle.cutform.proofs.BondSlots.{bond-one, bond-at}
 use Rattle.sumform.specs.Product.{startSums}
@@ -33,7 +35,7 @@ use Rattle.stepform.specs.Zones.{Zone, Rules}
 use Rattle.stepform.specs.Steps.{holding, shiftZone, scaleZone, roundZone, stepFrom}
 use Rattle.stepform.proofs.Restart.{step-length}
 use Rattle.sumform.specs.Sums.{sumSize}
-use Rattle.runform.specs.Kept.{Inputs, blank, zoneAt, zonesFrom, leftRank, rightRank, keptCore, keptCarry, carryAt, keptSums, sumsAt, weighedAt, weighedFrom}
+use Rattle.runform.specs.Kept.{Inputs, blank, zoneAt, zonesFrom, leftRank, rightRank, keptCore, keptCarry, carryAt, keptSums, sumsAt, weighedAt, weighedFrom, heldCore}
 use Rattle.cutform.specs.Keeping.{bondSize, carrySize, rankAt, keepStep}
 use Rattle.runform.specs.Work.{keepSums, sumZone}
 use Rattle.runform.proofs.Sound.{Sound}
@@ -42,7 +44,7 @@ use Rattle.runform.proofs.Trace.{StepTrace, Trace, fine-zone, steppedBy
 
 -- a zone of which nothing is kept
 abbrev pub no-cut : Carry × Cut
-no-cut = (none, record { core = coreWith 0 0 0 []; counts = []; flags = [] })
+no-cut = (none, record { core = coreWith 0 0 0 []; bonds = [] })
 
 abbrev pub no-sums : List Float × Unit {0}
 no-sums = ([], tt)
@@ -56,7 +58,7 @@ module _ (R : Rules) (S : Sound R) (i : Inputs) (P : StepTrace R i) where
   Fine k c = (allFinite (c .entries) ≡ true) × (c .rr ≡ rightOf (i .shape) k)
 
   abbrev Good : ℕ → Carry × Cut → Type 0
-  Good k r = (allFinite (r .1 .core .entries) ≡ true) × (suc k < i .shape .d → Carried (rightOf (i .shape) k) (r .0))
+  Good k r = (allFinite (r .1 .core .entries) ≡ true) × (suc k < i .shape .d → Carried (rightOf (i .shape) k) r)
 
   shift-fine : (k : ℕ) (z : Zone) (c : Core) → Fine k (z .core) → shiftZone R (i .set) k z ≡ done c → Fine k c
   unfolding shiftZone
@@ -76,7 +78,7 @@ module _ (R : Rules) (S : Sound R) (i : Inputs) (P : StepTrace R i) where
   round-good k b c r g h = (
     S .rounded (i .set) (ltb (suc k) (i .shape .d)) k b c r (g .0) h,
     λ lt.
-        subst (λ (x : ℕ). Carried x (r .0)) (g .1)
+        subst (λ (x : ℕ). Carried x r) (g .1)
         (S .carried (i .set) k b c r (subst (λ (x : ℕ). 1 ≤ x) (sym (g .1)) (sizes .right k (omega arith))) (ap (λ (x : Bool). R .round (i .set) x k b c) (sym (ltb-yes (suc k) (i .shape .d) lt)) ∙ h)),
   )
 
@@ -100,18 +102,18 @@ module _ (R : Rules) (S : Sound R) (i : Inputs) (P : StepTrace R i) where
   good-at : (k : ℕ) → k < i .shape .d → Good k (getD (P .cuts) k no-cut)
   good-at k lt = let l = cuts-length in subst (λ (j : ℕ). Good j (getD (P .cuts) k no-cut)) (zero-add k) (all-at Good 0 (P .cuts) all-good k no-cut (omega arith))
 
-  carried-at : (k : ℕ) → suc k < i .shape .d → Carried (rightOf (i .shape) k) (getD (P .cuts) k no-cut .0)
+  carried-at : (k : ℕ) → suc k < i .shape .d → Carried (rightOf (i .shape) k) (getD (P .cuts) k no-cut)
   carried-at k lt = good-at k (omega arith) .1 lt
 
   -- ---- ranks
-  rank-held : (k : ℕ) (lt : suc k < i .shape .d) → rankAt (steppedBy i (P .cuts)) k ≡ carried-at k lt .rank
+  rank-held : (k : ℕ) (lt : suc k < i .shape .d) → rankAt (steppedBy i (P .cuts)) k ≡ carried-at k lt .bond .rank
   unfolding keepStep fit
   rank-held k lt =
       let C = carried-at k lt in
-      sym (bond-at (i .shape) k (steppedBy i (P .cuts) .ranks) lt 0)
-      ∙ ap (λ (l : List ℕ). getD l 0 0) (written-slot (bondSize (i .shape)) 0 (i .shape .d) (λ (r : Carry × Cut). rankIn (r .0)) no-cut refl (P .cuts) (blank i .stepped .ranks) k cuts-length (omega arith)
-      ∙ ap (λ (n : ℕ). fit 0 n (rankIn (getD (P .cuts) k no-cut .0))) (bond-one (i .shape) k lt)
-      ∙ ap (λ (c : Carry). fit 0 1 (rankIn c)) (C .«is»))
+      sym (ap (λ (b : Bond). b .rank) (bond-at (i .shape) k (steppedBy i (P .cuts) .bonds) lt noBond))
+      ∙ ap (λ (l : List Bond). getD l 0 noBond .rank) (written-slot (bondSize (i .shape)) noBond (i .shape .d) (λ (r : Carry × Cut). r .1 .bonds) no-cut refl (P .cuts) (blank i .stepped .bonds) k cuts-length (omega arith)
+      ∙ ap (λ (n : ℕ). fit noBond n (getD (P .cuts) k no-cut .1 .bonds)) (bond-one (i .shape) k lt)
+      ∙ ap (fit noBond 1) (C .bonds))
 
   pub rank-fits : (k : ℕ) → suc k < i .shape .d → (1 ≤ rankAt (steppedBy i (P .cuts)) k) × (rankAt (steppedBy i (P .cuts)) k ≤ rightOf (i .shape) k)
   rank-fits k lt =
@@ -141,7 +143,7 @@ module _ (R : Rules) (S : Sound R) (i : Inputs) (P : StepTrace R i) where
   carry-held k lt =
       let C = carried-at k lt in
       let rr = rightOf (i .shape) k in
-      let m : C .rank * rr ≤ rr * rr = mul-le-mul-right rr (C .most) in
+      let m : C .bond .rank * rr ≤ rr * rr = mul-le-mul-right rr (C .most) in
       let e : rankAt (steppedBy i (P .cuts)) k * rr ≡ length (C .numbers) = ap (λ (x : ℕ). x * rr) (rank-held k lt) ∙ sym (C .long) in
       let l = C .long in
       ap (λ (x : List Float). take (rankAt (steppedBy i (P .cuts)) k * rr) x) (carry-slot k lt)
@@ -156,7 +158,7 @@ module _ (R : Rules) (S : Sound R) (i : Inputs) (P : StepTrace R i) where
       let C = carried-at k lt in
       let l = cuts-length in
       ap (λ (x : ℕ). some x (keptCarry (i .shape) (steppedBy i (P .cuts)) k)) (rank-held k lt)
-      ∙ ap (λ (x : List Float). some (C .rank) x) (carry-held k lt)
+      ∙ ap (λ (x : List Float). some (C .bond .rank) x) (carry-held k lt)
       ∙ sym (C .«is»)
       ∙ sym (state-at none (P .cuts) k no-cut (omega arith))
 
@@ -170,7 +172,7 @@ module _ (R : Rules) (S : Sound R) (i : Inputs) (P : StepTrace R i) where
   core-slot k lt = written-slot (coreSize (i .shape)) zero64 (i .shape .d) (λ (r : Carry × Cut). r .1 .core .entries) no-cut refl (P .cuts) (blank i .stepped .chain) k cuts-length lt
 
   pub core-finite : (k : ℕ) → k < i .shape .d → allFinite (keptCore (i .shape) (steppedBy i (P .cuts)) k .entries) ≡ true
-  unfolding keptCore
+  unfolding heldCore
   core-finite k lt =
       let t = steppedBy i (P .cuts) in
       finite-take (leftRank t k * pointsOf (i .shape) k * rightRank (i .shape) t k) (slot (coreSize (i .shape)) k (t .chain))
@@ -195,7 +197,7 @@ module _ (R : Rules) (S : Sound R) (i : Inputs) (T : Trace R i) where
   sums-length = walk-length (sumZone R) 0 startSums (weighedFrom i (steppedBy i (T .step .cuts)) 0) (T .sums) (T .ran) ∙ listed-length (i .shape .d - 0) 0 (weighedAt i (steppedBy i (T .step .cuts))) ∙ sub-zero (i .shape .d)
 
   sum-at : (k : ℕ) → k < i .shape .d → Sum k (getD (T .sums) k no-sums)
-  unfolding weighedAt keptCore
+  unfolding weighedAt heldCore
   sum-at k lt =
       let l = sums-length in
       let t = steppedBy i (T .step .cuts) in

@@ -7,16 +7,15 @@ use lib.Ieee.{Float}
 use Rattle.answers.specs.declared.Refusal.{Refusal}
 use Rattle.answers.specs.declared.Refusal.the-variants.{Length}
 use Rattle.answers.specs.declared.Verdict.the-variants.{Refused}
-use Rattle.answers.specs.Outcome.{Answer, refused, Check, _then_, demand}
+use Rattle.answers.specs.Outcome.{refused, Check, demand}
 use Rattle.lists.proofs.Tests.{eqb-yes, eqb-no}
 use Rattle.shape.specs.Shapes.{entriesOf, allPoints}
 use Rattle.stepform.specs.Zones.{Rules}
-use Rattle.runform.specs.Kept.{Kept, allCarries, allSums}
-use Rattle.runform.specs.Checks.{inputsLent, keptLent}
+use Rattle.runform.specs.Kept.{Kept, allCarries, allSums, lengthsFor, lengthsOf}
+use Rattle.runform.specs.Checks.{lentFrom}
 use Rattle.runform.specs.Requests.{Request}
-use Rattle.runform.specs.Sequence.{keptAfter, Slice, own, other, Slices, Asked, lentFor, heldAfter, found, returned, lengthsOf, lengthsFor, endOf, keptAfterCall}
+use Rattle.runform.specs.Sequence.{keptAfter, Slice, own, other, Slices, Asked, lentFor, heldAfter, found, returned, endOf, keptAfterCall}
 use Rattle.runform.specs.OnePage.{FirstWrong}
-use Rattle.runform.proofs.Trace.{lent-is}
 use Rattle.runform.proofs.Accepted.{Accepted}
 use Rattle.runform.proofs.Untouched.{slices-are, refused-leaves}
 
@@ -40,35 +39,33 @@ refused-call R k c r e =
 -- an accepted call was lent the right ones
 pub accepted-lengths : (R : Rules) (room : Check) (k : Kept) (q : Request) → Accepted R room k q → lengthsOf k ≡ lengthsFor (k .inputs .shape)
 accepted-lengths R room k q A =
-    let I = lent-is (k .inputs) (A .inputs) in
-    let L = slices-are (k .inputs .shape) (k .stepped .chain) (k .stepped .carries) (k .summed .sums) (A .slices) in
+    let L = slices-are k (A .slices) in
     cc
 
--- 5 at the first wrong one, whatever follows
-pub wrong-length : {A : Type 0} (k : Kept) (rest : Answer A) (j : ℕ) → FirstWrong j (lengthsOf k) (lengthsFor (k .inputs .shape))
-    → inputsLent (k .inputs) then keptLent (k .inputs .shape) (k .stepped .chain) (k .stepped .carries) (k .summed .sums) then rest ≡ refused (Length j)
-unfolding inputsLent keptLent demand
-wrong-length k rest zero F = rw (eqb-no (length (k .inputs .source)) (entriesOf (k .inputs .shape)) (F .wrong)) refl
-wrong-length k rest (suc zero) F =
+-- 5 at the first wrong one
+pub wrong-length : (k : Kept) (j : ℕ) → FirstWrong j (lengthsOf k) (lengthsFor (k .inputs .shape)) → lentFrom (k .inputs .shape) 0 (lengthsOf k) ≡ refused (Length j)
+unfolding lentFrom demand
+wrong-length k zero F = rw (eqb-no (length (k .inputs .source)) (entriesOf (k .inputs .shape)) (F .wrong)) refl
+wrong-length k (suc zero) F =
     let b = F .before in
     rw (eqb-yes (length (k .inputs .source)) (entriesOf (k .inputs .shape)) cc)
     (rw (eqb-no (length (k .inputs .weights)) (allPoints (k .inputs .shape)) (F .wrong)) refl)
-wrong-length k rest (suc (suc zero)) F =
+wrong-length k (suc (suc zero)) F =
     let b = F .before in
     rw (eqb-yes (length (k .inputs .source)) (entriesOf (k .inputs .shape)) cc)
     (rw (eqb-yes (length (k .inputs .weights)) (allPoints (k .inputs .shape)) cc)
     (rw (eqb-no (length (k .stepped .chain)) (entriesOf (k .inputs .shape)) (F .wrong)) refl))
-wrong-length k rest (suc (suc (suc zero))) F =
+wrong-length k (suc (suc (suc zero))) F =
     let b = F .before in
     rw (eqb-yes (length (k .inputs .source)) (entriesOf (k .inputs .shape)) cc)
     (rw (eqb-yes (length (k .inputs .weights)) (allPoints (k .inputs .shape)) cc)
     (rw (eqb-yes (length (k .stepped .chain)) (entriesOf (k .inputs .shape)) cc)
     (rw (eqb-no (length (k .stepped .carries)) (allCarries (k .inputs .shape)) (F .wrong)) refl)))
-wrong-length k rest (suc (suc (suc (suc zero)))) F =
+wrong-length k (suc (suc (suc (suc zero)))) F =
     let b = F .before in
     rw (eqb-yes (length (k .inputs .source)) (entriesOf (k .inputs .shape)) cc)
     (rw (eqb-yes (length (k .inputs .weights)) (allPoints (k .inputs .shape)) cc)
     (rw (eqb-yes (length (k .stepped .chain)) (entriesOf (k .inputs .shape)) cc)
     (rw (eqb-yes (length (k .stepped .carries)) (allCarries (k .inputs .shape)) cc)
     (rw (eqb-no (length (k .summed .sums)) (allSums (k .inputs .shape)) (F .wrong)) refl))))
-wrong-length k rest (suc (suc (suc (suc (suc j))))) F = absurd (F .wrong refl)
+wrong-length k (suc (suc (suc (suc (suc j))))) F = absurd (F .wrong refl)

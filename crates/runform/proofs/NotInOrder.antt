@@ -13,49 +13,50 @@ use Rattle.lists.proofs.Tests.{ltb-yes, ltb-no, eqb-no}
 use Rattle.shape.specs.Limits.{scratchFor}
 use Rattle.shape.specs.Shapes.{shapeOk, entriesOf}
 use Rattle.stepform.specs.Zones.{Rules}
-use Rattle.runform.specs.Kept.{Inputs, Kept}
+use Rattle.runform.specs.Kept.{Inputs, Kept, lengthsFor, lengthsOf}
 use Rattle.runform.specs.Checks.{rankOk, scratchLent}
-use Rattle.runform.specs.Requests.{Request, zoneOf, partFits, InOrder, replaceOk, replace}
+use Rattle.runform.specs.Requests.{Request, zoneOf, partFits, InOrder, foundOk, replaceOk, replace}
 use Rattle.runform.specs.Call.{scratchPlace, replaceEnd, replaceBy}
-use Rattle.runform.specs.Sequence.{AsFresh, Slices, ownSlices, found, lengthsOf, lengthsFor}
+use Rattle.runform.specs.Sequence.{AsFresh, Slices, ownSlices, found}
 use Rattle.runform.specs.OnePage.{FirstWrong}
 use Rattle.runform.proofs.Sound.{Sound}
 use Rattle.runform.proofs.Trace.{Trace, traced, keptBy}
-use Rattle.runform.proofs.Found.{shape-passes, slices-pass}
+use Rattle.runform.proofs.Found.{shape-passes, run-passes}
 use Rattle.runform.proofs.StaysFresh.{ran-fresh}
 use Rattle.runform.proofs.Lending.{wrong-length}
 
 module _ (R : Rules) (S : Sound R) (i : Inputs) (T : Trace R i) (q : Request) where
   -- whatever is lent for the run's slices
   module _ (m : Slices) (room : Check) where
-    found-shape : shapeOk (i .shape) (rankOk (i .shape) (found (keptBy T) m .stepped)) ≡ done tt
+    found-shape : shapeOk (i .shape) (rankOk (i .shape) (found (keptBy T) m .stepped .bonds)) ≡ done tt
     unfolding rankOk
     found-shape = shape-passes R S i T
 
     found-zone : i .shape .d ≤ zoneOf q → replace R room (found (keptBy T) m) q ≡ refused Zone
-    unfolding replace replaceOk demand
+    unfolding replace replaceOk foundOk demand
     found-zone out = rw found-shape (rw (ltb-no (zoneOf q) (i .shape .d) out) refl)
 
-    found-wrong : (j : ℕ) → FirstWrong j (lengthsOf (found (keptBy T) m)) (lengthsFor (i .shape)) → zoneOf q < i .shape .d → replace R room (found (keptBy T) m) q ≡ refused (Length j)
-    unfolding replace replaceOk demand
-    found-wrong j W lt = rw found-shape (rw (ltb-yes (zoneOf q) (i .shape .d) lt) (rw (wrong-length (found (keptBy T) m) _ j W) refl))
+    found-wrong : (j : ℕ) → FirstWrong j (lengthsOf (found (keptBy T) m)) (lengthsFor (i .shape)) → zoneOf q < i .shape .d
+        → replace R room (found (keptBy T) m) q ≡ refused (Length j)
+    unfolding replace replaceOk foundOk demand
+    found-wrong j W lt = rw found-shape (rw (ltb-yes (zoneOf q) (i .shape .d) lt) (rw (wrong-length (found (keptBy T) m) j W) refl))
 
   found-length : (room : Check) → zoneOf q < i .shape .d → partFits (i .shape) q ≡ false → replace R room (keptBy T) q ≡ refused (Length 5)
   unfolding replace replaceOk demand
-  found-length room lt ne = rw (shape-passes R S i T) (rw (ltb-yes (zoneOf q) (i .shape .d) lt) (rw (T .step .ok .lent) (rw (slices-pass R S i T) (rw ne refl))))
+  found-length room lt ne = rw (run-passes R S i T (zoneOf q) lt) (rw ne refl)
 
   found-room : (r : Refusal) → InOrder (i .shape) q → replace R (refused r) (keptBy T) q ≡ refused r
   unfolding replace replaceOk demand
-  found-room r O = rw (shape-passes R S i T) (rw (ltb-yes (zoneOf q) (i .shape .d) (O .inside)) (rw (T .step .ok .lent) (rw (slices-pass R S i T) (rw (O .fits) refl))))
+  found-room r O = rw (run-passes R S i T (zoneOf q) (O .inside)) (rw (O .fits) refl)
 
 module _ (R : Rules) (S : Sound R) (i : Inputs) (k : Kept) (F : AsFresh R i k) (q : Request) (scratch : List Float) where
   taken-apart : (T : Trace R i) × (keptBy T ≡ k)
   taken-apart = traced R i k (ran-fresh R i k F)
 
-  answered-by : (m : Slices) (r : Refusal) → replace R (scratchLent (i .shape) (scratchPlace q) scratch) (found (keptBy (taken-apart .0)) m) q ≡ refused r
+  answered-by : (m : Slices) (r : Refusal) → replace R (scratchLent (i .shape) (scratchPlace q) (length scratch)) (found (keptBy (taken-apart .0)) m) q ≡ refused r
       → replaceBy R (found k m) q scratch .result .verdict ≡ Refused r
   unfolding replaceBy replaceEnd
-  answered-by m r e = ap (λ (x : Kept). verdictOf (replace R (scratchLent (x .inputs .shape) (scratchPlace q) scratch) (found x m) q)) (sym (taken-apart .1)) ∙ ap verdictOf e
+  answered-by m r e = ap (λ (x : Kept). verdictOf (replace R (scratchLent (x .inputs .shape) (scratchPlace q) (length scratch)) (found x m) q)) (sym (taken-apart .1)) ∙ ap verdictOf e
 
   pub no-such-zone : (m : Slices) → i .shape .d ≤ zoneOf q → replaceBy R (found k m) q scratch .result .verdict ≡ Refused Zone
   no-such-zone m out = answered-by m Zone (found-zone R S i (taken-apart .0) q m _ out)
@@ -72,5 +73,5 @@ module _ (R : Rules) (S : Sound R) (i : Inputs) (k : Kept) (F : AsFresh R i k) (
   unfolding scratchLent demand
   scratch-misfits O ne =
       let r = Length (scratchPlace q) in
-      let no : scratchLent (i .shape) (scratchPlace q) scratch ≡ refused r = ap (λ (b : Bool). demand b r) (eqb-no (length scratch) (scratchFor (entriesOf (i .shape))) ne) in
+      let no : scratchLent (i .shape) (scratchPlace q) (length scratch) ≡ refused r = ap (λ (b : Bool). demand b r) (eqb-no (length scratch) (scratchFor (entriesOf (i .shape))) ne) in
       answered-by ownSlices r (ap (λ (c : Check). replace R c (keptBy (taken-apart .0)) q) no ∙ found-room R S i (taken-apart .0) q r O)

@@ -12,7 +12,8 @@ use Rattle.lists.proofs.Written.{written-from}
 use Rattle.shape.specs.declared.Shape.{Shape}
 use Rattle.shape.specs.Limits.{mostAxes}
 use Rattle.stepform.specs.declared.Axis.{Axis}
-use Rattle.cutform.specs.Rounding.{Carry, Cut, rankIn}
+use Rattle.cutform.specs.Bonds.{noBond}
+use Rattle.cutform.specs.Rounding.{Carry, Cut}
 use Rattle.stepform.specs.declared.Settings.{Settings}
 use Rattle.stepform.specs.Zones.{rules}
 use Rattle.cutform.specs.Keeping.{bondSize, keepStep}
@@ -39,14 +40,11 @@ trace-arrays i T all =
     let Z = sizes rules rules-sound i (T .step) in
     let b = bond-count s (Z .least) in
     let m = Z .most in
-    let r0 = length-replicate {A = ℕ} mostAxes 0 in
-    let f0 = length-replicate mostAxes false in
+    let r0 = length-replicate mostAxes noBond in
     let e = zero-add (length (T .step .cuts)) ∙ cuts-length rules rules-sound i (T .step) in
     record {
       axes = all;
-      ranks = written-from (bondSize s) 0 (s .d) (λ (r : Carry × Cut). rankIn (r .0)) 0 (T .step .cuts) _ e (omega arith) .long ∙ r0;
-      sweeps = written-from (bondSize s) 0 (s .d) (λ (r : Carry × Cut). r .1 .counts) 0 (T .step .cuts) _ e (omega arith) .long ∙ r0;
-      settled = written-from (bondSize s) false (s .d) (λ (r : Carry × Cut). r .1 .flags) 0 (T .step .cuts) _ e (omega arith) .long ∙ f0;
+      bonds = written-from (bondSize s) noBond (s .d) (λ (r : Carry × Cut). r .1 .bonds) 0 (T .step .cuts) _ e (omega arith) .long ∙ r0;
     }
 
 fresh-arrays : (i : Inputs) (k : Kept) → AsFresh rules i k → Arrays k

@@ -9,7 +9,6 @@ use lib.Dec.{eqb}
 use lib.ListN.{length, set}
 use lib.Seq.{getD-set-same, getD-set-other}
 use lib.Ieee.{Float}
-use Rattle.numbers.specs.Arithmetic.{zero64}
 use Rattle.answers.specs.declared.Refusal.the-variants.{Number, Setting, Reach}
 use Rattle.answers.specs.Outcome.{done, Check, _then_, demandEach}
 use Rattle.answers.proofs.Checks.{demand-yes, then-skip, then-on, each-same, each-yes, each-from}
@@ -23,17 +22,18 @@ use Rattle.shape.specs.declared.Shape.{Shape}
 use Rattle.shape.specs.Shapes.{leftOf, pointsOf, rightOf, coreSize, pointSize}
 use Rattle.shape.specs.Cores.{Core, coreWith, coreAt, pointsAt}
 use Rattle.stepform.specs.declared.Axis.{Axis}
-use Rattle.stepform.specs.Axes.{axisFinite, axisOk}
+use Rattle.stepform.specs.Axes.{axisFinite, axisOk, axisAt, blank}
 use Rattle.cutform.specs.Call.{coreFinite}
-use Rattle.stepform.specs.Zones.{zone, axisAt, Rules}
+use Rattle.stepform.specs.Zones.{Zone, zone, Rules}
 use Rattle.stepform.specs.Call.{reachesAt}
 use Rattle.runform.specs.Kept.{Inputs, zoneAt}
-use Rattle.runform.specs.Checks.{loneFinite, zoneFinite, loneOk, inReachAt, freshOk, freshRun}
-use Rattle.runform.specs.Requests.{Request, newCore, newAxis, newWeights, present, InOrder, partFinite, partOk, shiftsOk, replace}
+use Rattle.stepform.specs.Lone.{loneFinite, loneOk}
+use Rattle.runform.specs.Checks.{madeFinite, zoneFinite, inReachAt, madeOk, freshOk, freshRun}
+use Rattle.runform.specs.Requests.{Request, newCore, newAxis, newWeights, present, InOrder, shiftsOk, replace}
 use Rattle.runform.proofs.Sound.{Sound}
 use Rattle.runform.proofs.Trace.{Lent, lent-is, lent-passes, fine-zone, Trace, keptBy}
 use Rattle.runform.proofs.Same.{changed, work-same, sums-same}
-use Rattle.runform.proofs.Found.{partPasses, found-passes}
+use Rattle.runform.proofs.Found.{partFinite, partOk, partPasses, found-passes}
 
 -- x holds at every place but z, and is y there
 at-zone : (k z : ℕ) (x y : Bool) → (k ≡ z → x ≡ y) → (¬ (k ≡ z) → x ≡ true) → x ≡ pick (eqb k z) y true
@@ -57,21 +57,27 @@ module _ (R : Rules) (S : Sound R) (i : Inputs) (T : Trace R i) where
       → ((k : ℕ) → k < i .shape .d → zoneFinite (changed i axes source weights) k ≡ six k)
       → ((k : ℕ) → k < i .shape .d → axisOk (axisAt axes k) ≡ seven k)
       → demandEach Reach (inReachAt R (changed i axes source weights)) (i .shape .d) 0 ≡ eight
-      → freshOk R (done tt) (changed i axes source weights) ≡ demandEach Number six (i .shape .d) 0 then demandEach Setting seven (i .shape .d) 0 then eight
-  unfolding freshOk
+      → freshOk R (done tt) (changed i axes source weights) ≡ (demandEach Number six (i .shape .d) 0 then demandEach Setting seven (i .shape .d) 0) then eight
+  unfolding freshOk madeOk
   changed-passes axes source weights six seven eight len six-is seven-is eight-is =
       let j = changed i axes source weights in
       then-skip _ _ _ (T .step .ok .shape)
       (then-skip _ _ _ (lent-passes j len)
+      (then-on _ _ _ _
       (then-skip _ _ _ (demand-yes (loneFinite (i .set)) (Number 0) (T .step .ok .lone))
       (then-on _ _ _ _ (each-same Number (zoneFinite j) six (i .shape .d) 0 (λ k a b. six-is k (omega arith)))
       (then-skip _ _ _ (demand-yes (loneOk (i .set)) (Setting 0) (T .step .ok .mild))
-      (then-on _ _ _ _ (each-same Setting (λ (k : ℕ). axisOk (axisAt axes k)) seven (i .shape .d) 0 (λ k a b. seven-is k (omega arith))) eight-is)))))
+      (each-same Setting (λ (k : ℕ). axisOk (axisAt axes k)) seven (i .shape .d) 0 (λ k a b. seven-is k (omega arith))))))
+      eight-is))
+
+  -- 7 of axes that are as they were
+  still-mild : (z k : ℕ) → k < i .shape .d → axisOk (axisAt (i .axes) k) ≡ pick (eqb k z) true true
+  still-mild z k lt = at-zone k z _ true (λ e. T .step .ok .axes k lt) (λ ne. T .step .ok .axes k lt)
 
   -- zones that did not change reach as they did
   reach-same : (axes : List Axis) (source weights : List Float) (k : ℕ) → k < i .shape .d → zoneAt (changed i axes source weights) k ≡ zoneAt i k → inReachAt R (changed i axes source weights) k ≡ true
-  unfolding inReachAt reachesAt zoneAt
-  reach-same axes source weights k lt e = ap (R .reaches (i .set)) e ∙ T .step .ok .reach k lt
+  unfolding reachesAt zoneAt coreAt
+  reach-same axes source weights k lt e = ap (λ (z : Zone). R .reaches (i .set) (z .axis) (z .core .n)) e ∙ T .step .ok .reach k lt
 
   reach-from : (axes : List Axis) (source weights : List Float) (z : ℕ) → z < i .shape .d → ((k : ℕ) → k < z → zoneAt (changed i axes source weights) k ≡ zoneAt i k)
       → demandEach Reach (inReachAt R (changed i axes source weights)) (i .shape .d) 0 ≡ demandEach Reach (inReachAt R (changed i axes source weights)) (i .shape .d - z) z
@@ -111,7 +117,7 @@ module _ (R : Rules) (S : Sound R) (i : Inputs) (T : Trace R i) where
     core-here k e = ap allFinite (ap (λ (j : ℕ). slot (coreSize s) j source') e ∙ slot-put-same (coreSize s) z xs (i .source) long source-room)
 
     core-finite : (k : ℕ) → k < i .shape .d → zoneFinite (changed i (i .axes) source' (i .weights)) k ≡ partFinite (newCore z xs) k
-    unfolding zoneFinite coreFinite
+    unfolding madeFinite coreFinite
     core-finite k lt =
         let F = fine-zone i k (T .step .ok .fine k lt) in
         let rest = and-yes _ _ (F .axis) (F .weights) in
@@ -122,7 +128,7 @@ module _ (R : Rules) (S : Sound R) (i : Inputs) (T : Trace R i) where
     core-one =
         let q = newCore z xs in
         let L : Lent (present i q) = record { source = put-length (coreSize s) z xs (i .source) long source-room ∙ lent .source; weights = lent .weights } in
-        let F = changed-passes (i .axes) source' (i .weights) (partFinite q) (partOk q) (shiftsOk R (present i q) q) L core-finite (T .step .ok .axes) (reach-from (i .axes) source' (i .weights) z (O .inside) core-agree) in
+        let F = changed-passes (i .axes) source' (i .weights) (partFinite q) (partOk q) (shiftsOk R (present i q) q) L core-finite (still-mild z) (reach-from (i .axes) source' (i .weights) z (O .inside) core-agree) in
         then-on _ _ _ _ (found-passes R S i T q O ∙ sym F) (sym (work-same R S i T z (O .inside) (i .axes) source' (i .weights) core-agree (λ k lt. refl)))
 
   -- ---- an axis record; there is a record for each zone
@@ -131,17 +137,17 @@ module _ (R : Rules) (S : Sound R) (i : Inputs) (T : Trace R i) where
     axes' = set (i .axes) z a
 
     axis-other : (k : ℕ) → ¬ (k ≡ z) → axisAt axes' k ≡ axisAt (i .axes) k
-    axis-other k ne = getD-set-other (i .axes) z k a (record { a = zero64; b = zero64; xmin = zero64; xmax = zero64 }) ne
+    axis-other k ne = getD-set-other (i .axes) z k a blank ne
 
     axis-here : (k : ℕ) → k ≡ z → axisAt axes' k ≡ a
-    axis-here k e = let o = O .inside in ap (axisAt axes') e ∙ getD-set-same (i .axes) z a (record { a = zero64; b = zero64; xmin = zero64; xmax = zero64 }) (omega arith)
+    axis-here k e = let o = O .inside in ap (axisAt axes') e ∙ getD-set-same (i .axes) z a blank (omega arith)
 
     axis-agree : (k : ℕ) → k < z → zoneAt (changed i axes' (i .source) (i .weights)) k ≡ zoneAt i k
     unfolding zoneAt
     axis-agree k lt = ap (λ (x : Axis). zone (coreAt s (i .source) k) x) (axis-other k (λ e. omega arith))
 
     axis-finite : (k : ℕ) → k < i .shape .d → zoneFinite (changed i axes' (i .source) (i .weights)) k ≡ partFinite (newAxis z a) k
-    unfolding zoneFinite
+    unfolding madeFinite
     axis-finite k lt =
         let F = fine-zone i k (T .step .ok .fine k lt) in
         at-zone k z _ (axisFinite a)
@@ -183,7 +189,7 @@ module _ (R : Rules) (S : Sound R) (i : Inputs) (T : Trace R i) where
     weights-agree k = refl
 
     weights-finite : (k : ℕ) → k < i .shape .d → zoneFinite (changed i (i .axes) (i .source) weights') k ≡ partFinite (newWeights z ws) k
-    unfolding zoneFinite
+    unfolding madeFinite
     weights-finite k lt =
         let F = fine-zone i k (T .step .ok .fine k lt) in
         at-zone k z _ (allFinite ws)
@@ -196,7 +202,7 @@ module _ (R : Rules) (S : Sound R) (i : Inputs) (T : Trace R i) where
         let q = newWeights z ws in
         let L : Lent (present i q) = record { source = lent .source; weights = put-length (pointSize s) z ws (i .weights) wide weights-room ∙ lent .weights } in
         let E = each-yes Reach (inReachAt R (present i q)) (i .shape .d) 0 (λ k a b. reach-same (i .axes) (i .source) weights' k (omega arith) (weights-agree k)) in
-        let F = changed-passes (i .axes) (i .source) weights' (partFinite q) (partOk q) (done tt) L weights-finite (T .step .ok .axes) E in
+        let F = changed-passes (i .axes) (i .source) weights' (partFinite q) (partOk q) (done tt) L weights-finite (still-mild z) E in
         then-on _ _ _ _ (found-passes R S i T q O ∙ sym F) (sym (sums-same R S i T z (O .inside) (i .axes) (i .source) weights' weights-agree (λ k lt. weights-other k (λ e. omega arith))))
 
   pub one-request : i .shape .d ≤ length (i .axes) → (q : Request) → InOrder (i .shape) q → replace R (done tt) (keptBy T) q ≡ freshRun R (done tt) (present i q)

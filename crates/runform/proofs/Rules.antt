@@ -47,8 +47,8 @@ unfolding rules contractAt contract
 rules-sound = record {
   shifted = λ t k z l f h. move-fine k (z .core) l (shiftOf (z .axis) (t .tau) (z .core .n)) f h;
   scaled = λ t l m h. scale-made (t .tau) (t .c) l m h .1;
-  rounded = λ t more k s c r f h. round-fine (t .eps) k s c r more f h;
-  carried = λ t k s c r one h. round-carried (t .eps) k s c r one h;
+  rounded = λ t more k s c r f h. round-fine (t .cutting) k s c r more f h;
+  carried = λ t k s c r one h. round-carried (t .cutting) k s c r one h;
   weighed = λ k c f e m h. let w = making-stored Sum k (contract c f e) m h in (ap length (sym (w .0)) ∙ length-tab (c .rr) _, w .1);
 }
 
@@ -57,5 +57,5 @@ unfolding rules
 rules-sized = record {
   shifted = λ t k z l f h. move-long k (z .core) l (shiftOf (z .axis) (t .tau) (z .core .n)) f h;
   scaled = λ t l m h. scale-made (t .tau) (t .c) l m h .0;
-  rounded = λ t more k s c r f h. round-of (t .eps) k s c r more f h;
+  rounded = λ t more k s c r f h. round-of (t .cutting) k s c r more f h;
 }

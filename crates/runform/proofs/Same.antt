@@ -21,13 +21,14 @@ use Rattle.shape.specs.Limits.{mostAxes}
 use Rattle.shape.specs.Shapes.{coreSize}
 use Rattle.shape.specs.Cores.{Core, pointsAt}
 use Rattle.stepform.specs.declared.Axis.{Axis}
-use Rattle.cutform.specs.Rounding.{Carry, none, Cut, rankIn, numbersIn}
+use Rattle.cutform.specs.Bonds.{noBond}
+use Rattle.cutform.specs.Rounding.{Carry, none, Cut, numbersIn}
 use Rattle.sumform.specs.Product.{startSums}
 use Rattle.stepform.specs.Zones.{Zone, Rules}
 use Rattle.stepform.specs.Steps.{stepFrom}
 use Rattle.stepform.proofs.Restart.{step-restart}
 use Rattle.sumform.specs.Sums.{sumSize}
-use Rattle.runform.specs.Kept.{Inputs, Summed, Kept, running, bare, blank, zoneAt, zonesFrom, keptCore, carryAt, sumsAt, weighedAt, weighedFrom}
+use Rattle.runform.specs.Kept.{Inputs, Summed, Kept, running, bare, blank, zoneAt, zonesFrom, keptCore, carryAt, sumsAt, weighedAt, weighedFrom, heldCore}
 use Rattle.cutform.specs.Keeping.{Stepped, bondSize, carrySize, keepStep}
 use Rattle.runform.specs.Work.{keepSums, sumZone, restep, resum, sumFrom, workFrom}
 use Rattle.runform.proofs.Sound.{Sound}
@@ -53,15 +54,12 @@ step-roomy R S i P =
     let all : 0 + length (P .cuts) ≡ s .d = zero-add (length (P .cuts)) ∙ len in
     let one = sizes R S i P .least in
     let most = sizes R S i P .most in
-    let bonds = bond-count s one in
-    let n = length-replicate mostAxes (let x : ℕ = 0 in x) in
-    let b = length-replicate mostAxes false in
-    let ranks = written-from (bondSize s) 0 (s .d) (λ (r : Carry × Cut). rankIn (r .0)) 0 (P .cuts) (replicate mostAxes 0) all (omega arith) .long in
-    let sweeps = written-from (bondSize s) 0 (s .d) (λ (r : Carry × Cut). r .1 .counts) 0 (P .cuts) (replicate mostAxes 0) all (omega arith) .long in
-    let settled = written-from (bondSize s) false (s .d) (λ (r : Carry × Cut). r .1 .flags) 0 (P .cuts) (replicate mostAxes false) all (omega arith) .long in
+    let count = bond-count s one in
+    let n = length-replicate mostAxes noBond in
+    let bonds = written-from (bondSize s) noBond (s .d) (λ (r : Carry × Cut). r .1 .bonds) 0 (P .cuts) (replicate mostAxes noBond) all (omega arith) .long in
     let chain = written-length (coreSize s) zero64 (s .d) (λ (r : Carry × Cut). r .1 .core .entries) (P .cuts) len in
     let carries = written-length (carrySize s) zero64 (s .d) (λ (r : Carry × Cut). numbersIn (r .0)) (P .cuts) len in
-    record { ranks = omega arith; sweeps = omega arith; settled = omega arith; chain = omega arith; carries = omega arith }
+    record { bonds = omega arith; chain = omega arith; carries = omega arith }
 
 -- ---- the inputs i, with other axis records, numbers and weights
 abbrev pub changed : Inputs → List Axis → List Float → List Float → Inputs
@@ -100,7 +98,7 @@ module _ (R : Rules) (S : Sound R) (i : Inputs) (T : Trace R i) (z : ℕ) (insid
 
   -- the sums left of y over other cores that agree before it
   sums-agree : (t' : Stepped) (y : ℕ) → ((k : ℕ) → k < y → weighedAt j t' k ≡ weighedAt i t k) → sumsAt s t u y ≡ sumsAt s t' u y
-  unfolding sumsAt weighedAt keptCore
+  unfolding sumsAt weighedAt heldCore
   sums-agree t' zero agree = refl
   sums-agree t' (suc k) agree = ap (λ (r : ℕ). take r (slot (sumSize s) k (u .sums))) (sym (ap (λ (p : Core × List Float). p .0 .rr) (agree k (omega arith))))
 

@@ -19,9 +19,9 @@ use Rattle.cutform.specs.Call.{scratchAfter}
 use Rattle.stepform.specs.Zones.{Rules}
 use Rattle.runform.specs.Kept.{Inputs, Kept, allCarries, allSums, blank}
 use Rattle.runform.specs.Work.{workFrom}
-use Rattle.runform.specs.Checks.{keptLent, scratchLent, freshOk, freshRun}
+use Rattle.runform.specs.Checks.{lentFrom, scratchLent, freshOk, freshRun}
 use Rattle.runform.specs.Requests.{Request, newCore, newAxis, newWeights, present, InOrder, replace}
-use Rattle.runform.specs.Call.{FreshEnd, Room, roomOk, freshEnd, freshBy, scratchPlace, replaceEnd, replaceBy}
+use Rattle.runform.specs.Call.{FreshEnd, Room, roomLent, roomOk, freshEnd, freshBy, scratchPlace, replaceEnd, replaceBy}
 use Rattle.runform.specs.Sequence.{keptAfterFresh, keptAfter, leaving, AsFresh, takenUp}
 use Rattle.runform.proofs.Sound.{Sound}
 use Rattle.runform.proofs.Trace.{passed, traced}
@@ -45,12 +45,12 @@ abbrev someRoom : Shape → Room
 someRoom s = record { chain = zeros (entriesOf s); carries = zeros (allCarries s); sums = zeros (allSums s); scratch = zeros (scratchFor (entriesOf s)) }
 
 room-there : (s : Shape) → roomOk s (someRoom s) ≡ done tt
-unfolding roomOk keptLent scratchLent
+unfolding roomLent lentFrom scratchLent
 room-there s =
     then-skip _ _ _
     (then-skip _ _ _ (demand-yes _ (Length 2) (eqb-yes _ _ (length-replicate (entriesOf s) zero64)))
     (then-skip _ _ _ (demand-yes _ (Length 3) (eqb-yes _ _ (length-replicate (allCarries s) zero64)))
-    (demand-yes _ (Length 4) (eqb-yes _ _ (length-replicate (allSums s) zero64)))))
+    (then-skip _ _ _ (demand-yes _ (Length 4) (eqb-yes _ _ (length-replicate (allSums s) zero64))) refl)))
     (demand-yes _ (Length 5) (eqb-yes _ _ (length-replicate (scratchFor (entriesOf s)) zero64)))
 
 module _ (R : Rules) where
@@ -105,7 +105,7 @@ module _ (R : Rules) where
     next-fresh q scratch = go (replace R room k q) refl
       where
         room : Check
-        room = scratchLent (k .inputs .shape) (scratchPlace q) scratch
+        room = scratchLent (k .inputs .shape) (scratchPlace q) (length scratch)
 
         go : (o : Answer Kept) → replace R room k q ≡ o → AsFresh R (takenUp (verdictOf o) i q) (keptAfter (replaceEnd k scratch o))
         go (done k') e =

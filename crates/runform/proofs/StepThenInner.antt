@@ -23,12 +23,13 @@ use Rattle.shape.specs.declared.Shape.{Shape}
 use Rattle.shape.specs.Shapes.{leftOf, pointsOf, rightOf, atBond, coreSize}
 use Rattle.shape.specs.Cores.{Core, coreWith, coreAt, coresOf, pointsAt}
 use Rattle.stepform.specs.declared.Axis.{Axis}
+use Rattle.stepform.specs.Axes.{axisAt}
 use Rattle.cutform.specs.Rounding.{Carry, none, Cut, coresIn}
 use Rattle.sumform.specs.Product.{startSums, sumAxis, sums, inner}
 use Rattle.stepform.specs.declared.Settings.{Settings}
-use Rattle.stepform.specs.Zones.{Zone, zone, axisAt, zonesOf, Rules, rules}
+use Rattle.stepform.specs.Zones.{Zone, zone, zonesOf, Rules, rules}
 use Rattle.stepform.specs.Steps.{holding, shiftZone, scaleZone, roundZone, stepFrom, step}
-use Rattle.runform.specs.Kept.{Inputs, Kept, running, blank, bare, zoneAt, zonesFrom, leftRank, rightRank, keptCore, carryAt, sumsAt, weighedAt, weighedFrom}
+use Rattle.runform.specs.Kept.{Inputs, Kept, running, blank, bare, zoneAt, zonesFrom, leftRank, rightRank, keptCore, carryAt, sumsAt, weighedAt, weighedFrom, heldCore}
 use Rattle.cutform.specs.Keeping.{Stepped, rankAt}
 use Rattle.runform.specs.Work.{sumZone, restep, resum, sumFrom, workFrom}
 use Rattle.runform.specs.Checks.{freshOk, freshRun}
@@ -129,7 +130,7 @@ module _ (R : Rules) (S : Sound R) (Z : Sized R) (i : Inputs) (P : StepTrace R i
       go false e = refl
 
   pub core-read : (k : ℕ) → k < i .shape .d → keptCore (i .shape) t k ≡ getD (P .cuts) k no-cut .1 .core
-  unfolding keptCore coreSize
+  unfolding heldCore coreSize
   core-read k lt =
       let C = cut-here k lt in
       let c = getD (P .cuts) k no-cut .1 .core in

@@ -1,9 +1,9 @@
 -- A fresh run taken apart: what its checks say of the inputs, and what its two walks left. Assumes nothing of the rules.
-use mathlib.Core.Path.{_≡_, ap, _∙_}
+use mathlib.Core.Path.{_≡_, refl, ap, _∙_}
 use Prim.Native.Nat.{ℕ, _<_}
 use native.Mathlib.Omega.{arith}
 use mathlib.Core.Bool.{true, _&&_}
-use mathlib.Core.List.{List}
+use mathlib.Core.List.{List, [], _∷_}
 use lib.ListN.{length}
 use lib.Ieee.{Float}
 use Rattle.answers.specs.declared.Refusal.the-variants.{Length, Number, Setting, Reach}
@@ -13,18 +13,20 @@ use Rattle.answers.proofs.Checks.{demand-yes, demand-is, then-is, then-skip, ea
 use Rattle.lists.specs.Walks.{walk}
 use Rattle.lists.specs.Floats.{allFinite}
 use Rattle.lists.proofs.Tests.{eqb-yes, eqb-is, both}
+use Rattle.shape.specs.declared.Shape.{Shape}
 use Rattle.shape.specs.Shapes.{chainOk, entriesOf, allPoints}
 use Rattle.shape.specs.Cores.{pointsAt}
-use Rattle.stepform.specs.Axes.{axisFinite, axisOk}
+use Rattle.stepform.specs.Axes.{axisFinite, axisOk, axisAt}
 use Rattle.cutform.specs.Rounding.{Carry, none, Cut}
 use Rattle.cutform.specs.Call.{coreFinite}
 use Rattle.sumform.specs.Product.{startSums}
-use Rattle.stepform.specs.Zones.{axisAt, Rules}
+use Rattle.stepform.specs.Zones.{Rules}
 use Rattle.stepform.specs.Steps.{stepFrom}
-use Rattle.runform.specs.Kept.{Inputs, Summed, Kept, running, blank, bare, zonesFrom, carryAt, sumsAt, weighedFrom}
+use Rattle.runform.specs.Kept.{Inputs, Summed, Kept, running, allCarries, allSums, blank, bare, zonesFrom, carryAt, sumsAt, weighedFrom}
 use Rattle.cutform.specs.Keeping.{Stepped, keepStep}
 use Rattle.runform.specs.Work.{keepSums, sumZone, restep, resum, sumFrom, workFrom}
-use Rattle.runform.specs.Checks.{inputsLent, loneFinite, zoneFinite, loneOk, inReachAt, freshOk, freshRun}
+use Rattle.stepform.specs.Lone.{loneFinite, loneOk}
+use Rattle.runform.specs.Checks.{lentFrom, inputsLent, madeFinite, zoneFinite, inReachAt, madeOk, freshOk, freshRun}
 
 -- ---- the checks
 pub record Passed (R : Rules) (i : Inputs) : Type 0 where
@@ -38,15 +40,15 @@ pub record Passed (R : Rules) (i : Inputs) : Type 0 where
 
 -- they say this, and that the call had its room
 pub passed : (R : Rules) (room : Check) (i : Inputs) → freshOk R room i ≡ done tt → Passed R i × (room ≡ done tt)
-unfolding freshOk
+unfolding freshOk madeOk
 passed R room i e =
     let a = then-is _ _ tt e in
     let b = then-is _ _ tt (a .1) in
     let m = then-is _ _ tt (b .1) in
-    let c = then-is _ _ tt (m .1) in
+    let h = then-is _ _ tt (m .1) in
+    let c = then-is _ _ tt (h .0) in
     let f = then-is _ _ tt (c .1) in
     let g = then-is _ _ tt (f .1) in
-    let h = then-is _ _ tt (g .1) in
     let d = i .shape .d in (
       record {
         shape = a .0;
@@ -54,24 +56,46 @@ passed R room i e =
         lone = demand-is (loneFinite (i .set)) (Number 0) (c .0);
         fine = λ k lt. each-is Number (zoneFinite i) d 0 (f .0) k (omega arith) (omega arith);
         mild = demand-is (loneOk (i .set)) (Setting 0) (g .0);
-        axes = λ k lt. each-is Setting (λ (j : ℕ). axisOk (axisAt (i .axes) j)) d 0 (h .0) k (omega arith) (omega arith);
+        axes = λ k lt. each-is Setting (λ (j : ℕ). axisOk (axisAt (i .axes) j)) d 0 (g .1) k (omega arith) (omega arith);
         reach = λ k lt. each-is Reach (inReachAt R i) d 0 (h .1) k (omega arith) (omega arith);
       },
       m .0,
     )
 
--- refusal 5 of source and weights, as lengths and back
+-- refusal 5 of a run's slices, as lengths
+pub lent-all : (s : Shape) (a b c d e : ℕ) → lentFrom s 0 (a ∷ b ∷ c ∷ d ∷ e ∷ []) ≡ done tt
+    → (a ≡ entriesOf s) × (b ≡ allPoints s) × (c ≡ entriesOf s) × (d ≡ allCarries s) × (e ≡ allSums s)
+unfolding lentFrom
+lent-all s a b c d e ok =
+    let A = then-is _ _ tt ok in
+    let B = then-is _ _ tt (A .1) in
+    let C = then-is _ _ tt (B .1) in
+    let D = then-is _ _ tt (C .1) in
+    let E = then-is _ _ tt (D .1) in (
+      eqb-is _ _ (demand-is _ (Length 0) (A .0)),
+      eqb-is _ _ (demand-is _ (Length 1) (B .0)),
+      eqb-is _ _ (demand-is _ (Length 2) (C .0)),
+      eqb-is _ _ (demand-is _ (Length 3) (D .0)),
+      eqb-is _ _ (demand-is _ (Length 4) (E .0)),
+    )
+
+-- and of source and weights, as lengths and back
 pub record Lent (i : Inputs) : Type 0 where
   pub source : length (i .source) ≡ entriesOf (i .shape)
   pub weights : length (i .weights) ≡ allPoints (i .shape)
 
 pub lent-is : (i : Inputs) → inputsLent i ≡ done tt → Lent i
-unfolding inputsLent
-lent-is i e = let a = then-is _ _ tt e in record { source = eqb-is _ _ (demand-is _ (Length 0) (a .0)); weights = eqb-is _ _ (demand-is _ (Length 1) (a .1)) }
+unfolding lentFrom
+lent-is i e =
+    let a = then-is _ _ tt e in
+    let b = then-is _ _ tt (a .1) in
+    record { source = eqb-is _ _ (demand-is _ (Length 0) (a .0)); weights = eqb-is _ _ (demand-is _ (Length 1) (b .0)) }
 
 pub lent-passes : (i : Inputs) → Lent i → inputsLent i ≡ done tt
-unfolding inputsLent
-lent-passes i L = then-skip _ _ _ (demand-yes _ (Length 0) (eqb-yes _ _ (L .source))) (demand-yes _ (Length 1) (eqb-yes _ _ (L .weights)))
+unfolding lentFrom
+lent-passes i L =
+    then-skip _ _ _ (demand-yes _ (Length 0) (eqb-yes _ _ (L .source)))
+    (then-skip _ _ _ (demand-yes _ (Length 1) (eqb-yes _ _ (L .weights))) refl)
 
 -- refusal 6 of a zone, part by part
 pub record FineZone (i : Inputs) (k : ℕ) : Type 0 where
@@ -80,7 +104,7 @@ pub record FineZone (i : Inputs) (k : ℕ) : Type 0 where
   pub weights : allFinite (pointsAt (i .shape) (i .weights) k) ≡ true
 
 pub fine-zone : (i : Inputs) (k : ℕ) → zoneFinite i k ≡ true → FineZone i k
-unfolding zoneFinite
+unfolding madeFinite
 fine-zone i k e =
     let a = both (coreFinite (i .shape) (i .source) k) (axisFinite (axisAt (i .axes) k) && allFinite (pointsAt (i .shape) (i .weights) k)) e in
     let b = both (axisFinite (axisAt (i .axes) k)) (allFinite (pointsAt (i .shape) (i .weights) k)) (a .1) in

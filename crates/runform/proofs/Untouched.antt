@@ -7,60 +7,56 @@ use mathlib.Core.List.{List}
 use lib.ListN.{length}
 use lib.Ieee.{Float}
 use Rattle.numbers.specs.Arithmetic.{zero64}
-use Rattle.answers.specs.declared.Refusal.the-variants.{Length}
 use Rattle.answers.specs.declared.Refusal.{Refusal}
 use Rattle.answers.specs.declared.Verdict.the-variants.{Fits, Refused}
 use Rattle.answers.specs.Outcome.{Answer, done, refused, verdictOf}
 use Rattle.answers.proofs.Outcomes.{bind-done, done-inj, fits-done}
-use Rattle.answers.proofs.Checks.{demand-is, then-is}
 use Rattle.lists.specs.Slots.{WrittenFrom}
 use Rattle.lists.specs.Walks.{walk}
-use Rattle.lists.proofs.Tests.{eqb-is}
 use Rattle.lists.proofs.Tables.{listed-length}
 use Rattle.lists.proofs.Walks.{walk-length}
 use Rattle.lists.proofs.Written.{written-from}
-use Rattle.shape.specs.declared.Shape.{Shape}
-use Rattle.shape.specs.Shapes.{coreSize, entriesOf}
+use Rattle.shape.specs.Shapes.{coreSize, entriesOf, allPoints}
 use Rattle.shape.proofs.Shaped.{Shaped, shaped}
-use Rattle.cutform.specs.Rounding.{Carry, Cut, rankIn, numbersIn}
+use Rattle.cutform.specs.Bonds.{noBond}
+use Rattle.cutform.specs.Rounding.{Carry, Cut, numbersIn}
 use Rattle.stepform.specs.Zones.{Rules}
 use Rattle.stepform.specs.Steps.{stepFrom}
 use Rattle.stepform.proofs.Restart.{step-length}
 use Rattle.sumform.specs.Sums.{sumSize}
-use Rattle.runform.specs.Kept.{Inputs, Summed, Kept, running, allCarries, allSums, zoneAt, zonesFrom, carryAt, sumsAt, weighedAt, weighedFrom}
+use Rattle.runform.specs.Kept.{Inputs, Summed, Kept, running, allCarries, allSums, lengthsOf, zoneAt, zonesFrom, carryAt, sumsAt, weighedAt, weighedFrom}
 use Rattle.cutform.specs.Keeping.{Stepped, bondSize, carrySize, keepStep}
 use Rattle.runform.specs.Work.{keepSums, sumZone, restep, resum, sumFrom, workFrom}
-use Rattle.runform.specs.Checks.{rankOk, keptLent, scratchLent}
+use Rattle.runform.specs.Checks.{rankOk, lentFrom, scratchLent}
 use Rattle.runform.specs.Requests.{Request, newCore, newAxis, newWeights, present, InOrder, redo, replace}
 use Rattle.runform.specs.Call.{scratchPlace, replaceEnd, replaceBy}
 use Rattle.runform.specs.Left.{StepFrom, Left, Arrays}
 use Rattle.runform.specs.Sequence.{keptAfter}
+use Rattle.runform.proofs.Trace.{lent-all}
 use Rattle.runform.proofs.Accepted.{accepted}
 use Rattle.runform.proofs.Before.{bond-count, Roomy}
 
 -- ---- the room of a run that is accepted
-pub record Slices (s : Shape) (chain carries sums : List Float) : Type 0 where
-  pub chain-long : length chain ≡ entriesOf s
-  pub carries-long : length carries ≡ allCarries s
-  pub sums-long : length sums ≡ allSums s
+pub record Long (k : Kept) : Type 0 where
+  pub source : length (k .inputs .source) ≡ entriesOf (k .inputs .shape)
+  pub weights : length (k .inputs .weights) ≡ allPoints (k .inputs .shape)
+  pub chain : length (k .stepped .chain) ≡ entriesOf (k .inputs .shape)
+  pub carries : length (k .stepped .carries) ≡ allCarries (k .inputs .shape)
+  pub sums : length (k .summed .sums) ≡ allSums (k .inputs .shape)
 
-pub slices-are : (s : Shape) (chain carries sums : List Float) → keptLent s chain carries sums ≡ done tt → Slices s chain carries sums
-unfolding keptLent
-slices-are s chain carries sums e =
-    let a = then-is _ _ tt e in
-    let b = then-is _ _ tt (a .1) in
-    record { chain-long = eqb-is _ _ (demand-is _ (Length 2) (a .0)); carries-long = eqb-is _ _ (demand-is _ (Length 3) (b .0)); sums-long = eqb-is _ _ (demand-is _ (Length 4) (b .1)) }
+pub slices-are : (k : Kept) → lentFrom (k .inputs .shape) 0 (lengthsOf k) ≡ done tt → Long k
+slices-are k e =
+    let L = lent-all (k .inputs .shape) _ _ _ _ _ e in
+    record { source = L .0; weights = L .1; chain = L .2; carries = L .3; sums = L .4 }
 
-pub roomy : (k : Kept) → Arrays k → Shaped (k .inputs .shape) → Slices (k .inputs .shape) (k .stepped .chain) (k .stepped .carries) (k .summed .sums) → Roomy (k .inputs .shape) (k .stepped)
+pub roomy : (k : Kept) → Arrays k → Shaped (k .inputs .shape) → Long k → Roomy (k .inputs .shape) (k .stepped)
 roomy k A S L =
     let b = bond-count (k .inputs .shape) (S .least) in
     let m = S .most in
-    let r = A .ranks in
-    let w = A .sweeps in
-    let f = A .settled in
-    let c = L .chain-long in
-    let y = L .carries-long in
-    record { ranks = omega arith; sweeps = omega arith; settled = omega arith; chain = omega arith; carries = omega arith }
+    let r = A .bonds in
+    let c = L .chain in
+    let y = L .carries in
+    record { bonds = omega arith; chain = omega arith; carries = omega arith }
 
 -- ---- the work
 module _ (R : Rules) (i : Inputs) (z : ℕ) (inside : z < i .shape .d) where
@@ -73,9 +69,7 @@ module _ (R : Rules) (i : Inputs) (z : ℕ) (inside : z < i .shape .d) where
       let n : length c ≡ s .d - z = step-length R (i .set) (s .d) z (carryAt s t z) (zonesFrom i z) c (A .1) ∙ listed-length (s .d - z) z (zoneAt i) in
       let all : z + length c ≡ s .d = omega arith in
       subst (λ (x : Stepped). StepFrom s z t x) (done-inj (A .2)) (record {
-        ranks = written-from (bondSize s) 0 (s .d) (λ (r : Carry × Cut). rankIn (r .0)) z c (t .ranks) all (M .ranks);
-        sweeps = written-from (bondSize s) 0 (s .d) (λ (r : Carry × Cut). r .1 .counts) z c (t .sweeps) all (M .sweeps);
-        settled = written-from (bondSize s) false (s .d) (λ (r : Carry × Cut). r .1 .flags) z c (t .settled) all (M .settled);
+        bonds = written-from (bondSize s) noBond (s .d) (λ (r : Carry × Cut). r .1 .bonds) z c (t .bonds) all (M .bonds);
         chain = written-from (coreSize s) zero64 (s .d) (λ (r : Carry × Cut). r .1 .core .entries) z c (t .chain) all (M .chain);
         carries = written-from (carrySize s) zero64 (s .d) (λ (r : Carry × Cut). numbersIn (r .0)) z c (t .carries) all (M .carries);
       })
@@ -116,18 +110,18 @@ module _ (R : Rules) (k : Kept) (q : Request) (scratch : List Float) where
   pub untouched : Arrays k → replaceBy R k q scratch .result .verdict ≡ Fits → Left k (keptAfter (replaceBy R k q scratch)) q
   unfolding replaceBy replaceEnd
   untouched A e =
-      let room = scratchLent (k .inputs .shape) (scratchPlace q) scratch in
+      let room = scratchLent (k .inputs .shape) (scratchPlace q) (length scratch) in
       let D = fits-done (replace R room k q) e in
       let W = accepted R room k (D .0) q (D .1) in
       let P = W .0 in
-      let L = slices-are (k .inputs .shape) (k .stepped .chain) (k .stepped .carries) (k .summed .sums) (P .slices) in
-      let M = roomy k A (shaped (k .inputs .shape) (rankOk (k .inputs .shape) (k .stepped)) (P .shape)) L in
-      subst (λ (o : Answer Kept). Left k (keptAfter (replaceEnd k scratch o)) q) (sym (D .1)) (redone-left R k (D .0) q (P .order) M (L .sums-long) (W .1))
+      let L = slices-are k (P .slices) in
+      let M = roomy k A (shaped (k .inputs .shape) (rankOk (k .inputs .shape) (k .stepped .bonds)) (P .shape)) L in
+      subst (λ (o : Answer Kept). Left k (keptAfter (replaceEnd k scratch o)) q) (sym (D .1)) (redone-left R k (D .0) q (P .order) M (L .sums) (W .1))
 
   -- refused: record and slices are as they were
   pub refused-leaves : (r : Refusal) → replaceBy R k q scratch .result .verdict ≡ Refused r → keptAfter (replaceBy R k q scratch) ≡ k
   unfolding replaceBy replaceEnd
-  refused-leaves r e = go (replace R (scratchLent (k .inputs .shape) (scratchPlace q) scratch) k q) e
+  refused-leaves r e = go (replace R (scratchLent (k .inputs .shape) (scratchPlace q) (length scratch)) k q) e
     where
       go : (o : Answer Kept) → verdictOf o ≡ Refused r → keptAfter (replaceEnd k scratch o) ≡ k
       go (done k') h = let z : _≡_ {A = ℕ} 0 1 = cc in let n : ⊥ = omega arith in absurd n

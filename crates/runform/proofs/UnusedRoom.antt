@@ -178,11 +178,11 @@ module _ (R : Rules) (i : Inputs) (t t' : Stepped) (u u' : Summed) (A : Arrays (
           let s = i .shape in
           let P = checks-say R room (running i t u) q h in
           let P' = checks-say R room (running i t' u') q (sym (checks-same R i t t' u u' E room q) ∙ h) in
-          let shp = shaped s (rankOk s t) (P .shape) in
-          let L = slices-are s (t .chain) (t .carries) (u .sums) (P .slices) in
-          let L' = slices-are s (t' .chain) (t' .carries) (u' .sums) (P' .slices) in
-          let n = L .sums-long in
-          let n' = L' .sums-long in
+          let shp = shaped s (rankOk s (t .bonds)) (P .shape) in
+          let L = slices-are (running i t u) (P .slices) in
+          let L' = slices-are (running i t' u') (P' .slices) in
+          let n = L .sums in
+          let n' = L' .sums in
           redo-alike q shp (P .order) (roomy (running i t u) A shp L) (roomy (running i t' u') A' shp L') (omega arith) (omega arith)
 
 -- the ends of two calls: the same verdict, and runs that agree in used room
@@ -204,8 +204,8 @@ unused-room R k k' A A' E q scratch =
     let i = k .inputs in
     let t' = k' .stepped in
     let u' = k' .summed in
-    let one : Arrays (running i t' u') = record { axes = A .axes; ranks = A' .ranks; sweeps = A' .sweeps; settled = A' .settled } in
+    let one : Arrays (running i t' u') = record { axes = A .axes; bonds = A' .bonds } in
     let two : Alike k (running i t' u') = record { inputs = refl; steps = E .steps; sums = E .sums; figure = E .figure; sums-long = E .sums-long } in
-    let room = scratchLent (i .shape) (scratchPlace q) scratch in
-    subst (λ (j : Inputs). EndsAlike (replaceEnd k scratch (replace R room k q)) (replaceEnd (running j t' u') scratch (replace R (scratchLent (j .shape) (scratchPlace q) scratch) (running j t' u') q))) (E .inputs)
+    let room = scratchLent (i .shape) (scratchPlace q) (length scratch) in
+    subst (λ (j : Inputs). EndsAlike (replaceEnd k scratch (replace R room k q)) (replaceEnd (running j t' u') scratch (replace R (scratchLent (j .shape) (scratchPlace q) (length scratch)) (running j t' u') q))) (E .inputs)
     (ends-alike k (running i t' u') two scratch (replace R room k q) (replace R room (running i t' u') q) (replace-alike R i (k .stepped) t' (k .summed) u' A one two room q))

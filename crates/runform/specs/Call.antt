@@ -1,6 +1,7 @@
 -- The calls: a fresh run and the three replacements. What each answers, and what it leaves in every slice. Definitions only.
 use Prim.Native.Nat.{ℕ}
 use mathlib.Core.List.{List}
+use lib.ListN.{length}
 use lib.Ieee.{Float}
 use Rattle.answers.specs.Outcome.{Answer, Check, _then_, verdictOf, heldOr}
 use Rattle.shape.specs.declared.Shape.{Shape}
@@ -29,14 +30,24 @@ pub record Room : Type 0 where
   pub sums : List Float
   pub scratch : List Float
 
-unfoldable pub roomOk : Shape → Room → Check
-roomOk s m = keptLent s (m .chain) (m .carries) (m .sums) then scratchLent s 5 (m .scratch)
+-- 5 of them, by their lengths
+unfoldable pub roomLent : Shape → ℕ → ℕ → ℕ → ℕ → Check
+roomLent s chain carries sums scratch = keptLent s chain carries sums then scratchLent s 5 scratch
+
+abbrev pub roomOk : Shape → Room → Check
+roomOk s m = roomLent s (length (m .chain)) (length (m .carries)) (length (m .sums)) (length (m .scratch))
 
 -- refused, the record keeps nothing: the given shape, axes and settings, and zeros
 unfoldable pub freshEnd : Inputs → Room → Answer Kept → FreshEnd
 freshEnd i m o =
     let k = heldOr (bare i (m .chain) (m .carries) (m .sums)) o in
-    record { result = record { verdict = verdictOf o; run = recordOf k }; chain = k .stepped .chain; carries = k .stepped .carries; sums = k .summed .sums; scratch = scratchAfter (m .scratch) o }
+    record {
+      result = record { verdict = verdictOf o; run = recordOf k };
+      chain = k .stepped .chain;
+      carries = k .stepped .carries;
+      sums = k .summed .sums;
+      scratch = scratchAfter (m .scratch) o;
+    }
 
 -- ---- a replacement: slices are source, weights, chain, carries, sums, the part where there is one, scratch; the part is only read
 pub record ReplaceEnd : Type 0 where
@@ -73,7 +84,7 @@ module _ (R : Rules) where
   freshBy i m = freshEnd i m (freshRun R (roomOk (i .shape) m) i)
 
   unfoldable pub replaceBy : Kept → Request → List Float → ReplaceEnd
-  replaceBy k q scratch = replaceEnd k scratch (replace R (scratchLent (k .inputs .shape) (scratchPlace q) scratch) k q)
+  replaceBy k q scratch = replaceEnd k scratch (replace R (scratchLent (k .inputs .shape) (scratchPlace q) (length scratch)) k q)
 
 -- ---- the public calls, by the rules of 000 and 001: the settings, then the slices in their order
 abbrev pub freshCall : Shape → List Axis → Settings → List Float → List Float → List Float → List Float → List Float → List Float → FreshEnd

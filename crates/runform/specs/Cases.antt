@@ -2,7 +2,7 @@
 -- D is the chain of the scope's hand sums, with weights (1,2) and (1); nothing moves but by the new axis record.
 use Prim.Native.Nat.{ℕ}
 use mathlib.Core.Path.{_≡_}
-use mathlib.Core.Bool.{true, false}
+use mathlib.Core.Bool.{Bool, true, false}
 use mathlib.Core.List.{List, [], _∷_, _++_, map}
 use lib.IntN.{pos, negsuc}
 use lib.ListN.{take, replicate}
@@ -15,6 +15,9 @@ use Rattle.lists.specs.Floats.{zeros}
 use Rattle.shape.specs.declared.Shape.{Shape}
 use Rattle.shape.specs.Limits.{scratchFor}
 use Rattle.stepform.specs.declared.Axis.{Axis}
+use Rattle.cutform.specs.declared.Bond.{Bond}
+use Rattle.cutform.specs.Bonds.{noBond}
+use Rattle.cutform.specs.Keeping.{rankAt}
 use Rattle.stepform.specs.declared.Settings.{Settings}
 use Rattle.stepform.specs.Zones.{rules}
 use Rattle.runform.specs.Kept.{Kept, keptOf}
@@ -39,6 +42,10 @@ axisOf a b = record { a = a; b = b; xmin = zero64; xmax = one64 }
 abbrev pub axes : List Axis
 axes = replicate 16 (axisOf zero64 zero64)
 
+-- a bond of rank r that took no sweep
+abbrev pub bond : ℕ → Bool → Bond
+bond r settled = record { rank = r; sweeps = 0; settled = settled }
+
 abbrev pub D : List Float
 D = number 3 0 ∷ zero64 ∷ zero64 ∷ number 1 2 ∷ one64 ∷ one64 ∷ []
 
@@ -46,14 +53,14 @@ abbrev pub weights : List Float
 weights = one64 ∷ two64 ∷ one64 ∷ []
 
 abbrev pub settings : Float → Settings
-settings eps = record { tau = one64; c = zero64; eps = eps }
+settings eps = record { tau = one64; c = zero64; cutting = record { eps = eps } }
 
 abbrev scratch : List Float
 scratch = zeros (scratchFor 6)
 
 -- ---- what a call leaves: number and place of a refusal, or the first rank, the figure, the chain, the carries and the sums
 abbrev pub shown : Kept → Verdict → List ℕ
-shown k Fits = take 1 (k .stepped .ranks) ++ bits (k .summed .figure ∷ (k .stepped .chain ++ (k .stepped .carries ++ k .summed .sums)))
+shown k Fits = rankAt (k .stepped) 0 ∷ bits (k .summed .figure ∷ (k .stepped .chain ++ (k .stepped .carries ++ k .summed .sums)))
 shown k (Refused r) = numberOf r ∷ placeOf r ∷ []
 
 abbrev freshly : Shape → FreshEnd
@@ -94,7 +101,7 @@ widely a b c d figure =
 abbrev left : List Axis → ℕ → Float → Float → Kept
 left xs r x y = record {
   inputs = record { shape = shapeOf 2 1; axes = xs; set = settings (fin false 3 (negsuc 1)); source = D; weights = weights };
-  stepped = record { ranks = r ∷ replicate 15 0; sweeps = replicate 16 0; settled = replicate 16 false; chain = zero64 ∷ one64 ∷ y ∷ y ∷ number 1 2 ∷ y ∷ []; carries = zero64 ∷ x ∷ y ∷ y ∷ [] };
+  stepped = record { bonds = bond r false ∷ replicate 15 noBond; chain = zero64 ∷ one64 ∷ y ∷ y ∷ number 1 2 ∷ y ∷ []; carries = zero64 ∷ x ∷ y ∷ y ∷ [] };
   summed = record { sums = two64 ∷ y ∷ number 1 3 ∷ []; figure = number 1 3 };
 }
 

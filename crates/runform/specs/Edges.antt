@@ -15,13 +15,14 @@ use Rattle.lists.specs.Floats.{zeros}
 use Rattle.shape.specs.declared.Shape.{Shape}
 use Rattle.shape.specs.Limits.{scratchFor}
 use Rattle.stepform.specs.declared.Axis.{Axis}
+use Rattle.cutform.specs.Bonds.{noBond}
 use Rattle.stepform.specs.declared.Settings.{Settings}
 use Rattle.stepform.specs.Zones.{rules}
 use Rattle.runform.specs.Kept.{Kept, keptOf}
 use Rattle.runform.specs.Requests.{Request, newCore, newAxis, newWeights}
 use Rattle.runform.specs.Call.{FreshEnd, freshCall, replaceBy}
 use Rattle.runform.specs.Sequence.{keptAfter}
-use Rattle.runform.specs.Cases.{number, bits, shapeOf, axisOf, axes, D, weights, settings, shown, after, new, Case, case}
+use Rattle.runform.specs.Cases.{bond, number, bits, shapeOf, axisOf, axes, D, weights, settings, shown, after, new, Case, case}
 
 abbrev minus-one : Float
 minus-one = fin true 1 (pos 0)
@@ -40,7 +41,7 @@ abbrev axesOf : Axis → Axis → List Axis
 axesOf x y = x ∷ y ∷ replicate 14 still
 
 abbrev setOf : Float → Float → Float → Settings
-setOf tau c eps = record { tau = tau; c = c; eps = eps }
+setOf tau c eps = record { tau = tau; c = c; cutting = record { eps = eps } }
 
 -- eps 0.75
 abbrev set : Settings
@@ -73,9 +74,7 @@ abbrev holding : Shape → List Axis → Settings → List Float → ℕ → Flo
 holding s xs t points r figure = record {
   inputs = record { shape = s; axes = xs; set = t; source = D; weights = points };
   stepped = record {
-    ranks = r ∷ replicate 15 0;
-    sweeps = replicate 16 0;
-    settled = true ∷ replicate 15 false;
+    bonds = bond r true ∷ replicate 15 noBond;
     chain = zero64 ∷ one64 ∷ minus-nought ∷ minus-nought ∷ number 1 2 ∷ minus-nought ∷ [];
     carries = zero64 ∷ number 1 2 ∷ minus-nought ∷ minus-nought ∷ [];
   };
@@ -178,9 +177,7 @@ leavesNothing r xs t source after =
           shape = shapeOf 2 1;
           axes = xs;
           set = t;
-          ranks = replicate 16 0;
-          sweeps = replicate 16 0;
-          settled = replicate 16 false;
+          bonds = replicate 16 noBond;
           figure = zero64;
         };
       };

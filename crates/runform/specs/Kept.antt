@@ -1,8 +1,7 @@
 -- A kept run in memory: what it is made from, what it keeps, and what it holds for each zone. Definitions only.
 use Prim.Native.Nat.{ℕ, zero, suc, _-_, _*_}
-use mathlib.Core.Bool.{false}
-use mathlib.Core.List.{List}
-use lib.ListN.{take, replicate}
+use mathlib.Core.List.{List, [], _∷_}
+use lib.ListN.{length, take, replicate}
 use lib.Ieee.{Float}
 use Rattle.numbers.specs.Arithmetic.{zero64}
 use Rattle.lists.specs.Lists.{listed}
@@ -10,16 +9,20 @@ use Rattle.lists.specs.Slots.{offset, slot}
 use Rattle.lists.specs.Floats.{zeros}
 use Rattle.shape.specs.declared.Shape.{Shape}
 use Rattle.shape.specs.Limits.{mostAxes}
-use Rattle.shape.specs.Shapes.{pointsOf, rightOf, atBond, coreSize, entriesOf}
+use Rattle.shape.specs.Shapes.{pointsOf, rightOf, atBond, coreSize, entriesOf, allPoints}
 use Rattle.shape.specs.Cores.{Core, coreWith, coreAt, pointsAt}
 use Rattle.stepform.specs.declared.Axis.{Axis}
+use Rattle.cutform.specs.declared.Bond.{Bond}
+use Rattle.stepform.specs.Axes.{axisAt}
 use Rattle.cutform.specs.Rounding.{Carry, none, some}
-use Rattle.cutform.specs.Keeping.{Stepped, carrySize, rankAt}
+use Rattle.cutform.specs.Bonds.{noBond}
+use Rattle.cutform.specs.Keeping.{Stepped, carrySize, rankAmong, rankAt}
 use Rattle.sumform.specs.Product.{startSums}
 use Rattle.sumform.specs.Sums.{sumSize}
 use Rattle.stepform.specs.declared.Settings.{Settings}
-use Rattle.stepform.specs.Zones.{Zone, zone, axisAt}
+use Rattle.stepform.specs.Zones.{Zone, zone}
 use Rattle.runform.specs.declared.Run.{Run}
+use Rattle.runform.specs.declared.Lengths.{Lengths}
 
 -- what a run is made from
 pub record Inputs : Type 0 where
@@ -46,7 +49,7 @@ running i t u = record { inputs = i; stepped = t; summed = u }
 abbrev pub keptOf : Run → List Float → List Float → List Float → List Float → List Float → Kept
 keptOf r source weights chain carries sums = record {
   inputs = record { shape = r .shape; axes = r .axes; set = r .set; source = source; weights = weights };
-  stepped = record { ranks = r .ranks; sweeps = r .sweeps; settled = r .settled; chain = chain; carries = carries };
+  stepped = record { bonds = r .bonds; chain = chain; carries = carries };
   summed = record { sums = sums; figure = r .figure };
 }
 
@@ -55,9 +58,7 @@ recordOf k = record {
   shape = k .inputs .shape;
   axes = k .inputs .axes;
   set = k .inputs .set;
-  ranks = k .stepped .ranks;
-  sweeps = k .stepped .sweeps;
-  settled = k .stepped .settled;
+  bonds = k .stepped .bonds;
   figure = k .summed .figure;
 }
 
@@ -68,11 +69,23 @@ allCarries s = offset (carrySize s) (s .d)
 abbrev pub allSums : Shape → ℕ
 allSums s = offset (sumSize s) (s .d)
 
+-- ---- the lengths of its slices, in their order: those that a shape asks for, those of a run, and those that code was told
+abbrev pub lengthsFor : Shape → List ℕ
+lengthsFor s = entriesOf s ∷ allPoints s ∷ entriesOf s ∷ allCarries s ∷ allSums s ∷ []
+
+abbrev pub lengthsOf : Kept → List ℕ
+lengthsOf k =
+    length (k .inputs .source) ∷ length (k .inputs .weights)
+    ∷ length (k .stepped .chain) ∷ length (k .stepped .carries) ∷ length (k .summed .sums) ∷ []
+
+abbrev pub lengthsIn : Lengths → List ℕ
+lengthsIn l = l .source ∷ l .weights ∷ l .chain ∷ l .carries ∷ l .sums ∷ []
+
 -- a run that keeps nothing yet, over slices as they are
 unfoldable pub bare : Inputs → List Float → List Float → List Float → Kept
 bare i chain carries sums = record {
   inputs = i;
-  stepped = record { ranks = replicate mostAxes 0; sweeps = replicate mostAxes 0; settled = replicate mostAxes false; chain = chain; carries = carries };
+  stepped = record { bonds = replicate mostAxes noBond; chain = chain; carries = carries };
   summed = record { sums = sums; figure = zero64 };
 }
 
@@ -88,25 +101,41 @@ zoneAt i k = zone (coreAt (i .shape) (i .source) k) (axisAt (i .axes) k)
 abbrev pub zonesFrom : Inputs → ℕ → List Zone
 zonesFrom i z = listed (i .shape .d - z) z (zoneAt i)
 
--- ---- what it holds, zone by zone: the used room of each slot
+-- ---- what it holds, zone by zone: the used room of each slot, by the bonds and the slice
 -- the kept ranks left and right of core k
+abbrev pub leftHeld : List Bond → ℕ → ℕ
+leftHeld bonds zero = 1
+leftHeld bonds (suc k) = rankAmong bonds k
+
+abbrev pub rightHeld : Shape → List Bond → ℕ → ℕ
+rightHeld s bonds k = atBond s k (rankAmong bonds k) (rightOf s k)
+
+unfoldable pub heldCore : Shape → List Bond → List Float → ℕ → Core
+heldCore s bonds chain k =
+    let l = leftHeld bonds k in
+    let n = pointsOf s k in
+    let r = rightHeld s bonds k in
+    coreWith l n r (take (l * n * r) (slot (coreSize s) k chain))
+
+abbrev pub heldCarry : Shape → List Bond → List Float → ℕ → List Float
+heldCarry s bonds carries k = take (rankAmong bonds k * rightOf s k) (slot (carrySize s) k carries)
+
+abbrev pub heldSums : Shape → List Bond → List Float → ℕ → List Float
+heldSums s bonds sums k = take (rightHeld s bonds k) (slot (sumSize s) k sums)
+
+-- ---- of a run
 abbrev pub leftRank : Stepped → ℕ → ℕ
-leftRank t zero = 1
-leftRank t (suc k) = rankAt t k
+leftRank t k = leftHeld (t .bonds) k
 
 abbrev pub rightRank : Shape → Stepped → ℕ → ℕ
-rightRank s t k = atBond s k (rankAt t k) (rightOf s k)
+rightRank s t k = rightHeld s (t .bonds) k
 
-unfoldable pub keptCore : Shape → Stepped → ℕ → Core
-keptCore s t k =
-    let l = leftRank t k in
-    let n = pointsOf s k in
-    let r = rightRank s t k in
-    coreWith l n r (take (l * n * r) (slot (coreSize s) k (t .chain)))
+abbrev pub keptCore : Shape → Stepped → ℕ → Core
+keptCore s t k = heldCore s (t .bonds) (t .chain) k
 
 -- the carry of bond k, and the carry left of zone z
 abbrev pub keptCarry : Shape → Stepped → ℕ → List Float
-keptCarry s t k = take (rankAt t k * rightOf s k) (slot (carrySize s) k (t .carries))
+keptCarry s t k = heldCarry s (t .bonds) (t .carries) k
 
 unfoldable pub carryAt : Shape → Stepped → ℕ → Carry
 carryAt s t zero = none
@@ -114,7 +143,7 @@ carryAt s t (suc k) = some (rankAt t k) (keptCarry s t k)
 
 -- the sums of axis k, and the sums left of zone z
 abbrev pub keptSums : Shape → Stepped → Summed → ℕ → List Float
-keptSums s t u k = take (rightRank s t k) (slot (sumSize s) k (u .sums))
+keptSums s t u k = heldSums s (t .bonds) (u .sums) k
 
 unfoldable pub sumsAt : Shape → Stepped → Summed → ℕ → List Float
 sumsAt s t u zero = startSums

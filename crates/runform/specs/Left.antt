@@ -13,9 +13,7 @@ use Rattle.runform.specs.Requests.{Request, newCore, newAxis, newWeights
 
 -- of the step, where the cores from z on are made anew: all that stands before zone z and behind the last, unused room too
 pub record StepFrom (s : Shape) (z : ℕ) (t t' : Stepped) : Type 0 where
-  pub ranks : WrittenFrom (bondSize s) z (s .d) (t .ranks) (t' .ranks)
-  pub sweeps : WrittenFrom (bondSize s) z (s .d) (t .sweeps) (t' .sweeps)
-  pub settled : WrittenFrom (bondSize s) z (s .d) (t .settled) (t' .settled)
+  pub bonds : WrittenFrom (bondSize s) z (s .d) (t .bonds) (t' .bonds)
   pub chain : WrittenFrom (coreSize s) z (s .d) (t .chain) (t' .chain)
   pub carries : WrittenFrom (carrySize s) z (s .d) (t .carries) (t' .carries)
 
@@ -34,6 +32,4 @@ pub record Left (k k' : Kept) (q : Request) : Type 0 where
 -- the arrays of a run's record have 16 places, as their types say
 pub record Arrays (k : Kept) : Type 0 where
   pub axes : length (k .inputs .axes) ≡ mostAxes
-  pub ranks : length (k .stepped .ranks) ≡ mostAxes
-  pub sweeps : length (k .stepped .sweeps) ≡ mostAxes
-  pub settled : length (k .stepped .settled) ≡ mostAxes
+  pub bonds : length (k .stepped .bonds) ≡ mostAxes

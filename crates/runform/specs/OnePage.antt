@@ -11,11 +11,11 @@ use Rattle.answers.specs.Outcome.{done}
 use Rattle.shape.specs.Limits.{scratchFor}
 use Rattle.shape.specs.Shapes.{entriesOf}
 use Rattle.stepform.specs.Zones.{rules}
-use Rattle.runform.specs.Kept.{Inputs, Kept}
+use Rattle.runform.specs.Kept.{Inputs, Kept, lengthsFor, lengthsOf}
 use Rattle.runform.specs.Requests.{Request, zoneOf, present, InOrder}
 use Rattle.runform.specs.Call.{Room, roomOk, freshBy, replaceBy}
 use Rattle.runform.specs.Left.{Left}
-use Rattle.runform.specs.Sequence.{keptAfter, AsFresh, Asked, found, lengthsOf, lengthsFor, endOf, keptAfterCall}
+use Rattle.runform.specs.Sequence.{keptAfter, AsFresh, Asked, found, endOf, keptAfterCall}
 
 -- the first place where two lists of numbers differ
 pub record FirstWrong (j : ℕ) (xs ys : List ℕ) : Type 0 where

@@ -15,11 +15,13 @@ use Rattle.lists.specs.Floats.{allFinite}
 use Rattle.shape.specs.declared.Shape.{Shape}
 use Rattle.shape.specs.Shapes.{shapeOk, coreSize, pointSize}
 use Rattle.stepform.specs.declared.Axis.{Axis}
-use Rattle.stepform.specs.Axes.{axisFinite, axisOk}
-use Rattle.stepform.specs.Zones.{axisAt, Rules}
-use Rattle.runform.specs.Kept.{Inputs, Kept, running}
+use Rattle.cutform.specs.declared.Bond.{Bond}
+use Rattle.stepform.specs.Axes.{axisFinite, axisOk, axisAt}
+use Rattle.stepform.specs.Zones.{Rules}
+use Rattle.stepform.specs.Lone.{loneFinite, loneOk}
+use Rattle.runform.specs.Kept.{Inputs, Kept, running, lengthsOf}
 use Rattle.runform.specs.Work.{sumFrom, workFrom}
-use Rattle.runform.specs.Checks.{rankOk, inputsLent, keptLent, loneFinite, zoneFinite, keptFinite, loneOk, inReachAt}
+use Rattle.runform.specs.Checks.{rankOk, lentFrom, zoneFinite, keptFinite, inReachAt}
 
 -- a zone, and its new core's numbers, its new axis record or its new weights
 pub data Request : Type 0 where
@@ -49,15 +51,31 @@ pub record InOrder (s : Shape) (q : Request) : Type 0 where
   pub inside : zoneOf q < s .d
   pub fits : partFits s q ≡ true
 
-abbrev pub partFinite : Request → ℕ → Bool
-partFinite (newCore z xs) k = pick (eqb k z) (allFinite xs) true
-partFinite (newAxis z a) k = pick (eqb k z) (axisFinite a) true
-partFinite (newWeights z ws) k = pick (eqb k z) (allFinite ws) true
+abbrev pub newFinite : Request → Bool
+newFinite (newCore z xs) = allFinite xs
+newFinite (newAxis z a) = axisFinite a
+newFinite (newWeights z ws) = allFinite ws
 
-abbrev pub partOk : Request → ℕ → Bool
-partOk (newCore z xs) k = true
-partOk (newAxis z a) k = pick (eqb k z) (axisOk a) true
-partOk (newWeights z ws) k = true
+abbrev pub newOk : Request → Bool
+newOk (newCore z xs) = true
+newOk (newAxis z a) = axisOk a
+newOk (newWeights z ws) = true
+
+-- 1 to 5 of a run as it is found, and 4 of the zone z, but for the part and scratch; `bonds` and `lengths` are the run's
+unfoldable pub foundOk : Shape → List Bond → ℕ → List ℕ → Check
+foundOk s bonds z lengths = shapeOk s (rankOk s bonds) then demand (ltb z (s .d)) Zone then lentFrom s 0 lengths
+
+-- 6 and 7: every number in used room of record and slices, what is to be replaced too; `part` and `axis` say whether the new part, at zone z, passes them
+abbrev pub zoneFound : Kept → ℕ → Bool
+zoneFound k j = zoneFinite (k .inputs) j && keptFinite (k .inputs .shape) (k .stepped) (k .summed) j
+
+unfoldable pub foundNumbers : Kept → ℕ → Bool → Bool → Check
+foundNumbers k z part axis =
+    let i = k .inputs in
+    demand (loneFinite (i .set) && finite (k .summed .figure)) (Number 0)
+    then demandEach Number (λ (j : ℕ). zoneFound k j && pick (eqb j z) part true) (i .shape .d) 0
+    then demand (loneOk (i .set)) (Setting 0)
+    then demandEach Setting (λ (j : ℕ). axisOk (axisAt (i .axes) j) && pick (eqb j z) axis true) (i .shape .d) 0
 
 module _ (R : Rules) where
   -- 8, of the shifts that are made
@@ -66,26 +84,15 @@ module _ (R : Rules) where
   shiftsOk i (newAxis z a) = demandEach Reach (inReachAt R i) (i .shape .d - z) z
   shiftsOk i (newWeights z ws) = done tt
 
-  -- 6 to 8: every number in used room of record and slices, what is to be replaced too, and the new part
+  -- 6 to 8
   unfoldable pub numbersOk : Kept → Request → Check
-  numbersOk k q =
-      let i = k .inputs in
-      let s = i .shape in
-      demand (loneFinite (i .set) && finite (k .summed .figure)) (Number 0)
-      then demandEach Number (λ (j : ℕ). (zoneFinite i j && keptFinite s (k .stepped) (k .summed) j) && partFinite q j) (s .d) 0
-      then demand (loneOk (i .set)) (Setting 0)
-      then demandEach Setting (λ (j : ℕ). axisOk (axisAt (i .axes) j) && partOk q j) (s .d) 0
-      then shiftsOk (present i q) q
+  numbersOk k q = foundNumbers k (zoneOf q) (newFinite q) (newOk q) then shiftsOk (present (k .inputs) q) q
 
   -- the part is slice 5; `room` is 5 for scratch, which comes last
   unfoldable pub replaceOk : Check → Kept → Request → Check
   replaceOk room k q =
-      let i = k .inputs in
-      let s = i .shape in
-      shapeOk s (rankOk s (k .stepped))
-      then demand (ltb (zoneOf q) (s .d)) Zone
-      then inputsLent i
-      then keptLent s (k .stepped .chain) (k .stepped .carries) (k .summed .sums)
+      let s = k .inputs .shape in
+      foundOk s (k .stepped .bonds) (zoneOf q) (lengthsOf k)
       then demand (partFits s q) (Length 5)
       then room
       then numbersOk k q

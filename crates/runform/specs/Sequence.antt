@@ -1,6 +1,5 @@
 -- Calls one after another on one run. Definitions only.
 use mathlib.Core.Path.{_≡_}
-use Prim.Native.Nat.{ℕ}
 use mathlib.Core.List.{List, [], _∷_}
 use lib.ListN.{length}
 use lib.Ieee.{Float}
@@ -8,11 +7,9 @@ use Rattle.answers.specs.declared.Verdict.{Verdict}
 use Rattle.answers.specs.declared.Verdict.the-variants.{Fits, Refused}
 use Rattle.answers.specs.Outcome.{done}
 use Rattle.lists.specs.Floats.{zeros}
-use Rattle.shape.specs.declared.Shape.{Shape}
 use Rattle.shape.specs.Limits.{mostAxes}
-use Rattle.shape.specs.Shapes.{entriesOf, allPoints}
 use Rattle.stepform.specs.Zones.{Rules}
-use Rattle.runform.specs.Kept.{Inputs, Kept, keptOf, recordOf, allCarries, allSums}
+use Rattle.runform.specs.Kept.{Inputs, Kept, keptOf, recordOf, lengthsFor, lengthsOf}
 use Rattle.runform.specs.Requests.{Request, present}
 use Rattle.runform.specs.Call.{FreshEnd, Room, roomOk, freshBy, ReplaceEnd, replaceBy}
 
@@ -80,15 +77,6 @@ returned k m k' =
     keptOf (recordOf k') (heldAfter (k .inputs .source) (m .source) (k' .inputs .source)) (heldAfter (k .inputs .weights) (m .weights) (k' .inputs .weights))
     (heldAfter (k .stepped .chain) (m .chain) (k' .stepped .chain)) (heldAfter (k .stepped .carries) (m .carries) (k' .stepped .carries))
     (heldAfter (k .summed .sums) (m .sums) (k' .summed .sums))
-
--- the lengths of the five slices, and those that a shape asks for
-abbrev pub lengthsOf : Kept → List ℕ
-lengthsOf k =
-    length (k .inputs .source) ∷ length (k .inputs .weights)
-    ∷ length (k .stepped .chain) ∷ length (k .stepped .carries) ∷ length (k .summed .sums) ∷ []
-
-abbrev pub lengthsFor : Shape → List ℕ
-lengthsFor s = entriesOf s ∷ allPoints s ∷ entriesOf s ∷ allCarries s ∷ allSums s ∷ []
 
 -- what the caller lends: the run's own slices, or some of which one at least has a wrong length
 pub data Lends (k : Kept) (c : Asked) : Type 0 where

@@ -4,15 +4,14 @@ use Prim.Native.Nat.{ℕ, suc, _-_, _≤_, _<_}
 use native.Mathlib.Omega.{arith}
 use mathlib.Core.Bool.{Bool, true, cond, _&&_}
 use mathlib.Core.List.{List}
-use lib.Dec.{eqb}
-use lib.ListN.{length, set}
+use lib.Dec.{ltb, eqb}
+use lib.ListN.{length, getD, set}
 use lib.Ieee.{Float}
-use Rattle.answers.specs.declared.Refusal.the-variants.{Axes, Size, Bond, Length, Number, Setting, Reach}
+use Rattle.answers.specs.declared.Refusal.the-variants.{Axes, Size, Bond, Length, Reach}
 use Rattle.answers.specs.declared.Verdict.{Verdict}
 use Rattle.answers.specs.declared.Verdict.the-variants.{Fits}
 use Rattle.answers.specs.Outcome.{done, _then_, demand, demandEach, verdictOf}
 use Rattle.answers.proofs.Checks.{demand-is, then-is, each-is, verdict-passed}
-use Rattle.numbers.specs.Finite.{finite}
 use Rattle.lists.proofs.Tests.{ltb-yes, eqb-is, both}
 use Rattle.shape.specs.declared.Shape.{Shape}
 use Rattle.shape.specs.Limits.{mostAxes, within, scratchFor}
@@ -20,22 +19,19 @@ use Rattle.shape.specs.Shapes.{leftOf, rightOf, sizeOk, bondOk, shapeOk, chainO
 use Rattle.shape.specs.Sizes.{SizesWithin}
 use Rattle.shape.proofs.Shaped.{shaped, shape-same, within-is}
 use Rattle.stepform.specs.declared.Axis.{Axis}
-use Rattle.stepform.specs.Axes.{axisOk}
-use Rattle.cutform.specs.Keeping.{Stepped, rankAt}
 use Rattle.stepform.specs.declared.Settings.{Settings}
-use Rattle.stepform.specs.Zones.{axisAt, rules}
-use Rattle.checks.specs.Over.{axisReaches}
+use Rattle.stepform.specs.Zones.{rules}
+use Rattle.stepform.specs.Call.{axisReaches}
 use Rattle.runform.specs.declared.Run.{Run}
 use Rattle.runform.specs.Kept.{Inputs, Kept, keptOf, allCarries, allSums}
-use Rattle.runform.specs.Checks.{rankOk, loneFinite, zoneFinite, keptFinite, loneOk, inReachAt, freshOk}
-use Rattle.runform.specs.Requests.{Request, newCore, newAxis, zoneOf, present, partFinite, partOk, shiftsOk, numbersOk, replaceOk}
+use Rattle.runform.specs.Checks.{rankOk, lentFrom, scratchLent, inReachAt, freshOk}
+use Rattle.runform.specs.Call.{roomLent}
+use Rattle.runform.specs.Requests.{Request, newCore, newAxis, zoneOf, present, newFinite, newOk, foundNumbers, shiftsOk, numbersOk, replaceOk}
 use Rattle.runform.proofs.Trace.{lent-is, passed}
 use Rattle.runform.proofs.Accepted.{Accepted, checks-say}
 use Rattle.runform.proofs.Untouched.{slices-are}
-use Rattle.run_checks.specs.Asking.{scratchOf, roomOf}
-use Rattle.run_checks.proofs.InRow.{reach-is}
 use Rattle.run_work.specs.InPlace.{RanksWithin}
-use Rattle.run_work.specs.Renewed.{Asked}
+use Rattle.run_work.specs.Renewed.{RenewAsks}
 use Rattle.runs.specs.Ended.{blankRun, axisRun}
 
 -- ---- of a shape whose bonds pass, whatever else is asked of them
@@ -53,13 +49,15 @@ module _ (s : Shape) (kept : ℕ → Bool) (ok : shapeOk s kept ≡ done tt) whe
   chain-passes : chainOk s ≡ done tt
   chain-passes = sym (shape-same s kept (λ (k : ℕ). true) kept-passes) ∙ ok
 
-ranks-pass : (s : Shape) (t : Stepped) → shapeOk s (rankOk s t) ≡ done tt → (m : ℕ) → RanksWithin s (t .ranks) m
+ranks-pass : (s : Shape) (ranks : List ℕ) → shapeOk s (rankOk s ranks) ≡ done tt → (m : ℕ) → RanksWithin s ranks m
 unfolding rankOk
-ranks-pass s t ok m k a b =
-    within-is (rightOf s k) (rankAt t k) (sym (ap (λ (x : Bool). cond x (within (rightOf s k) (rankAt t k)) true) (ltb-yes (suc k) (s .d) b)) ∙ kept-passes s (rankOk s t) ok k (omega arith))
+ranks-pass s ranks ok m k a b =
+    let r = getD ranks k 0 in
+    let here : cond (ltb (suc k) (s .d)) (within (rightOf s k) r) true ≡ within (rightOf s k) r = ap (λ (x : Bool). cond x (within (rightOf s k) r) true) (ltb-yes (suc k) (s .d) b) in
+    within-is (rightOf s k) r (sym here ∙ kept-passes s (rankOk s ranks) ok k (omega arith))
 
-scratch-is : (s : Shape) (j n : ℕ) → scratchOf s j n ≡ done tt → entriesOf s ≤ n
-unfolding scratchOf
+scratch-is : (s : Shape) (j n : ℕ) → scratchLent s j n ≡ done tt → entriesOf s ≤ n
+unfolding scratchLent
 scratch-is s j n e = omega (arith, eqb-is n (scratchFor (entriesOf s)) (demand-is _ (Length j) e))
 
 -- ---- a replacement
@@ -72,105 +70,98 @@ module _ (r : Run) (source weights chain carries sums : List Float) where
 
   shifts-pass : (q : Request) → numbersOk rules run q ≡ done tt → shiftsOk rules (present (run .inputs) q) q ≡ done tt
   unfolding numbersOk
-  shifts-pass q e =
-      let shifts = shiftsOk rules (present (run .inputs) q) q in
-      let axes = demandEach Setting (λ (j : ℕ). axisOk (axisAt (r .axes) j) && partOk q j) (s .d) 0 in
-      let lone = demand (loneOk (r .set)) (Setting 0) in
-      let numbers = demandEach Number (λ (j : ℕ). (zoneFinite (run .inputs) j && keptFinite s (run .stepped) (run .summed) j) && partFinite q j) (s .d) 0 in
-      let a = then-is (demand (loneFinite (r .set) && finite (r .figure)) (Number 0)) (numbers then lone then axes then shifts) tt e in
-      let b = then-is numbers (lone then axes then shifts) tt (a .1) in
-      let c = then-is lone (axes then shifts) tt (b .1) in
-      then-is axes shifts tt (c .1) .1
+  shifts-pass q e = then-is (foundNumbers run (zoneOf q) (newFinite q) (newOk q)) (shiftsOk rules (present (run .inputs) q) q) tt e .1
 
-  module _ (j n : ℕ) (q : Request) (v : Verdict) (e : v ≡ verdictOf (replaceOk rules (scratchOf (r .shape) j n) run q)) (h : v ≡ Fits) where
-    say : Accepted rules (scratchOf (r .shape) j n) run q
-    say = checks-say rules (scratchOf s j n) run q (verdict-passed _ v e h)
+  module _ (j n : ℕ) (q : Request) (v : Verdict) (e : v ≡ verdictOf (replaceOk rules (scratchLent (r .shape) j n) run q)) (h : v ≡ Fits) where
+    say : Accepted rules (scratchLent (r .shape) j n) run q
+    say = checks-say rules (scratchLent s j n) run q (verdict-passed _ v e h)
 
     sizes : SizesWithin (r .shape)
-    sizes = shaped s (rankOk s (run .stepped)) (say .shape) .sizes
+    sizes = shaped s (rankOk s (r .ranks)) (say .shape) .sizes
 
     source-long : length source ≡ entriesOf (r .shape)
-    source-long = lent-is (run .inputs) (say .inputs) .source
+    source-long = slices-are run (say .slices) .source
 
     room : length source ≤ n
     room = omega (arith, source-long, scratch-is s j n (say .scratch))
 
     asked : (xs : List Axis) → ((k : ℕ) → zoneOf q ≤ k → k < r .shape .d → axisReaches (r .set) (r .shape) xs k ≡ true) → (scratch : List Float) → length scratch ≡ n
-        → Asked (record { shape = r .shape; axes = xs; set = r .set; ranks = r .ranks; sweeps = r .sweeps; settled = r .settled; figure = r .figure }) (zoneOf q) weights chain carries sums scratch
+        → RenewAsks (record { shape = r .shape; axes = xs; set = r .set; ranks = r .ranks; sweeps = r .sweeps; settled = r .settled; figure = r .figure }) (zoneOf q) weights chain carries sums scratch
     asked xs reach scratch l =
-        let L = slices-are s chain carries sums (say .slices) in
-        let w = lent-is (run .inputs) (say .inputs) .weights in
+        let L = slices-are run (say .slices) in
+        let w = L .weights in
         record {
-          ok = chain-passes s (rankOk s (run .stepped)) (say .shape);
+          ok = chain-passes s (rankOk s (r .ranks)) (say .shape);
           zone = say .order .inside;
           reach = reach;
-          ranks = ranks-pass s (run .stepped) (say .shape) (zoneOf q);
+          ranks = ranks-pass s (r .ranks) (say .shape) (zoneOf q);
           points = omega (arith, w);
-          chain-long = L .chain-long;
-          carries-long = L .carries-long;
-          sums-long = L .sums-long;
+          chain-long = L .chain;
+          carries-long = L .carries;
+          sums-long = L .sums;
           room = omega (arith, room, source-long);
         }
 
   -- a new core
-  module _ (z : ℕ) (part : List Float) (n : ℕ) (v : Verdict) (e : v ≡ verdictOf (replaceOk rules (scratchOf (r .shape) 6 n) run (newCore z part))) (h : v ≡ Fits) where
+  module _ (z : ℕ) (part : List Float) (n : ℕ) (v : Verdict) (e : v ≡ verdictOf (replaceOk rules (scratchLent (r .shape) 6 n) run (newCore z part))) (h : v ≡ Fits) where
     pub core-asks : SizesWithin (r .shape) × ((z < r .shape .d) × (length source ≡ entriesOf (r .shape)) × (length part ≡ coreSize (r .shape) z) × (length source ≤ n))
     core-asks =
         let q = newCore z part in
         (sizes 6 n q v e h, (say 6 n q v e h .order .inside, source-long 6 n q v e h, eqb-is (length part) (coreSize s z) (say 6 n q v e h .order .fits), room 6 n q v e h))
 
-    pub core-asked : (scratch : List Float) → length scratch ≡ n → Asked r z weights chain carries sums scratch
+    pub core-asked : (scratch : List Float) → length scratch ≡ n → RenewAsks r z weights chain carries sums scratch
     core-asked scratch l =
         let q = newCore z part in
         let S = shifts-pass q (say 6 n q v e h .numbers) in
         let i = present (run .inputs) q in
-        asked 6 n q v e h (r .axes) (λ k a b. reach-is i k ∙ each-is Reach (inReachAt rules i) (s .d - z) z S k a (omega arith)) scratch l
+        asked 6 n q v e h (r .axes) (λ k a b. each-is Reach (inReachAt rules i) (s .d - z) z S k a (omega arith)) scratch l
 
   -- a new axis record
-  module _ (z : ℕ) (x : Axis) (n : ℕ) (v : Verdict) (e : v ≡ verdictOf (replaceOk rules (scratchOf (r .shape) 5 n) run (newAxis z x))) (h : v ≡ Fits) where
+  module _ (z : ℕ) (x : Axis) (n : ℕ) (v : Verdict) (e : v ≡ verdictOf (replaceOk rules (scratchLent (r .shape) 5 n) run (newAxis z x))) (h : v ≡ Fits) where
     pub axis-asks : SizesWithin (r .shape) × ((z ≤ r .shape .d) × (length source ≡ entriesOf (r .shape)) × (length source ≤ n))
     axis-asks = let q = newAxis z x in (sizes 5 n q v e h, (omega (arith, say 5 n q v e h .order .inside), source-long 5 n q v e h, room 5 n q v e h))
 
     pub axis-few : z < mostAxes
     axis-few = let q = newAxis z x in omega (arith, say 5 n q v e h .order .inside, sizes 5 n q v e h .axes .most)
 
-    pub axis-asked : (y : Run) → y ≡ axisRun r z x → (scratch : List Float) → length scratch ≡ n → Asked y z weights chain carries sums scratch
+    pub axis-asked : (y : Run) → y ≡ axisRun r z x → (scratch : List Float) → length scratch ≡ n → RenewAsks y z weights chain carries sums scratch
     axis-asked y p scratch l =
         let q = newAxis z x in
         let S = shifts-pass q (say 5 n q v e h .numbers) in
         let i = present (run .inputs) q in
-        subst (λ (t : Run). Asked t z weights chain carries sums scratch) (sym p)
-        (asked 5 n q v e h (set (r .axes) z x) (λ k a b. reach-is i k ∙ each-is Reach (inReachAt rules i) (s .d - z) z S k a (omega arith)) scratch l)
+        subst (λ (t : Run). RenewAsks t z weights chain carries sums scratch) (sym p)
+        (asked 5 n q v e h (set (r .axes) z x) (λ k a b. each-is Reach (inReachAt rules i) (s .d - z) z S k a (omega arith)) scratch l)
 
 -- ---- a fresh run
 module _ (s : Shape) (xs : List Axis) (set : Settings) (source weights chain carries sums : List Float) (n : ℕ) where
   abbrev i : Inputs
   i = record { shape = s; axes = xs; set = set; source = source; weights = weights }
 
-  module _ (v : Verdict) (e : v ≡ verdictOf (freshOk rules (roomOf s (length chain) (length carries) (length sums) n) i)) (h : v ≡ Fits) where
+  module _ (v : Verdict) (e : v ≡ verdictOf (freshOk rules (roomLent s (length chain) (length carries) (length sums) n) i)) (h : v ≡ Fits) where
     lengths : (length chain ≡ entriesOf s) × (length carries ≡ allCarries s) × (length sums ≡ allSums s) × (entriesOf s ≤ n)
-    unfolding roomOf
+    unfolding roomLent lentFrom
     lengths =
-        let P = passed rules (roomOf s (length chain) (length carries) (length sums) n) i (verdict-passed _ v e h) .1 in
-        let a = then-is _ _ tt P in
+        let P = passed rules (roomLent s (length chain) (length carries) (length sums) n) i (verdict-passed _ v e h) .1 in
+        let o = then-is _ _ tt P in
+        let a = then-is _ _ tt (o .0) in
         let b = then-is _ _ tt (a .1) in
         let c = then-is _ _ tt (b .1) in
-        (eqb-is _ _ (demand-is _ (Length 2) (a .0)), eqb-is _ _ (demand-is _ (Length 3) (b .0)), eqb-is _ _ (demand-is _ (Length 4) (c .0)), scratch-is s 5 n (c .1))
+        (eqb-is _ _ (demand-is _ (Length 2) (a .0)), eqb-is _ _ (demand-is _ (Length 3) (b .0)), eqb-is _ _ (demand-is _ (Length 4) (c .0)), scratch-is s 5 n (o .1))
 
     pub fresh-asks : SizesWithin s × ((0 ≤ s .d) × (length source ≡ entriesOf s) × (length source ≤ n))
     fresh-asks =
-        let P = passed rules (roomOf s (length chain) (length carries) (length sums) n) i (verdict-passed _ v e h) .0 in
+        let P = passed rules (roomLent s (length chain) (length carries) (length sums) n) i (verdict-passed _ v e h) .0 in
         let l = lent-is i (P .lent) .source in
         (shaped s (λ (k : ℕ). true) (P .shape) .sizes, (omega arith, l, omega (arith, lengths .3)))
 
-    pub fresh-asked : (r : Run) → r ≡ blankRun s xs set → (scratch : List Float) → length scratch ≡ n → Asked r 0 weights chain carries sums scratch
+    pub fresh-asked : (r : Run) → r ≡ blankRun s xs set → (scratch : List Float) → length scratch ≡ n → RenewAsks r 0 weights chain carries sums scratch
     fresh-asked r j scratch l =
-        let P = passed rules (roomOf s (length chain) (length carries) (length sums) n) i (verdict-passed _ v e h) .0 in
+        let P = passed rules (roomLent s (length chain) (length carries) (length sums) n) i (verdict-passed _ v e h) .0 in
         let w = lent-is i (P .lent) .weights in
-        subst (λ (t : Run). Asked t 0 weights chain carries sums scratch) (sym j) (record {
+        subst (λ (t : Run). RenewAsks t 0 weights chain carries sums scratch) (sym j) (record {
           ok = P .shape;
           zone = shaped s (λ (k : ℕ). true) (P .shape) .least;
-          reach = λ k a b. reach-is i k ∙ P .reach k b;
+          reach = λ k a b. P .reach k b;
           ranks = λ k a b. let y : ⊥ = omega arith in absurd y;
           points = omega (arith, w);
           chain-long = lengths .0;

@@ -3,8 +3,7 @@ use mathlib.Core.Path.{_≡_, refl, sym, ap, _∙_, subst}
 use Prim.Native.Nat.{ℕ, _-_}
 use native.Mathlib.Nat.{le-of-eq}
 use mathlib.Core.Bool.{Bool}
-use mathlib.Core.List.{List, _++_, map}
-use lib.Dec.{eqb}
+use mathlib.Core.List.{List, [], _∷_, _++_, map}
 use lib.ListN.{length, drop-of-length-le, length-replicate}
 use lib.Ieee.{Float}
 use Rattle.numbers.specs.Arithmetic.{zero64}
@@ -12,21 +11,21 @@ use Rattle.answers.specs.declared.Refusal.{Refusal}
 use Rattle.answers.specs.declared.Refusal.the-variants.{Length, Number, Setting, Reach}
 use Rattle.answers.specs.declared.Verdict.{Verdict}
 use Rattle.answers.specs.declared.Verdict.the-variants.{Fits, Refused}
-use Rattle.answers.specs.Outcome.{Answer, done, refused, bind, Check, _then_, demand, answered, verdictOf}
+use Rattle.answers.specs.Outcome.{Answer, done, refused, bind, Check, _then_, answered, verdictOf}
 use Rattle.answers.proofs.Outcomes.{bind-cong}
 use Rattle.answers.proofs.Checks.{verdict-passed, verdict-refused}
+use Rattle.answers.proofs.Late.{Early, early-demand, early-then, early-each}
 use Rattle.lists.specs.Lists.{pick}
 use Rattle.lists.specs.Slots.{offset, laid, write}
 use Rattle.lists.specs.Walks.{walk}
 use Rattle.lists.specs.Floats.{at, zeros}
 use Rattle.shape.specs.declared.Shape.{Shape}
-use Rattle.shape.specs.Limits.{scratchFor}
 use Rattle.shape.specs.Shapes.{coreSize, entriesOf}
 use Rattle.stepform.specs.declared.Axis.{Axis}
 use Rattle.cutform.specs.Rounding.{Carry, none, Cut, numbersIn}
 use Rattle.cutform.specs.Keeping.{Stepped, carrySize, keepStep}
 use Rattle.cutform.specs.Call.{scratchAfter}
-use Rattle.cutform.proofs.Early.{Early, early-demand, early-then, early-each, early-shape}
+use Rattle.shape.proofs.Early.{early-shape}
 use Rattle.sumform.specs.Product.{startSums}
 use Rattle.sumform.specs.Sums.{sumSize}
 use Rattle.stepform.specs.declared.Settings.{Settings}
@@ -36,30 +35,31 @@ use Rattle.runform.specs.declared.Run.{Run}
 use Rattle.runform.specs.declared.Ran.{Ran}
 use Rattle.runform.specs.Kept.{Inputs, Summed, running, keptOf, allCarries, allSums, bare, blank, zonesFrom, carryAt, sumsAt, weighedFrom}
 use Rattle.runform.specs.Work.{keepSums, sumZone, restep, resum, sumFrom, workFrom}
-use Rattle.runform.specs.Checks.{inputsLent, keptLent, scratchLent, freshOk, freshRun}
-use Rattle.runform.specs.Call.{FreshEnd, Room, roomOk, freshEnd, freshBy, freshCall}
-use Rattle.run_checks.specs.Asking.{scratchOf, roomOf}
+use Rattle.runform.specs.Checks.{scratchLent, madeOk, freshOk, freshRun}
+use Rattle.runform.specs.Call.{FreshEnd, Room, roomLent, freshEnd, freshBy, freshCall}
 use Rattle.run_work.proofs.Late.{late-work}
-use Rattle.run_work.specs.Renewed.{SourcesFrom, Asked, Renewed}
+use Rattle.run_work.specs.Renewed.{SourcesFrom, RenewAsks, Renewed}
 use Rattle.runs.specs.Ended.{blankRun}
+use Rattle.runs.proofs.Replaced.{early-lent}
 use Rattle.runs.proofs.Renewals.{ran-is}
 
 -- ---- the checks refuse before any work
 early-fresh : (room : Check) → Early room → (i : Inputs) → Early (freshOk rules room i)
-unfolding freshOk inputsLent
+unfolding freshOk madeOk
 early-fresh room h i =
     let d = i .shape .d in
     early-then _ _ (early-shape (i .shape) _)
-    (early-then _ _ (early-then _ _ (early-demand _ (Length 0) refl) (early-demand _ (Length 1) refl))
+    (early-then _ _ (early-lent (i .shape) 0 (length (i .source) ∷ length (i .weights) ∷ []))
     (early-then _ _ h
+    (early-then _ _
     (early-then _ _ (early-demand _ (Number 0) refl)
     (early-then _ _ (early-each Number _ d 0 (λ j. refl))
-    (early-then _ _ (early-demand _ (Setting 0) refl)
-    (early-then _ _ (early-each Setting _ d 0 (λ j. refl)) (early-each Reach _ d 0 (λ j. refl))))))))
+    (early-then _ _ (early-demand _ (Setting 0) refl) (early-each Setting _ d 0 (λ j. refl)))))
+    (early-each Reach _ d 0 (λ j. refl)))))
 
-early-room : (s : Shape) (chain carries sums n : ℕ) → Early (roomOf s chain carries sums n)
-unfolding roomOf scratchOf
-early-room s chain carries sums n = early-then _ _ (early-demand _ (Length 2) refl) (early-then _ _ (early-demand _ (Length 3) refl) (early-then _ _ (early-demand _ (Length 4) refl) (early-demand _ (Length 5) refl)))
+early-room : (s : Shape) (chain carries sums n : ℕ) → Early (roomLent s chain carries sums n)
+unfolding roomLent scratchLent
+early-room s chain carries sums n = early-then _ _ (early-lent s 2 (chain ∷ carries ∷ sums ∷ [])) (early-demand _ (Length 5) refl)
 
 -- ---- from zone 0 on every slot is written, so what stood there is not asked
 write-all : (size : ℕ → ℕ) (o : Float) (d : ℕ) (q : List (List Float)) (l l' : List Float) → length l ≡ offset size d → length l' ≡ offset size d → write size o d 0 q l ≡ write size o d 0 q l'
@@ -97,7 +97,7 @@ module _ (i : Inputs) (h h' : Stepped) (ranks : h .ranks ≡ h' .ranks) (sweeps 
 
 -- ---- the call
 module _ (s : Shape) (xs : List Axis) (set : Settings) (source weights chain carries sums scratch : List Float) (v : Verdict)
-    (e : v ≡ verdictOf (freshOk rules (roomOf s (length chain) (length carries) (length sums) (length scratch)) (record { shape = s; axes = xs; set = set; source = source; weights = weights }))) where
+    (e : v ≡ verdictOf (freshOk rules (roomLent s (length chain) (length carries) (length sums) (length scratch)) (record { shape = s; axes = xs; set = set; source = source; weights = weights }))) where
   abbrev i : Inputs
   i = record { shape = s; axes = xs; set = set; source = source; weights = weights }
 
@@ -105,23 +105,11 @@ module _ (s : Shape) (xs : List Axis) (set : Settings) (source weights chain car
   m = record { chain = chain; carries = carries; sums = sums; scratch = scratch }
 
   abbrev ok : Check
-  ok = freshOk rules (roomOf s (length chain) (length carries) (length sums) (length scratch)) i
-
-  rooms : roomOk s m ≡ roomOf s (length chain) (length carries) (length sums) (length scratch)
-  unfolding roomOk keptLent scratchLent roomOf scratchOf
-  rooms =
-      grouped (demand (eqb (length chain) (entriesOf s)) (Length 2)) (demand (eqb (length carries) (allCarries s)) (Length 3))
-      (demand (eqb (length sums) (allSums s)) (Length 4)) (demand (eqb (length scratch) (scratchFor (entriesOf s))) (Length 5))
-    where
-      grouped : (a b c d : Check) → (a then b then c) then d ≡ a then b then c then d
-      grouped (refused r) b c d = refl
-      grouped (done t1) (refused r) c d = refl
-      grouped (done t1) (done t2) (refused r) d = refl
-      grouped (done t1) (done t2) (done t3) d = refl
+  ok = freshOk rules (roomLent s (length chain) (length carries) (length sums) (length scratch)) i
 
   called : freshCall s xs set source weights chain carries sums scratch ≡ freshEnd i m (ok then workFrom rules (blank i) 0)
   unfolding freshBy freshRun
-  called = ap (λ (c : Check). freshEnd i m (freshOk rules c i then workFrom rules (blank i) 0)) rooms
+  called = refl
 
   abbrev endOf : Ran → List Float → List Float → List Float → List Float → FreshEnd
   endOf a x y w u = record { result = a; chain = x; carries = y; sums = w; scratch = u }
@@ -131,7 +119,7 @@ module _ (s : Shape) (xs : List Axis) (set : Settings) (source weights chain car
   unfolding freshEnd bare scratchAfter pick
   fresh-stops r j q h a f =
       let c = verdict-refused ok v q e h in
-      let b = early-fresh (roomOf s (length chain) (length carries) (length sums) (length scratch)) (early-room s (length chain) (length carries) (length sums) (length scratch)) i .first q c in
+      let b = early-fresh (roomLent s (length chain) (length carries) (length sums) (length scratch)) (early-room s (length chain) (length carries) (length sums) (length scratch)) i .first q c in
       ap (λ (x : Ran). endOf x chain carries sums scratch) (f ∙ ap (λ (x : Run). record { verdict = Refused q; run = x }) j)
       ∙ sym
       (called
@@ -139,13 +127,13 @@ module _ (s : Shape) (xs : List Axis) (set : Settings) (source weights chain car
       ∙ ap (λ (y : Bool). endOf (record { verdict = Refused q; run = blankRun s xs set }) chain carries sums (pick y scratch (zeros (length scratch)))) b)
 
   -- the run r that keeps nothing yet is made anew from zone 0 on
-  module _ (h : v ≡ Fits) (r : Run) (j : r ≡ blankRun s xs set) (work : List Float) (A : Asked r 0 weights chain carries sums work) (a : Ran) (chain' carries' sums' : List Float) (R : Renewed r 0 weights chain carries sums work a chain' carries' sums') (S : SourcesFrom s 0 source work)
+  module _ (h : v ≡ Fits) (r : Run) (j : r ≡ blankRun s xs set) (work : List Float) (A : RenewAsks r 0 weights chain carries sums work) (a : Ran) (chain' carries' sums' : List Float) (R : Renewed r 0 weights chain carries sums work a chain' carries' sums') (S : SourcesFrom s 0 source work)
       (u : List Float) (c : u ≡ zeros (length scratch)) where
     abbrev r0 : Run
     r0 = blankRun s xs set
 
-    A0 : Asked r0 0 weights chain carries sums work
-    A0 = subst (λ (t : Run). Asked t 0 weights chain carries sums work) j A
+    A0 : RenewAsks r0 0 weights chain carries sums work
+    A0 = subst (λ (t : Run). RenewAsks t 0 weights chain carries sums work) j A
 
     R0 : Renewed r0 0 weights chain carries sums work a chain' carries' sums'
     R0 = subst (λ (t : Run). Renewed t 0 weights chain carries sums work a chain' carries' sums') j R

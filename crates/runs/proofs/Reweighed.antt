@@ -13,7 +13,6 @@ use Rattle.lists.specs.Floats.{zeros}
 use Rattle.lists.proofs.Tests.{eqb-is}
 use Rattle.shape.specs.Shapes.{shapeOk, pointSize}
 use Rattle.stepform.specs.Zones.{rules}
-use Rattle.run_checks.specs.Ranks.{rankHeld}
 use Rattle.runform.specs.declared.Run.{Run}
 use Rattle.runform.specs.declared.Ran.{Ran}
 use Rattle.runform.specs.Kept.{Inputs, Summed, Kept, running, keptOf}
@@ -21,23 +20,21 @@ use Rattle.runform.specs.Work.{resum, sumFrom}
 use Rattle.runform.specs.Checks.{rankOk, scratchLent}
 use Rattle.runform.specs.Requests.{newWeights, present, replaceOk, replace}
 use Rattle.runform.specs.Call.{replaceEnd, replaceBy, replaceWeightsCall}
-use Rattle.runform.proofs.Trace.{lent-is}
 use Rattle.runform.proofs.Accepted.{checks-say}
 use Rattle.runform.proofs.Untouched.{slices-are}
-use Rattle.run_checks.specs.Asking.{scratchOf}
 use Rattle.run_work.specs.Weights.{Lent, weightsEnd}
 use Rattle.runs.proofs.Replaced.{replace-goes}
 
 module _ (r : Run) (z : ℕ) (source weights chain carries sums part scratch : List Float) (v : Verdict)
-    (e : v ≡ verdictOf (replaceOk rules (scratchOf (r .shape) 6 (length scratch)) (keptOf r source weights chain carries sums) (newWeights z part))) (h : v ≡ Fits) where
+    (e : v ≡ verdictOf (replaceOk rules (scratchLent (r .shape) 6 (length scratch)) (keptOf r source weights chain carries sums) (newWeights z part))) (h : v ≡ Fits) where
   -- what the checks let the work ask
-  pub weights-lent : (shapeOk (r .shape) (rankHeld (r .shape) (r .ranks)) ≡ done tt) × Lent (r .shape) z part weights chain sums
-  unfolding rankOk rankHeld
+  pub weights-lent : (shapeOk (r .shape) (rankOk (r .shape) (r .ranks)) ≡ done tt) × Lent (r .shape) z part weights chain sums
   weights-lent =
       let k = keptOf r source weights chain carries sums in
-      let A = checks-say rules (scratchOf (r .shape) 6 (length scratch)) k (newWeights z part) (verdict-passed _ v e h) in
-      let S = slices-are (r .shape) chain carries sums (A .slices) in
-      (A .shape, record { zone = A .order .inside; part-long = eqb-is (length part) (pointSize (r .shape) z) (A .order .fits); weights-long = lent-is (k .inputs) (A .inputs) .weights; chain-long = S .chain-long; sums-long = S .sums-long })
+      let A = checks-say rules (scratchLent (r .shape) 6 (length scratch)) k (newWeights z part) (verdict-passed _ v e h) in
+      let S = slices-are k (A .slices) in
+      let part-long = eqb-is (length part) (pointSize (r .shape) z) (A .order .fits) in
+      (A .shape, record { zone = A .order .inside; part-long = part-long; weights-long = S .weights; chain-long = S .chain; sums-long = S .sums })
 
   -- u is scratch at the end
   pub weights-worked : (a : Ran) (x y u : List Float) (n : ℕ) → record { result = a; source = source; weights = x; chain = chain; carries = carries; sums = y; scratch = zeros (length scratch) } ≡ weightsEnd r z source weights chain carries sums part scratch
@@ -53,7 +50,7 @@ module _ (r : Run) (z : ℕ) (source weights chain carries sums part scratch : L
 pub weights-leave : (r : Run) (z : ℕ) (source weights chain carries sums part scratch : List Float) → let e = replaceWeightsCall r z source weights chain carries sums part scratch in (e .source ≡ source) × (e .chain ≡ chain) × (e .carries ≡ carries)
 unfolding replaceBy replace replaceEnd sumFrom
 weights-leave r z source weights chain carries sums part scratch =
-    go (replaceOk rules (scratchLent (r .shape) 6 scratch) k (newWeights z part)) (resum rules i (k .stepped) (k .summed) z)
+    go (replaceOk rules (scratchLent (r .shape) 6 (length scratch)) k (newWeights z part)) (resum rules i (k .stepped) (k .summed) z)
   where
     k : Kept
     k = keptOf r source weights chain carries sums

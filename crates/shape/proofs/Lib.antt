@@ -1,6 +1,7 @@
 -- a shape that is accepted, and the verdict on any
 pub mod Shaped
 pub mod Verdicts
+pub mod Early
 -- where things stand
 pub mod Places
 pub mod Packing

@@ -8,7 +8,7 @@ use mir.Syntax.{w64}
 use mir.Val.{Fits}
 use Rattle.lists.specs.Slots.{offset}
 use Rattle.shape.specs.declared.Shape.{Shape}
-use Rattle.shape.specs.Limits.{mostAxes, mostPoints, mostRank}
+use Rattle.shape.specs.Limits.{mostAxes, mostPoints, mostRank, mostCore, mostEntries, mostWeights}
 use Rattle.shape.specs.Shapes.{leftOf, pointsOf, rightOf, coreSize, pointSize, entriesOf, allPoints}
 use Rattle.shape.specs.Sizes.{PointsWithin, SizesWithin}
 
@@ -37,9 +37,6 @@ module _ (size : ℕ → ℕ) where
   offset-most m (suc k) h = omega (arith, offset-most m k (λ j l. h j (omega arith)), h k (le-refl (suc k)))
 
 -- ---- how large a core and a chain can be, and that all of it fits a machine word
-abbrev pub mostCore : ℕ
-mostCore = mostRank * mostPoints * mostRank
-
 module _ (s : Shape) (w : SizesWithin s) where
   module _ (k : ℕ) (l : k < s .d) where
     rows-most : leftOf s k * pointsOf s k ≤ mostRank * mostPoints
@@ -56,21 +53,21 @@ module _ (s : Shape) (w : SizesWithin s) where
     unfolding coreSize
     core-fits = record { fits = omega (arith, core-most) }
 
-  pub core-offset-most : (k : ℕ) → k ≤ s .d → offset (coreSize s) k ≤ mostAxes * mostCore
+  pub core-offset-most : (k : ℕ) → k ≤ s .d → offset (coreSize s) k ≤ mostEntries
   core-offset-most k l = omega (arith, offset-most (coreSize s) mostCore k (λ j m. core-most j (omega arith)), w .axes .most)
 
-  pub entries-most : entriesOf s ≤ mostAxes * mostCore
+  pub entries-most : entriesOf s ≤ mostEntries
   entries-most = core-offset-most (s .d) (le-refl (s .d))
 
   pub core-offset-fits : (k m t x : ℕ) → k < m → m ≤ s .d → t ≡ offset (coreSize s) k → x ≡ coreSize s k → Fits w64 (t + x)
   core-offset-fits k m t x l le e d = record { fits = omega (arith, core-offset-most (k + 1) (omega arith), offset-more (coreSize s) k t x e d) }
 
 module _ (s : Shape) (w : PointsWithin s) where
-  pub points-offset-most : (k : ℕ) → k ≤ s .d → offset (pointSize s) k ≤ mostAxes * mostPoints
+  pub points-offset-most : (k : ℕ) → k ≤ s .d → offset (pointSize s) k ≤ mostWeights
   unfolding pointSize
   points-offset-most k l = omega (arith, offset-most (pointSize s) mostPoints k (λ j m. w .points j (omega arith) .1), w .most)
 
-  pub all-points-most : allPoints s ≤ mostAxes * mostPoints
+  pub all-points-most : allPoints s ≤ mostWeights
   all-points-most = points-offset-most (s .d) (le-refl (s .d))
 
   pub points-offset-fits : (k m t x : ℕ) → k < m → m ≤ s .d → t ≡ offset (pointSize s) k → x ≡ pointSize s k → Fits w64 (t + x)

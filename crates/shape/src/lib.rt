@@ -7,7 +7,7 @@ ghost use Rattle.answers.specs.Outcome.{verdictOf};
 ghost use Rattle.lists.specs.Lists.{firstNot};
 ghost use Rattle.lists.specs.Slots.{offset};
 ghost use Rattle.lists.specs.Floats.{allFinite};
-ghost use Rattle.shape.specs.Limits.{mostAxes, mostPoints, within};
+ghost use Rattle.shape.specs.Limits.{mostAxes, mostPoints, mostEntries, within, scratchFor};
 ghost use Rattle.shape.specs.Shapes.{pointsOf, sizeOk, bondOk, chainOk, coreSize, pointSize, entriesOf, allPoints};
 ghost use Rattle.shape.specs.Sizes.{PointsWithin, SizesWithin};
 ghost use Rattle.shape.specs.Cores.{place, coreWith, coreAt, pointsAt, withCore};
@@ -18,6 +18,28 @@ pub const MOST_AXES: usize = 16;
 pub const MOST_POINTS: usize = 64;
 
 pub const MOST_RANK: usize = 8;
+
+// The rows and the columns of a pair.
+pub const MOST_LINES: usize = 64;
+
+// Scratch has so many times the chain's numbers, and so many beside.
+pub const SCRATCH_TIMES: usize = 4;
+
+pub const SCRATCH_BESIDE: usize = 2048;
+
+// Scratch for a pair.
+pub const PAIR_SCRATCH: usize = 20480;
+
+// What follows: the most numbers of a core, of a core's points at one left index, twice, of all carries, weights and partial sums.
+pub const MOST_CORE: usize = MOST_RANK * MOST_POINTS * MOST_RANK;
+
+pub const MOST_BLOCK: usize = 2 * (MOST_POINTS * MOST_RANK);
+
+pub const MOST_CARRIES: usize = MOST_AXES * (MOST_RANK * MOST_RANK);
+
+pub const MOST_WEIGHTS: usize = MOST_AXES * MOST_POINTS;
+
+pub const MOST_SUMS: usize = MOST_AXES * MOST_RANK;
 
 // d cores; core k has the sizes left[k], n[k], right[k]. Both ranks of a bond stand in it, since a chain in memory may
 // have neighbours that differ.
@@ -33,6 +55,14 @@ pub fn within(most: usize, x: usize) -> bool
     ensures { λ r. ⌜ r ≡ within most x ⌝ }
 {
     (1 <= x) & (x <= most)
+}
+
+// Scratch for a chain of n numbers.
+pub fn scratch_for(n: usize) -> usize
+    requires { ⌜ n ≤ mostEntries ⌝ }
+    ensures { λ r. ⌜ r ≡ scratchFor n ⌝ }
+{
+    SCRATCH_TIMES * n + SCRATCH_BESIDE
 }
 
 // row * n + i, or `most` where that is less. A product that could not be held is never made.

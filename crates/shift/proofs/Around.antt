@@ -21,7 +21,7 @@ use Rattle.shape.specs.Cores.{Core, coreWith, entry}
 use Rattle.shape.proofs.Places.{entry-line, block-lines}
 use Rattle.stepform.specs.Weights.{cubicBandWeights, bandOn, shiftedAt}
 use Rattle.stepform.specs.Shifts.{shifted}
-use Rattle.shift.specs.Starts.{natAt, startsOf, Room, bandIn, entryIn}
+use Rattle.shift.specs.Starts.{natAt, startsOf, StartRoom, bandIn, entryIn}
 use Rattle.shift.specs.Doubled.{twiceOf, blocksOf}
 
 -- a list that has just its length has at least that
@@ -41,7 +41,7 @@ part-long l k m h p e =
     let s : k * h + h - k * h ≡ h = omega arith in
     rw s (length-take-le h (drop (k * h) l) (omega (arith, length-drop (k * h) l, row-end k m h (length l) p (at-least (length l) (m * h) e))))
 
-pub room-for : (starts : List ℕ) (p q h : ℕ) → p ≡ h → q ≡ h + h → Room starts h (h + h) → (p ≤ q) × Room starts p q
+pub room-for : (starts : List ℕ) (p q h : ℕ) → p ≡ h → q ≡ h + h → StartRoom starts h (h + h) → (p ≤ q) × StartRoom starts p q
 room-for starts p q h e f r = (omega arith, λ m s. omega (arith, r m s))
 
 pub block-shifted : (core t x : List Float) (k h w : ℕ) (forward backward : List Float) (ahead behind : List ℕ)

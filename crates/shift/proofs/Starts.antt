@@ -16,7 +16,7 @@ use Rattle.numbers.proofs.Residues.{wrap-lt, wrap-before}
 use Rattle.numbers.proofs.Reach.{parts-small}
 use Rattle.lists.specs.Lists.{listed}
 use Rattle.lists.proofs.Tables.{getD-tab}
-use Rattle.shift.specs.Starts.{natAt, startsOf, Room}
+use Rattle.shift.specs.Starts.{natAt, startsOf, StartRoom}
 
 -- ---- where the rows of a band start
 -- offset s0 - 1 + (m + 1) is m ahead of s0
@@ -47,11 +47,11 @@ pub start-at : (n rr : ℕ) (z : ℤ) (m : ℕ) → m < 4 → natAt (startsOf n 
 unfolding startsOf
 start-at n rr z m l = getD-tab 4 (λ (i : ℕ). wrap n (z -ℤ pos 1 +ℤ pos i) * rr) m 0 l
 
-pub starts-room : (n rr : ℕ) (z : ℤ) → 1 ≤ n → Room (startsOf n rr z) (n * rr) (n * rr + n * rr)
+pub starts-room : (n rr : ℕ) (z : ℤ) → 1 ≤ n → StartRoom (startsOf n rr z) (n * rr) (n * rr + n * rr)
 starts-room n rr z h m l = omega (arith, start-at n rr z m l, mul-le-mul-right rr (le-of-lt (wrap-lt n (z -ℤ pos 1 +ℤ pos m) h)))
 
 -- ---- what a band reads: number j of t from the start of each row
-module _ (starts : List ℕ) (m j l : ℕ) (r : Room starts (suc j) l) (h : m < 4) where
+module _ (starts : List ℕ) (m j l : ℕ) (r : StartRoom starts (suc j) l) (h : m < 4) where
   pub near-lt : natAt starts m + j < l
   near-lt = omega (arith, r m h)
 
@@ -61,7 +61,7 @@ module _ (starts : List ℕ) (m j l : ℕ) (r : Room starts (suc j) l) (h : m < 
   pub near-scaled : l * 8 < 2 ^ 63 → Fits w64 ((natAt starts m + j) * 8)
   near-scaled s = record { fits = omega (arith, r m h) }
 
-pub room-at : (starts : List ℕ) (j h l : ℕ) → Room starts h l → j < h → Room starts (suc j) l
+pub room-at : (starts : List ℕ) (j h l : ℕ) → StartRoom starts h l → j < h → StartRoom starts (suc j) l
 room-at starts j h l r g m s = omega (arith, r m s)
 
 pub ruleset rooms = (near-lt, near-fits, near-scaled, room-at)

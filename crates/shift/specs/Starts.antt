@@ -17,8 +17,8 @@ unfoldable pub startsOf : ℕ → ℕ → ℤ → List ℕ
 startsOf n rr s0 = tab 4 (λ (m : ℕ). wrap n (s0 -ℤ pos 1 +ℤ pos m) * rr)
 
 -- h numbers from each of the four starts on lie among l
-abbrev pub Room : List ℕ → ℕ → ℕ → Type 0
-Room starts h l = (m : ℕ) → m < 4 → natAt starts m + h ≤ l
+abbrev pub StartRoom : List ℕ → ℕ → ℕ → Type 0
+StartRoom starts h l = (m : ℕ) → m < 4 → natAt starts m + h ≤ l
 
 -- acc, then the first k terms of a band at number j of t
 unfoldable pub bandIn : Float → List Float → ℕ → List Float → List ℕ → ℕ → Float

@@ -6,7 +6,7 @@ ghost use lib.ListN.{length};
 ghost use Rattle.numbers.specs.Whole.{wholeOf, fractionOf, inReach};
 ghost use Rattle.shape.specs.Limits.{mostPoints};
 ghost use Rattle.stepform.specs.Weights.{cubicBandWeights};
-ghost use Rattle.shift.specs.Starts.{startsOf, Room, bandIn, entryIn};
+ghost use Rattle.shift.specs.Starts.{startsOf, StartRoom, bandIn, entryIn};
 
 // The four weights of a fraction, for the offsets -1 to 2.
 pub fn cubic_band_weights(t: f64) -> [f64; 4]
@@ -48,7 +48,7 @@ pub fn starts_of(ratio: f64, n: usize, rr: usize) -> [usize; 4]
 
 // acc, then the four terms of a band at number j of t.
 fn band(acc: f64, t: &[f64], j: usize, weights: &[f64; 4], starts: &[usize; 4]) -> f64
-    requires { ⌜ Room (now starts) (suc j) (length (now t)) ⌝ }
+    requires { ⌜ StartRoom (now starts) (suc j) (length (now t)) ⌝ }
     ensures { λ r. ⌜ r ≡ bandIn acc (now (t .entry)) j (now (weights .entry)) (now (starts .entry)) 4 ⌝ }
 {
     let mut x = acc;
@@ -67,7 +67,7 @@ pub fn entry_at(
     backward: &[f64; 4],
     behind: &[usize; 4],
 ) -> f64
-    requires { ⌜ (j < length (now t)) × Room (now ahead) (suc j) (length (now t)) × Room (now behind) (suc j) (length (now t)) ⌝ }
+    requires { ⌜ (j < length (now t)) × StartRoom (now ahead) (suc j) (length (now t)) × StartRoom (now behind) (suc j) (length (now t)) ⌝ }
     ensures { λ r. ⌜ r ≡ entryIn (now (t .entry)) (now (forward .entry)) (now (ahead .entry)) (now (backward .entry)) (now (behind .entry)) j ⌝ }
 {
     let x = band(0.5 * t[j], t, j, forward, ahead);

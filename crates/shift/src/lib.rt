@@ -3,19 +3,18 @@ pub mod bands;
 ghost use mathlib.Core.Path.{_≡_};
 ghost use mathlib.Core.Bool.{true};
 ghost use Prim.Native.Nat.{_+_, _*_, _<_, _≤_};
-ghost use mathlib.Core.List.{List, _++_, map};
+ghost use mathlib.Core.List.{_++_, map};
 ghost use lib.ListN.{length};
 ghost use lib.Ieee.{Float};
 ghost use Rattle.numbers.specs.Arithmetic.{times};
 ghost use Rattle.numbers.specs.Whole.{inReach};
-ghost use Rattle.answers.specs.declared.Part.the-variants.{Entry};
-ghost use Rattle.answers.specs.Outcome.{making, answered, staged};
+ghost use Rattle.answers.specs.Outcome.{answered};
 ghost use Rattle.lists.specs.Lists.{tab};
 ghost use Rattle.shape.specs.Limits.{mostPoints};
 ghost use Rattle.shape.specs.Cores.{coreWith};
 ghost use Rattle.stepform.specs.Shifts.{distance, spacing, shiftOf, reaches, shifted, moveCore, scaled};
 ghost use Rattle.shift.specs.Doubled.{Lent, blocksOf};
-ghost use Rattle.shift.specs.Starts.{Room, entryIn};
+ghost use Rattle.shift.specs.Starts.{StartRoom, entryIn};
 use stepform::Shift;
 
 // How far a step goes along the axis.
@@ -72,8 +71,8 @@ fn shift_block(
     behind: &[usize; 4],
     out: &mut [f64],
 )
-    requires { ⌜ (length (now out) ≤ length (now t)) × Room (now ahead) (length (now out)) (length (now t))
-        × Room (now behind) (length (now out)) (length (now t)) ⌝ }
+    requires { ⌜ (length (now out) ≤ length (now t)) × StartRoom (now ahead) (length (now out)) (length (now t))
+        × StartRoom (now behind) (length (now out)) (length (now t)) ⌝ }
     ensures { λ _. ⌜ now (out .exit)
         ≡ tab (length (now (out .entry))) (entryIn (now (t .entry)) (now (forward .entry)) (now (ahead .entry)) (now (backward .entry)) (now (behind .entry))) ⌝ }
 {
@@ -105,8 +104,8 @@ fn shift_blocks(
     out: &mut [f64],
     t: &mut [f64],
 )
-    requires { ⌜ (length (now core) ≡ rl * h) × (length (now out) ≡ rl * h) × (length (now t) ≡ h + h) × Room (now ahead) h (h + h)
-        × Room (now behind) h (h + h) ⌝ }
+    requires { ⌜ (length (now core) ≡ rl * h) × (length (now out) ≡ rl * h) × (length (now t) ≡ h + h) × StartRoom (now ahead) h (h + h)
+        × StartRoom (now behind) h (h + h) ⌝ }
     ensures { λ _. ⌜ now (out .exit)
         ≡ blocksOf (now (core .entry)) rl h (now (forward .entry)) (now (ahead .entry)) (now (backward .entry)) (now (behind .entry)) ⌝ }
 {
@@ -150,18 +149,6 @@ pub fn shift_core(
     );
 }
 
-// What it comes to that the entries of core k are stored.
-fn storing(k: usize, made: answers::Stage) -> answers::Verdict
-    ensures { λ r. ⌜ ((l : List Float) → making Entry k (staged made l) ≡ answered r l) ⌝ }
-{
-    match made {
-        answers::Stage::Whole => answers::Verdict::Fits,
-        answers::Stage::Spilt(i) => {
-            answers::Verdict::Refused(answers::Refusal::Stored(answers::Part::Entry, k, i))
-        }
-    }
-}
-
 // Core k along its axis, into out; one that stays is copied.
 pub fn move_core(
     core: &[f64],
@@ -183,7 +170,7 @@ pub fn move_core(
         }
         Shift::By(ratio) => {
             shift_core(core, rl, n, rr, ratio, out, block);
-            storing(k, lists::stored(out))
+            answers::stored_in(lists::stored(out), answers::Part::Entry, k)
         }
     }
 }
@@ -204,5 +191,5 @@ pub fn scale(core: &mut [f64], tau: f64, c: f64) -> answers::Verdict
     ensures { λ r. ⌜ scaled tau c (now (core .entry)) ≡ answered r (now (core .exit)) ⌝ }
 {
     multiply(core, 1.0 + tau * c);
-    storing(0, lists::stored(core))
+    answers::stored_in(lists::stored(core), answers::Part::Entry, 0)
 }

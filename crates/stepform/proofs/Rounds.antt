@@ -21,10 +21,10 @@ zones-length xs k [] = refl
 zones-length xs k (c ∷ cs) = ap suc (zones-length xs (suc k) cs)
 
 pub step-rounds : (t : Settings) (xs : List Axis) (cs : List Core)
-    → step t xs cs ≡ bind (every (shiftZone rules t) 0 (zonesOf xs 0 cs)) (λ a. bind (every (scaleZone rules t) 0 a) (λ b. rounding (t .eps) b))
+    → step t xs cs ≡ bind (every (shiftZone rules t) 0 (zonesOf xs 0 cs)) (λ a. bind (every (scaleZone rules t) 0 a) (λ b. rounding (t .cutting) b))
 unfolding step stepFrom rounding roundZone rules
 step-rounds t xs cs =
     bind-cong (every (shiftZone rules t) 0 (zonesOf xs 0 cs)) _ _ (λ a ea.
     bind-cong (every (scaleZone rules t) 0 a) _ _ (λ b eb.
     let n : length cs ≡ length b = sym (every-length (scaleZone rules t) 0 a b eb ∙ every-length (shiftZone rules t) 0 (zonesOf xs 0 cs) a ea ∙ zones-length xs 0 cs) in
-    ap (λ (d : ℕ). walk (λ (k : ℕ). roundCore (t .eps) (ltb (suc k) d) k) 0 none b) n))
+    ap (λ (d : ℕ). walk (λ (k : ℕ). roundCore (t .cutting) (ltb (suc k) d) k) 0 none b) n))

@@ -2,12 +2,11 @@
 use Prim.Native.Nat.{ℕ, suc}
 use mathlib.Core.Bool.{Bool}
 use mathlib.Core.List.{List, [], _∷_}
-use lib.ListN.{getD}
 use lib.Ieee.{Float}
-use Rattle.numbers.specs.Arithmetic.{zero64}
 use Rattle.answers.specs.Outcome.{Answer}
 use Rattle.shape.specs.Cores.{Core}
 use Rattle.stepform.specs.declared.Axis.{Axis}
+use Rattle.stepform.specs.Axes.{axisAt}
 use Rattle.stepform.specs.Shifts.{shiftOf, reaches, moveCore, scaled}
 use Rattle.cutform.specs.Rounding.{Carry, Cut, roundCore}
 use Rattle.sumform.specs.Product.{contractAt}
@@ -20,10 +19,6 @@ pub record Zone : Type 0 where
 abbrev pub zone : Core → Axis → Zone
 zone c x = record { core = c; axis = x }
 
--- axis k's record; one beyond the list is never asked for
-abbrev pub axisAt : List Axis → ℕ → Axis
-axisAt xs k = getD xs k (record { a = zero64; b = zero64; xmin = zero64; xmax = zero64 })
-
 -- the cores with their axes, the first being number k
 unfoldable pub zonesOf : List Axis → ℕ → List Core → List Zone
 zonesOf xs k [] = []
@@ -31,8 +26,8 @@ zonesOf xs k (c ∷ cs) = zone c (axisAt xs k) ∷ zonesOf xs (suc k) cs
 
 -- ---- the rules, each for zone k alone. What walks over zones takes them as a parameter, so what is proved of the walks holds of any rules
 pub record Rules : Type 0 where
-  -- refusal 8 spares it
-  pub reaches : Settings → Zone → Bool
+  -- refusal 8 spares it: by its axis and its number of points
+  pub reaches : Settings → Axis → ℕ → Bool
   -- its core's numbers, shifted
   pub shift : Settings → ℕ → Zone → Answer (List Float)
   -- core 0's numbers, scaled
@@ -44,9 +39,9 @@ pub record Rules : Type 0 where
 
 unfoldable pub rules : Rules
 rules = record {
-  reaches = λ t z. reaches (shiftOf (z .axis) (t .tau) (z .core .n));
+  reaches = λ t x n. reaches (shiftOf x (t .tau) n);
   shift = λ t k z. moveCore k (shiftOf (z .axis) (t .tau) (z .core .n)) (z .core);
   scale = λ t l. scaled (t .tau) (t .c) l;
-  round = λ t more k s c. roundCore (t .eps) more k s c;
+  round = λ t more k s c. roundCore (t .cutting) more k s c;
   weigh = contractAt;
 }

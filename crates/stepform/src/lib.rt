@@ -18,7 +18,7 @@ pub enum Shift {
 pub struct Settings {
     pub tau: f64,
     pub c: f64,
-    pub eps: f64,
+    pub cutting: cutform::Cutting,
 }
 
 // Steps one after another: how far, in how many, and the lone settings of each.
@@ -26,5 +26,5 @@ pub struct Course {
     pub t_final: f64,
     pub steps: usize,
     pub c: f64,
-    pub eps: f64,
+    pub cutting: cutform::Cutting,
 }

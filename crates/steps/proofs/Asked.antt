@@ -23,7 +23,8 @@ use Rattle.cuts.proofs.From.{at-start}
 use Rattle.cutform.proofs.BondSlots.{carries-most}
 use Rattle.stepform.specs.declared.Settings.{Settings}
 use Rattle.stepform.specs.Steps.{step}
-use Rattle.checks.specs.Over.{axisReaches, Stands, Rooms, standFrom}
+use Rattle.stepform.specs.Call.{axisReaches}
+use Rattle.checks.specs.Over.{Stands, Rooms, standFrom}
 use Rattle.rounding.specs.Slots.{unrounded}
 use Rattle.steps.specs.Held.{stepHeld, Came, Placed, Ready}
 use Rattle.steps.proofs.Steps.{with, moves, held-stops, came-of}
@@ -48,9 +49,7 @@ at-again s z k t h v A e = record {
   seam = A .seam;
   lefts = A .lefts;
   rights = A .rights;
-  ranks = A .ranks;
-  sweeps = A .sweeps;
-  settled = A .settled;
+  bonds = A .bonds;
   chain = omega (arith, A .chain);
   carries = A .carries;
 }
@@ -66,15 +65,15 @@ module _ (set : Settings) (s t : Shape) (xs : List Axis) (work carries room bloc
   chain = shaped s (λ (k : ℕ). true) (R .ok)
 
   at-first : AtZone s 0 0 t (heldBy (unrounded t) work carries)
-  at-first = at-start s t (heldBy (unrounded t) work carries) (chain .joins) (P .inside) (chain .least) (P .lefts) (P .rights) refl refl refl (P .long) (omega (arith, carries-most s (chain .sizes) (s .d) (omega arith), R .carried))
+  at-first = at-start s t (heldBy (unrounded t) work carries) (chain .joins) (P .inside) (chain .least) (P .lefts) (P .rights) refl (P .long) (omega (arith, carries-most s (chain .sizes) (s .d) (omega arith), R .carried))
 
   module _ (w : Walked) (e : w ≡ unrounded t) where
-    pub one-asks : ((Stands s (w .shape) work) × (Rooms room block)) × (((0 ≤ s .d) × ((k : ℕ) → 0 ≤ k → k < s .d → axisReaches set s xs k ≡ true)) × ((w .verdict ≡ Fits) × AtZone s 0 0 (w .shape) (heldBy w work carries)))
-    one-asks = subst (λ (x : Walked). ((Stands s (x .shape) work) × (Rooms room block)) × (((0 ≤ s .d) × ((k : ℕ) → 0 ≤ k → k < s .d → axisReaches set s xs k ≡ true)) × ((x .verdict ≡ Fits) × AtZone s 0 0 (x .shape) (heldBy x work carries)))) (sym e)
-        ((record { inside = P .inside; within = chain .sizes; long = P .long }, R .rooms), ((omega arith, λ k a b. R .reach k b), (refl, at-first)))
+    pub one-asks : ((Stands s (w .shape) work) × (Rooms room block)) × (((0 ≤ s .d) × ((k : ℕ) → 0 ≤ k → k < s .d → axisReaches set s xs k ≡ true)) × AtZone s 0 0 (w .shape) (heldBy w work carries))
+    one-asks = subst (λ (x : Walked). ((Stands s (x .shape) work) × (Rooms room block)) × (((0 ≤ s .d) × ((k : ℕ) → 0 ≤ k → k < s .d → axisReaches set s xs k ≡ true)) × AtZone s 0 0 (x .shape) (heldBy x work carries))) (sym e)
+        ((record { inside = P .inside; within = chain .sizes; long = P .long }, R .rooms), ((omega arith, λ k a b. R .reach k b), at-first))
 
     pub one-came : (r : Walked) (work' carries' : List Float) → stepHeld set s 0 xs (w .shape) (heldBy w work carries) ≡ answered (r .verdict) (r .shape, heldBy r work' carries') → (_≡_ {A = ℕ} 0 0 → r .verdict ≡ Fits → Inside s (r .shape))
-        → Came (step set xs (tab (s .d) (standing s t work))) s t (r .verdict) (r .shape) (r .sweeps) (r .settled) work'
+        → Came (step set xs (tab (s .d) (standing s t work))) s t (r .verdict) (r .shape) (r .bonds) work'
     one-came r work' carries' f g =
-        came-of set s t xs (heldBy (unrounded t) work carries) (P .inside) (P .long) (P .lefts) (P .rights) refl refl (r .verdict) (r .shape) (heldBy r work' carries')
+        came-of set s t xs (heldBy (unrounded t) work carries) (P .inside) (P .long) (P .lefts) (P .rights) refl (r .verdict) (r .shape) (heldBy r work' carries')
         (subst (λ (x : Walked). stepHeld set s 0 xs (x .shape) (heldBy x work carries) ≡ answered (r .verdict) (r .shape, heldBy r work' carries')) e f) (g refl)

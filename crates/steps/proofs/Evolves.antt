@@ -2,7 +2,6 @@
 use mathlib.Core.Path.{_≡_, refl, sym, ap, _∙_}
 use Prim.Native.Nat.{ℕ, suc, _-_, _≤_, _<_}
 use native.Mathlib.Omega.{arith}
-use mathlib.Core.Bool.{Bool}
 use mathlib.Core.List.{List}
 use lib.ListN.{length}
 use lib.Ieee.{Float}
@@ -21,6 +20,7 @@ use Rattle.shape.specs.Cores.{Core, standing, reshaped}
 use Rattle.shape.proofs.Ranks.{reshaped-left, reshaped-right}
 use Rattle.stepform.specs.declared.Axis.{Axis}
 use Rattle.cutform.specs.Rounding.{Carry, Cut, coresIn}
+use Rattle.cutform.specs.declared.Bond.{Bond}
 use Rattle.stepform.specs.declared.Settings.{Settings}
 use Rattle.stepform.specs.Steps.{step, stepsAndOne}
 use Rattle.steps.specs.Held.{Ends, Came, Placed, Ready}
@@ -42,10 +42,10 @@ module _ (set : Settings) (s : Shape) (xs : List Axis) (T : Answer (List (Carry 
   pub going-first : (m : ℕ) (w : List Float) → T ≡ stepsAndOne m set xs (tab (s .d) (standing s s w)) → Inside s s → length (s .left) ≡ mostAxes → length (s .right) ≡ mostAxes → Going m s w
   going-first m w e I a b = record { rest = e; inside = I; lefts = a; rights = b; again = λ cs n. refl }
 
-  ends-count : (t u : Shape) (sweeps : List ℕ) (settled : List Bool) (w : List Float) (tr : List (Carry × Cut)) → Ends s t u sweeps settled w tr → length (coresIn tr) ≡ s .d
-  ends-count t u sweeps settled w tr E = ap length (E .cores) ∙ length-tab (s .d) (standing s u w)
+  ends-count : (t u : Shape) (bonds : List Bond) (w : List Float) (tr : List (Carry × Cut)) → Ends s t u bonds w tr → length (coresIn tr) ≡ s .d
+  ends-count t u bonds w tr E = ap length (E .cores) ∙ length-tab (s .d) (standing s u w)
 
-  module _ (m : ℕ) (t : Shape) (w : List Float) (G : Going m t w) (v : Verdict) (u : Shape) (sweeps : List ℕ) (settled : List Bool) (w' : List Float) (C : Came (step set xs (tab (s .d) (standing s t w))) s t v u sweeps settled w') where
+  module _ (m : ℕ) (t : Shape) (w : List Float) (G : Going m t w) (v : Verdict) (u : Shape) (bonds : List Bond) (w' : List Float) (C : Came (step set xs (tab (s .d) (standing s t w))) s t v u bonds w') where
     -- one step more is made
     pub going-more : 0 < m → v ≡ Fits → Going (m - 1) u w'
     unfolding stepsAndOne
@@ -64,12 +64,12 @@ module _ (set : Settings) (s : Shape) (xs : List Axis) (T : Answer (List (Carry 
           again = λ cs k.
               let few = G .inside .sizes .axes .most in
               ap (λ (x : Shape). reshaped 0 x cs) (E .shape)
-              ∙ reshaped-again t (coresIn tr) cs (ends-count t u sweeps settled w' tr E ∙ sym k) (omega (arith, k, few, G .inside .axes, G .lefts)) (omega (arith, k, few, G .inside .axes, G .rights))
+              ∙ reshaped-again t (coresIn tr) cs (ends-count t u bonds w' tr E ∙ sym k) (omega (arith, k, few, G .inside .axes, G .lefts)) (omega (arith, k, few, G .inside .axes, G .rights))
               ∙ G .again cs k;
         }
 
     -- a step on the way is refused, and so are all
-    pub going-stops : 0 < m → (q : Refusal) → v ≡ Refused q → Came T s s v u sweeps settled w'
+    pub going-stops : 0 < m → (q : Refusal) → v ≡ Refused q → Came T s s v u bonds w'
     unfolding stepsAndOne
     going-stops l q f =
         let n : m ≡ suc (m - 1) = omega arith in
@@ -78,7 +78,7 @@ module _ (set : Settings) (s : Shape) (xs : List Axis) (T : Answer (List (Carry 
         record { verdict = f ∙ ap verdictOf (sym R); ends = λ tr e. absurd (done-refused (sym e ∙ R)) }
 
     -- the last step
-    pub going-ends : m ≤ 0 → Came T s s v u sweeps settled w'
+    pub going-ends : m ≤ 0 → Came T s s v u bonds w'
     unfolding stepsAndOne
     going-ends l =
         let z : m ≡ 0 = omega arith in
@@ -87,7 +87,7 @@ module _ (set : Settings) (s : Shape) (xs : List Axis) (T : Answer (List (Carry 
           verdict = C .verdict ∙ ap verdictOf (sym R);
           ends = λ tr e.
               let E = C .ends tr (sym R ∙ e) in
-              record { shape = E .shape ∙ G .again (coresIn tr) (ends-count t u sweeps settled w' tr E); inside = E .inside; cores = E .cores; counts = E .counts; flags = E .flags };
+              record { shape = E .shape ∙ G .again (coresIn tr) (ends-count t u bonds w' tr E); inside = E .inside; cores = E .cores; cut = E .cut };
         }
 
   pub going-placed : (m : ℕ) (t : Shape) (w : List Float) → Going m t w → entriesOf s ≤ length w → Placed s t w

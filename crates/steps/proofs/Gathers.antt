@@ -1,4 +1,4 @@
--- Records by value stand for those that were lent: checks and steps over them are the same. Assumes nothing.
+-- Records by value stand for those that were lent: what is beyond the axes is never asked for, so checks and steps over them are the same. Assumes nothing.
 use mathlib.Core.Path.{_≡_, refl, ap, _∙_}
 use Prim.Native.Nat.{ℕ, zero, suc, _+_, _-_, _≤_, _<_}
 use native.Mathlib.Omega.{arith}
@@ -8,28 +8,27 @@ use lib.Dec.{eqb}
 use lib.ListN.{length, length-map}
 use lib.Ieee.{Float}
 use Rattle.answers.specs.declared.Refusal.the-variants.{Length, Number, Setting, Reach}
-use Rattle.answers.specs.Outcome.{done, bind, Check, _then_, demand, demandEach}
+use Rattle.answers.specs.Outcome.{done, bind, Check, _then_, demand}
 use Rattle.answers.proofs.Outcomes.{bind-cong}
 use Rattle.answers.proofs.Checks.{then-is, then-on, each-same}
-use Rattle.numbers.specs.Finite.{finite}
 use Rattle.lists.specs.Lists.{listed}
 use Rattle.lists.proofs.Tables.{length-tab}
 use Rattle.shape.specs.declared.Shape.{Shape}
-use Rattle.shape.specs.Limits.{mostAxes, within}
+use Rattle.shape.specs.Limits.{mostAxes}
 use Rattle.shape.specs.Shapes.{pointsOf, chainOk}
 use Rattle.shape.specs.Cores.{Core, coreAt, coresOf}
 use Rattle.shape.proofs.Shaped.{shaped}
 use Rattle.stepform.specs.declared.Axis.{Axis}
 use Rattle.stepform.specs.Axes.{axisFinite, axisOk, axisAt, gathered}
 use Rattle.axes.proofs.Gathered.{gathered-at}
-use Rattle.stepform.specs.Shifts.{shiftOf, reaches}
-use Rattle.cutform.specs.Call.{lengthsOk, coreFinite, notBelowZero, endedBy}
+use Rattle.cutform.specs.Call.{lengthsOk, coreFinite, endedBy}
 use Rattle.cutform.specs.Rounding.{Carry, Cut, none, coresIn}
+use Rattle.cutform.specs.declared.Cutting.{Cutting}
 use Rattle.stepform.specs.declared.Settings.{Settings}
 use Rattle.stepform.specs.Zones.{Zone, zone, zonesOf, rules}
 use Rattle.stepform.specs.Steps.{stepFrom, step, stepsAndOne}
-use Rattle.stepform.specs.Call.{reachesAt, stepOk, stepCall, mostSteps, settingsFor, evolveCall}
-use Rattle.checks.specs.Over.{axisReaches, zonesFinite, settingsOk, overOk, stepOver, evolveOver}
+use Rattle.stepform.specs.Lone.{loneFinite, loneOk, courseFinite, courseOk}
+use Rattle.stepform.specs.Call.{reachesAt, axisReaches, zonesFinite, settingsOk, stepOk, stepOver, stepCall, settingsFor, evolveOver, evolveCall}
 use Rattle.stepform.proofs.Restart.{step-length}
 use Rattle.stepform.proofs.Rounds.{zones-length}
 
@@ -44,29 +43,31 @@ module _ (xs : List Axis) where
     same : (k : ℕ) → k < s .d → axisAt (gathered xs) k ≡ axisAt xs k
     same k l = gathered-at xs k (omega arith)
 
-    finite-same : zonesFinite s (gathered xs) chain ≡ demandEach Number (λ (k : ℕ). coreFinite s chain k && axisFinite (axisAt xs k)) (s .d) 0
+    finite-same : zonesFinite s (gathered xs) chain ≡ zonesFinite s xs chain
     unfolding zonesFinite
     finite-same =
         each-same Number (λ (k : ℕ). coreFinite s chain k && axisFinite (axisAt (gathered xs) k)) (λ (k : ℕ). coreFinite s chain k && axisFinite (axisAt xs k)) (s .d) 0
         (λ k a b. ap (λ (x : Axis). coreFinite s chain k && axisFinite x) (same k (omega arith)))
 
-    settings-same : (mild : Bool) → settingsOk mild t s (gathered xs) ≡ demand mild (Setting 0) then demandEach Setting (λ (k : ℕ). axisOk (axisAt xs k)) (s .d) 0 then demandEach Reach (reachesAt rules t s xs chain) (s .d) 0
-    unfolding settingsOk axisReaches reachesAt rules coreAt
+    settings-same : (mild : Bool) → settingsOk mild t s (gathered xs) ≡ settingsOk mild t s xs
+    unfolding settingsOk reachesAt
     settings-same mild =
         then-on (demand mild (Setting 0)) (demand mild (Setting 0)) _ _ refl
         (then-on _ _ _ _
         (each-same Setting (λ (k : ℕ). axisOk (axisAt (gathered xs) k)) (λ (k : ℕ). axisOk (axisAt xs k)) (s .d) 0 (λ k a b. ap axisOk (same k (omega arith))))
-        (each-same Reach (axisReaches t s (gathered xs)) (reachesAt rules t s xs chain) (s .d) 0 (λ k a b. ap (λ (x : Axis). reaches (shiftOf x (t .tau) (pointsOf s k))) (same k (omega arith)))))
+        (each-same Reach (axisReaches t s (gathered xs)) (axisReaches t s xs) (s .d) 0
+        (λ k a b. ap (λ (x : Axis). rules .reaches t x (pointsOf s k)) (same k (omega arith)))))
 
-  pub over-ok : (lone mild : Bool) (t : Settings) (s : Shape) (chain scratch : List Float) → overOk lone mild t s (length xs) (gathered xs) chain (length scratch) ≡ stepOk lone mild t s xs chain scratch
-  unfolding overOk stepOk
-  over-ok lone mild t s chain scratch =
+  pub ok-same : (lone mild : Bool) (t : Settings) (s : Shape) (n : ℕ) (chain : List Float) (m : ℕ)
+      → stepOk lone mild t s n (gathered xs) chain m ≡ stepOk lone mild t s n xs chain m
+  unfolding stepOk
+  ok-same lone mild t s n chain m =
       bind-cong (chainOk s) _ _ (λ a e.
-      let m = shaped s (λ (k : ℕ). true) e .most in
-      then-on (demand (eqb (length xs) (s .d)) (Length 0)) _ _ _ refl
-      (then-on (lengthsOk s 1 (length chain) 2 (length scratch)) _ _ _ refl
+      let d = shaped s (λ (k : ℕ). true) e .most in
+      then-on (demand (eqb n (s .d)) (Length 0)) _ _ _ refl
+      (then-on (lengthsOk s 1 (length chain) 2 m) _ _ _ refl
       (then-on (demand lone (Number 0)) _ _ _ refl
-      (then-on _ _ _ _ (finite-same t s chain m) (settings-same t s chain m mild)))))
+      (then-on _ _ _ _ (finite-same t s chain d) (settings-same t s chain d mild)))))
 
   -- ---- the steps
   zones-same : (k : ℕ) (cs : List Core) → k + length cs ≤ mostAxes → zonesOf (gathered xs) k cs ≡ zonesOf xs k cs
@@ -98,26 +99,30 @@ unfolding coresOf
 cores-few s chain e = omega (arith, length-tab (s .d) (coreAt s chain), shaped s (λ (k : ℕ). true) e .most)
 
 -- a shape that passed all checks
-ok-chain : (lone mild : Bool) (t : Settings) (s : Shape) (xs : List Axis) (chain scratch : List Float) → stepOk lone mild t s xs chain scratch ≡ done tt → chainOk s ≡ done tt
+ok-chain : (lone mild : Bool) (t : Settings) (s : Shape) (n : ℕ) (xs : List Axis) (chain : List Float) (m : ℕ) → stepOk lone mild t s n xs chain m ≡ done tt → chainOk s ≡ done tt
 unfolding stepOk
-ok-chain lone mild t s xs chain scratch e = then-is _ _ tt e .0
+ok-chain lone mild t s n xs chain m e = then-is _ _ tt e .0
 
 pub step-over : (t : Settings) (s : Shape) (xs : List Axis) (chain scratch : List Float) → stepOver t s (length xs) (gathered xs) chain scratch ≡ stepCall t s xs chain scratch
-unfolding stepOver stepCall
+unfolding stepOver
 step-over t s xs chain scratch =
-    let lone = finite (t .tau) && (finite (t .c) && finite (t .eps)) in
-    let mild = notBelowZero (t .tau) && notBelowZero (t .eps) in
+    let n = length xs in
+    let m = length scratch in
     ap (endedBy s chain scratch)
-    (ap (λ (c : Check). c then step t (gathered xs) (coresOf s chain)) (over-ok xs lone mild t s chain scratch)
-    ∙ bind-cong (stepOk lone mild t s xs chain scratch) _ _ (λ a e. step-same xs t (coresOf s chain) (cores-few s chain (ok-chain lone mild t s xs chain scratch e))))
+    (ap (λ (c : Check). c then step t (gathered xs) (coresOf s chain)) (ok-same xs (loneFinite t) (loneOk t) t s n chain m)
+    ∙ bind-cong (stepOk (loneFinite t) (loneOk t) t s n xs chain m) _ _
+    (λ a e. step-same xs t (coresOf s chain) (cores-few s chain (ok-chain (loneFinite t) (loneOk t) t s n xs chain m e))))
 
-pub evolve-over : (final : Float) (steps : ℕ) (c eps : Float) (s : Shape) (xs : List Axis) (chain scratch : List Float)
-    → evolveOver final steps c eps s (length xs) (gathered xs) chain scratch ≡ evolveCall final steps c eps s xs chain scratch
-unfolding evolveOver evolveCall
-evolve-over final steps c eps s xs chain scratch =
-    let t = settingsFor final steps c eps in
-    let lone = finite final && (finite c && finite eps) in
-    let mild = notBelowZero final && (within mostSteps steps && notBelowZero eps) in
+pub evolve-over : (final : Float) (steps : ℕ) (c : Float) (cutting : Cutting) (s : Shape) (xs : List Axis) (chain scratch : List Float)
+    → evolveOver final steps c cutting s (length xs) (gathered xs) chain scratch ≡ evolveCall final steps c cutting s xs chain scratch
+unfolding evolveOver
+evolve-over final steps c cutting s xs chain scratch =
+    let t = settingsFor final steps c cutting in
+    let n = length xs in
+    let m = length scratch in
+    let lone = courseFinite final c cutting in
+    let mild = courseOk final steps cutting in
     ap (endedBy s chain scratch)
-    (ap (λ (k : Check). k then stepsAndOne (steps - 1) t (gathered xs) (coresOf s chain)) (over-ok xs lone mild t s chain scratch)
-    ∙ bind-cong (stepOk lone mild t s xs chain scratch) _ _ (λ a e. steps-same xs t (steps - 1) (coresOf s chain) (cores-few s chain (ok-chain lone mild t s xs chain scratch e))))
+    (ap (λ (k : Check). k then stepsAndOne (steps - 1) t (gathered xs) (coresOf s chain)) (ok-same xs lone mild t s n chain m)
+    ∙ bind-cong (stepOk lone mild t s n xs chain m) _ _
+    (λ a e. steps-same xs t (steps - 1) (coresOf s chain) (cores-few s chain (ok-chain lone mild t s n xs chain m e))))

@@ -1,19 +1,16 @@
--- The work of a step is refused with 9 alone: no refusal of it leaves scratch unwritten. Assumes nothing.
-use mathlib.Core.Path.{_≡_, refl, sym, ap, _∙_}
+-- The work of a step refuses late: no refusal of it leaves scratch unwritten. Assumes nothing.
 use Prim.Native.Nat.{ℕ, zero, suc}
-use mathlib.Core.Bool.{false}
-use mathlib.Core.List.{List, [], _∷_, map}
+use mathlib.Core.List.{List, map}
 use lib.ListN.{length}
 use lib.Ieee.{Float}
-use Rattle.answers.specs.declared.Part.{Part}
 use Rattle.answers.specs.declared.Part.the-variants.{Entry}
-use Rattle.answers.specs.declared.Refusal.{Refusal}
-use Rattle.answers.specs.Outcome.{Answer, Made, done, refused, bind, making}
-use Rattle.answers.specs.Table.{beforeWork}
-use Rattle.answers.proofs.Outcomes.{done-refused, refused-inj}
+use Rattle.answers.specs.Outcome.{making}
+use Rattle.answers.specs.Table.{Late}
+use Rattle.answers.proofs.Late.{late-done, late-making, late-bind}
 use Rattle.numbers.specs.Arithmetic.{plus, times, one64}
 use Rattle.lists.specs.Floats.{stored}
-use Rattle.lists.specs.Walks.{walk, every}
+use Rattle.lists.specs.Walks.{every}
+use Rattle.lists.proofs.Late.{late-every}
 use Rattle.shape.specs.Cores.{Core}
 use Rattle.stepform.specs.declared.Axis.{Axis}
 use Rattle.stepform.specs.declared.Shift.{Shift}
@@ -24,30 +21,6 @@ use Rattle.rounding.proofs.Ends.{late-rounding}
 use Rattle.stepform.specs.declared.Settings.{Settings}
 use Rattle.stepform.specs.Zones.{Zone, zonesOf, rules}
 use Rattle.stepform.specs.Steps.{holding, shiftZone, scaleZone, roundZone, stepFrom, step, stepsAndOne}
-
-abbrev pub Late : {A : Type 0} → Answer A → Type 0
-Late o = (q : Refusal) → o ≡ refused q → beforeWork q ≡ false
-
-pub late-done : {A : Type 0} (a : A) → Late (done a)
-late-done a q e = absurd (done-refused e)
-
-pub late-making : {A : Type 0} (p : Part) (k : ℕ) (m : Made A) → Late (making p k m)
-late-making p k (done a) q e = absurd (done-refused e)
-late-making p k (refused i) q e = ap beforeWork (sym (refused-inj e))
-
-pub late-bind : {A B : Type 0} (o : Answer A) (f : A → Answer B) → Late o → ((a : A) → Late (f a)) → Late (bind o f)
-late-bind (done a) f h g = g a
-late-bind (refused r) f h g = λ q e. ap beforeWork (sym (refused-inj e)) ∙ h r refl
-
-late-every : {X Y : Type 0} (f : ℕ → X → Answer Y) → ((k : ℕ) (x : X) → Late (f k x)) → (k : ℕ) (xs : List X) → Late (every f k xs)
-unfolding every
-late-every f h k [] = late-done []
-late-every f h k (x ∷ xs) = late-bind (f k x) _ (h k x) (λ y. late-bind (every f (suc k) xs) _ (late-every f h (suc k) xs) (λ ys. late-done (y ∷ ys)))
-
-pub late-walk : {S X Y : Type 0} (f : ℕ → S → X → Answer (S × Y)) → ((k : ℕ) (s : S) (x : X) → Late (f k s x)) → (k : ℕ) (s : S) (xs : List X) → Late (walk f k s xs)
-unfolding walk
-late-walk f h k s [] = late-done []
-late-walk f h k s (x ∷ xs) = late-bind (f k s x) _ (h k s x) (λ r. late-bind (walk f (suc k) (r .0) xs) _ (late-walk f h (suc k) (r .0) xs) (λ rs. late-done (r ∷ rs)))
 
 -- ---- one core
 late-move : (k : ℕ) (s : Shift) (c : Core) → Late (moveCore k s c)
@@ -73,7 +46,7 @@ module _ (t : Settings) where
   late-from d k s zs =
       late-bind (every (shiftZone rules t) k zs) _ (late-every (shiftZone rules t) late-shift k zs) (λ a.
       late-bind (every (scaleZone rules t) k a) _ (late-every (scaleZone rules t) late-scale k a) (λ b.
-      λ q e. late-rounding (t .eps) d k s b q e))
+      late-rounding (t .cutting) d k s b))
 
   late-step : (xs : List Axis) (cs : List Core) → Late (step t xs cs)
   unfolding step

@@ -26,7 +26,8 @@ use Rattle.stepform.specs.Shifts.{shiftOf, reaches}
 use Rattle.stepform.specs.declared.Settings.{Settings}
 use Rattle.stepform.specs.Zones.{zone, rules}
 use Rattle.stepform.specs.Steps.{shiftZone}
-use Rattle.checks.specs.Over.{axisReaches, Onward, Elsewhere, zoneIn, standFrom, Stands, Rooms}
+use Rattle.stepform.specs.Call.{reachesAt, axisReaches}
+use Rattle.checks.specs.Over.{Onward, Elsewhere, zoneIn, standFrom, Stands, Rooms}
 use Rattle.steps.proofs.Scalings.{stand-same}
 use Rattle.steps.proofs.Everys.{Left, left-none, left-done, left-stop, left-more}
 
@@ -37,8 +38,9 @@ stands-on s t w v S e = record { inside = S .inside; within = S .within; long = 
 pub rooms-on : (room block room' block' : List Float) → Rooms room block → length room' ≡ length room → length block' ≡ length block → Rooms room' block'
 rooms-on room block room' block' R e f = record { core = omega (arith, R .core); twice = omega (arith, R .twice) }
 
-pub reach-of : (set : Settings) (s : Shape) (xs : List Axis) (k : ℕ) (x : Axis) → x ≡ axisAt xs k → axisReaches set s xs k ≡ true → reaches (shiftOf x (set .tau) (pointsOf s k)) ≡ true
-unfolding axisReaches
+pub reach-of : (set : Settings) (s : Shape) (xs : List Axis) (k : ℕ) (x : Axis)
+    → x ≡ axisAt xs k → axisReaches set s xs k ≡ true → reaches (shiftOf x (set .tau) (pointsOf s k)) ≡ true
+unfolding reachesAt rules
 reach-of set s xs k x e h = ap (λ (y : Axis). reaches (shiftOf y (set .tau) (pointsOf s k))) e ∙ h
 
 pub onward-both : (s : Shape) (z : ℕ) (w v u : List Float) → Onward s z w v → Onward s z v u → Onward s z w u

@@ -14,7 +14,7 @@ use Rattle.answers.specs.Outcome.{Answer, done, bind, answered}
 use Rattle.lists.specs.Slots.{offset, slot}
 use Rattle.lists.proofs.Slots.{offset-suc, offset-mono}
 use Rattle.shape.specs.declared.Shape.{Shape}
-use Rattle.shape.specs.Limits.{mostPoints, mostRank}
+use Rattle.shape.specs.Limits.{mostCore}
 use Rattle.shape.specs.Shapes.{leftOf, pointsOf, rightOf, coreSize, entriesOf}
 use Rattle.shape.specs.Cores.{Core, coreWith, standing}
 use Rattle.shape.proofs.Offsets.{core-most}
@@ -49,7 +49,7 @@ module _ (s t : Shape) (w : List Float) (S : Stands s t w) (k : ℕ) (l : k < s 
   pub stand-end : at + size ≤ length w
   stand-end = omega (arith, fits, last, offset-suc (coreSize s) k)
 
-  pub stand-small : size ≤ mostRank * mostPoints * mostRank
+  pub stand-small : size ≤ mostCore
   stand-small = omega (arith, core-most t (S .inside .sizes) k stands-below)
 
   pub stand-is : (u : List Float) → standing s t u k ≡ coreWith (leftOf t k) (pointsOf t k) (rightOf t k) (take size (drop at u))

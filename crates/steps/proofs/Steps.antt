@@ -3,7 +3,6 @@ use mathlib.Core.Path.{_≡_, refl, sym, ap, _∙_, subst}
 use Prim.Native.Nat.{ℕ, zero, suc, _-_, _≤_, _<_}
 use native.Mathlib.Nat.{sub-zero}
 use native.Mathlib.Omega.{arith}
-use mathlib.Core.Bool.{false}
 use mathlib.Core.List.{List, _++_, map}
 use lib.Dec.{ltb}
 use lib.ListN.{length, take, drop, replicate, length-map}
@@ -35,6 +34,7 @@ use Rattle.stepform.specs.declared.Axis.{Axis}
 use Rattle.stepform.specs.declared.Shift.{Shift}
 use Rattle.stepform.specs.declared.Shift.the-variants.{Stay, By}
 use Rattle.stepform.specs.Shifts.{shiftOf, shifted, moveCore, scaled}
+use Rattle.cutform.specs.Bonds.{noBond}
 use Rattle.cutform.specs.Rounding.{Carry, none, Cut, roundCore, coresIn}
 use Rattle.cutform.specs.Keeping.{Stepped, keepStep, carryLeft, roundFrom}
 use Rattle.cutform.proofs.Cuts.{volume}
@@ -44,11 +44,11 @@ use Rattle.stepform.specs.Steps.{holding, shiftZone, scaleZone, roundZone, step
 use Rattle.checks.specs.Over.{zoneIn, standFrom, Onward}
 use Rattle.steps.proofs.Gathers.{zones-listed}
 use Rattle.steps.specs.Held.{stepHeld, Came}
-use Rattle.steps.proofs.Traces.{Found, counts-front, flags-front, cores-stand}
+use Rattle.steps.proofs.Traces.{Found, bonds-front, cores-stand}
 
 -- what is held, with another chain
 abbrev pub with : Stepped → List Float → Stepped
-with h v = record { ranks = h .ranks; sweeps = h .sweeps; settled = h .settled; chain = v; carries = h .carries }
+with h v = record { bonds = h .bonds; chain = v; carries = h .carries }
 
 -- ---- moves, then the rounding of what they left in place
 module _ (set : Settings) (s t : Shape) (z : ℕ) (xs : List Axis) where
@@ -83,10 +83,10 @@ module _ (set : Settings) (s t : Shape) (z : ℕ) (xs : List Axis) where
       unfolding answered
       held-stops q e x = opened ∙ ap (λ (y : Verdict). bind (bind (answered y (standFrom s t z v)) (λ b. walk (roundZone rules set (s .d)) z (carryLeft s t h z) b)) (λ tr. done (reshaped z t (coresIn tr), keepStep s z tr h))) e
 
-      pub held-goes : r ≡ Fits → Onward s z (h .chain) v → (o : Answer (Shape × Stepped)) → roundFrom (set .eps) s z t (with h v) ≡ o → stepHeld set s z xs t h ≡ o
+      pub held-goes : r ≡ Fits → Onward s z (h .chain) v → (o : Answer (Shape × Stepped)) → roundFrom (set .cutting) s z t (with h v) ≡ o → stepHeld set s z xs t h ≡ o
       unfolding answered roundFrom roundZone rules
       held-goes e O o g =
-          let W : Carry → Answer (List (Carry × Cut)) = λ c. walk (λ (k : ℕ). roundCore (set .eps) (ltb (suc k) (s .d)) k) z c (standFrom s t z v) in
+          let W : Carry → Answer (List (Carry × Cut)) = λ c. walk (λ (k : ℕ). roundCore (set .cutting) (ltb (suc k) (s .d)) k) z c (standFrom s t z v) in
           opened
           ∙ ap (λ (y : Verdict). bind (bind (answered y (standFrom s t z v)) (λ b. walk (roundZone rules set (s .d)) z (carryLeft s t h z) b)) (λ tr. done (reshaped z t (coresIn tr), keepStep s z tr h))) e
           ∙ ap (λ (c : Carry). bind (W c) (λ tr. done (reshaped z t (coresIn tr), keepStep s z tr h))) (sym (carry-same z))
@@ -148,7 +148,7 @@ module _ (set : Settings) (s t : Shape) (xs : List Axis) (h : Stepped) (I : Insi
 
   -- the cores that the rounding found
   ready : (tr : List (Carry × Cut)) → stepFrom rules set (s .d) 0 none zones ≡ done tr
-      → (b : List Core) × (length b ≡ s .d) × (All (Found t) 0 b) × (walk (λ (k : ℕ). roundCore (set .eps) (ltb (suc k) (s .d)) k) 0 none b ≡ done tr)
+      → (b : List Core) × (length b ≡ s .d) × (All (Found t) 0 b) × (walk (λ (k : ℕ). roundCore (set .cutting) (ltb (suc k) (s .d)) k) 0 none b ≡ done tr)
   unfolding stepFrom roundZone rules
   ready tr e =
       let A = bind-done (every (shiftZone rules set) 0 zones) _ tr e in
@@ -159,7 +159,7 @@ module _ (set : Settings) (s t : Shape) (xs : List Axis) (h : Stepped) (I : Insi
       let n = every-length (scaleZone rules set) 0 (A .0) (B .0) (B .1) ∙ every-length (shiftZone rules set) 0 zones (A .0) (A .1) ∙ listed-length (s .d - 0) 0 (zoneIn s t xs (h .chain)) ∙ sub-zero (s .d) in
       (B .0, n, G, B .2)
 
-  module _ (zeros : h .sweeps ≡ replicate mostAxes 0) (flags : h .settled ≡ replicate mostAxes false) (v : Verdict) (u : Shape) (h' : Stepped) (e : stepHeld set s 0 xs t h ≡ answered v (u, h')) where
+  module _ (blank : h .bonds ≡ replicate mostAxes noBond) (v : Verdict) (u : Shape) (h' : Stepped) (e : stepHeld set s 0 xs t h ≡ answered v (u, h')) where
     abbrev T : Answer (List (Carry × Cut))
     T = stepFrom rules set (s .d) 0 none zones
 
@@ -170,7 +170,7 @@ module _ (set : Settings) (s t : Shape) (xs : List Axis) (h : Stepped) (I : Insi
     unfolding stepHeld carryLeft
     plain = e
 
-    pub came-of : (v ≡ Fits → Inside s u) → Came (step set xs (tab (s .d) (standing s t (h .chain)))) s t v u (h' .sweeps) (h' .settled) (h' .chain)
+    pub came-of : (v ≡ Fits → Inside s u) → Came (step set xs (tab (s .d) (standing s t (h .chain)))) s t v u (h' .bonds) (h' .chain)
     came-of inside = record {
       verdict = verdict-of kept T v (u, h') plain ∙ ap verdictOf (sym step-is);
       ends = λ tr g.
@@ -180,12 +180,11 @@ module _ (set : Settings) (s t : Shape) (xs : List Axis) (h : Stepped) (I : Insi
           let held : h' ≡ keepStep s 0 tr h = ap (λ (x : Shape × Stepped). x .1) (sym (k .0)) in
           let R = ready tr f in
           let J = inside (k .1) in
-          let stand = cores-stand (set .eps) s t h I lefts rights (R .0) (R .1) (R .2) tr (R .3) (subst (Inside s) shape J) in
+          let stand = cores-stand (set .cutting) s t h I lefts rights (R .0) (R .1) (R .2) tr (R .3) (subst (Inside s) shape J) in
           record {
             shape = shape;
             inside = J;
             cores = stand ∙ ap (λ (x : Shape). tab (s .d) (standing s x (keepStep s 0 tr h .chain))) (sym shape) ∙ ap (λ (x : Stepped). tab (s .d) (standing s u (x .chain))) (sym held);
-            counts = ap (λ (x : Stepped). x .sweeps) held ∙ counts-front (set .eps) s t h I lefts rights (R .0) (R .1) (R .2) tr (R .3) zeros;
-            flags = ap (λ (x : Stepped). x .settled) held ∙ flags-front (set .eps) s t h I lefts rights (R .0) (R .1) (R .2) tr (R .3) flags;
+            cut = ap (λ (x : Stepped). x .bonds) held ∙ bonds-front (set .cutting) s t h I lefts rights (R .0) (R .1) (R .2) tr (R .3) blank;
           };
     }

@@ -2,7 +2,7 @@
 use mathlib.Core.Path.{_≡_, sym, ap, _∙_, subst}
 use Prim.Native.Nat.{ℕ, _-_}
 use native.Mathlib.Omega.{arith}
-use mathlib.Core.Bool.{Bool, true}
+use mathlib.Core.Bool.{true}
 use mathlib.Core.List.{List, _++_}
 use lib.ListN.{length, take, drop, length-append}
 use lib.Seq.{take-at, take-take, take-length}
@@ -18,6 +18,7 @@ use Rattle.shape.specs.Limits.{mostAxes}
 use Rattle.shape.specs.Shapes.{leftOf, pointsOf, rightOf, chainOk, coreSize, entriesOf}
 use Rattle.shape.specs.Cores.{Core, coreWith, coreAt, coresOf, standing}
 use Rattle.stepform.specs.declared.Axis.{Axis}
+use Rattle.cutform.specs.declared.Bond.{Bond}
 use Rattle.stepform.specs.declared.Settings.{Settings}
 use Rattle.steps.specs.Held.{Came, Placed}
 use Rattle.shape.proofs.Shaped.{shaped}
@@ -46,6 +47,6 @@ taken-over s l x r e n =
 pub placed-own : (s : Shape) (l x r : List Float) → chainOk s ≡ done tt → x ≡ l → length l ≡ entriesOf s → length (s .left) ≡ mostAxes → length (s .right) ≡ mostAxes → Placed s s (x ++ r)
 placed-own s l x r ok e n a b = record { inside = inside-itself s (shaped s (λ (k : ℕ). true) ok); lefts = a; rights = b; long = omega (arith, length-append x r, ap length e) }
 
-pub came-own : (m : ℕ) (set : Settings) (s : Shape) (xs : List Axis) (l x r : List Float) → x ≡ l → length l ≡ entriesOf s → (v : Verdict) (u : Shape) (sweeps : List ℕ) (settled : List Bool) (w : List Float)
-    → Came (stepsAndOne m set xs (tab (s .d) (standing s s (x ++ r)))) s s v u sweeps settled w → Came (stepsAndOne m set xs (coresOf s l)) s s v u sweeps settled w
-came-own m set s xs l x r e n v u sweeps settled w C = subst (λ (cs : List Core). Came (stepsAndOne m set xs cs) s s v u sweeps settled w) (taken-over s l x r e n) C
+pub came-own : (m : ℕ) (set : Settings) (s : Shape) (xs : List Axis) (l x r : List Float) → x ≡ l → length l ≡ entriesOf s → (v : Verdict) (u : Shape) (bonds : List Bond) (w : List Float)
+    → Came (stepsAndOne m set xs (tab (s .d) (standing s s (x ++ r)))) s s v u bonds w → Came (stepsAndOne m set xs (coresOf s l)) s s v u bonds w
+came-own m set s xs l x r e n v u bonds w C = subst (λ (cs : List Core). Came (stepsAndOne m set xs cs) s s v u bonds w) (taken-over s l x r e n) C

@@ -1,4 +1,4 @@
--- What a rounding of a whole chain in place leaves: every core stands in the room of its source, the counts and flags of the bonds at the front of their arrays. Assumes nothing.
+-- What a rounding of a whole chain in place leaves: every core stands in the room of its source, and what is said of the bonds at the front of their array. Assumes nothing.
 use mathlib.Core.Path.{_≡_, refl, sym, ap, _∙_}
 use Prim.Native.Nat.{ℕ, zero, suc, _+_, _-_, _*_, _≤_, _<_}
 use native.Mathlib.Nat.{zero-add}
@@ -26,8 +26,10 @@ use Rattle.shape.specs.Sizes.{Inside}
 use Rattle.shape.specs.Cores.{Core, coreWith, standing, reshaped}
 use Rattle.shape.proofs.Insides.{inside-size}
 use Rattle.shape.proofs.Ranks.{reshaped-points}
-use Rattle.cutform.specs.Bonds.{cutBond}
-use Rattle.cutform.specs.Rounding.{Carry, none, Cut, takenIn, cutIf, roundCore, coresIn, countsIn, flagsIn}
+use Rattle.cutform.specs.declared.Bond.{Bond}
+use Rattle.cutform.specs.declared.Cutting.{Cutting}
+use Rattle.cutform.specs.Bonds.{noBond, cutBond}
+use Rattle.cutform.specs.Rounding.{Carry, none, Cut, takenIn, cutIf, roundCore, coresIn, bondsIn}
 use Rattle.cutform.specs.Keeping.{bondSize, Stepped, keepStep}
 use Rattle.cutform.proofs.Cuts.{volume, round-of}
 use Rattle.steps.proofs.Reshapes.{reshaped-at}
@@ -58,41 +60,42 @@ module _ {A : Type 0} (size : ℕ → ℕ) (o : A) where
 
 -- ---- one core
 abbrev blank : Carry × Cut
-blank = (none, record { core = coreWith 0 0 0 []; counts = []; flags = [] })
+blank = (none, record { core = coreWith 0 0 0 []; bonds = [] })
 
-counts-cut : (more : Bool) (k : ℕ) (eps : Float) (c : Core) (r : Carry × Cut) → cutIf more k eps c ≡ done r → (length (r .1 .counts) ≡ cond more 1 0) × (length (r .1 .flags) ≡ cond more 1 0)
-counts-cut true k eps c r h = let A = bind-done (cutBond k eps c) _ r h in (ap (λ (x : Carry × Cut). length (x .1 .counts)) (sym (done-inj (A .2))), ap (λ (x : Carry × Cut). length (x .1 .flags)) (sym (done-inj (A .2))))
-counts-cut false k eps c r h = (ap (λ (x : Carry × Cut). length (x .1 .counts)) (sym (done-inj h)), ap (λ (x : Carry × Cut). length (x .1 .flags)) (sym (done-inj h)))
+bonds-cut : (more : Bool) (k : ℕ) (cutting : Cutting) (c : Core) (r : Carry × Cut) → cutIf more k cutting c ≡ done r → length (r .1 .bonds) ≡ cond more 1 0
+bonds-cut true k cutting c r h = let A = bind-done (cutBond k cutting c) _ r h in ap (λ (x : Carry × Cut). length (x .1 .bonds)) (sym (done-inj (A .2)))
+bonds-cut false k cutting c r h = ap (λ (x : Carry × Cut). length (x .1 .bonds)) (sym (done-inj h))
 
-counts-one : (eps : Float) (more : Bool) (k : ℕ) (s : Carry) (c : Core) (r : Carry × Cut) → roundCore eps more k s c ≡ done r → (length (r .1 .counts) ≡ cond more 1 0) × (length (r .1 .flags) ≡ cond more 1 0)
+bonds-one : (cutting : Cutting) (more : Bool) (k : ℕ) (s : Carry) (c : Core) (r : Carry × Cut) → roundCore cutting more k s c ≡ done r
+    → length (r .1 .bonds) ≡ cond more 1 0
 unfolding roundCore
-counts-one eps more k s c r h = let A = bind-done (takenIn k s c) (λ d. cutIf more k eps d) r h in counts-cut more k eps (A .0) r (A .2)
+bonds-one cutting more k s c r h =
+    let A = bind-done (takenIn k s c) (λ d. cutIf more k cutting d) r h in
+    bonds-cut more k cutting (A .0) r (A .2)
 
 -- ---- a whole chain
 -- a core of as many points as axis k, with all its numbers
 abbrev pub Found : Shape → ℕ → Core → Type 0
 Found t k c = (c .n ≡ pointsOf t k) × (length (c .entries) ≡ volume c)
 
-module _ (eps : Float) (s t : Shape) (h : Stepped) (I : Inside s t) (lefts : length (t .left) ≡ mostAxes) (rights : length (t .right) ≡ mostAxes) (cs : List Core) (count : length cs ≡ s .d) (F : All (Found t) 0 cs)
-    (tr : List (Carry × Cut)) (e : walk (λ (k : ℕ). roundCore eps (ltb (suc k) (s .d)) k) 0 none cs ≡ done tr) where
+module _ (cutting : Cutting) (s t : Shape) (h : Stepped) (I : Inside s t) (lefts : length (t .left) ≡ mostAxes) (rights : length (t .right) ≡ mostAxes) (cs : List Core) (count : length cs ≡ s .d) (F : All (Found t) 0 cs)
+    (tr : List (Carry × Cut)) (e : walk (λ (k : ℕ). roundCore cutting (ltb (suc k) (s .d)) k) 0 none cs ≡ done tr) where
   record Left (k : ℕ) (r : Carry × Cut) : Type 0 where
     points : r .1 .core .n ≡ pointsOf t k
     full : length (r .1 .core .entries) ≡ volume (r .1 .core)
-    counts : length (r .1 .counts) ≡ bondSize s k
-    flags : length (r .1 .flags) ≡ bondSize s k
+    cut : length (r .1 .bonds) ≡ bondSize s k
 
   pub trace-count : length tr ≡ s .d
-  trace-count = walk-length (λ (k : ℕ). roundCore eps (ltb (suc k) (s .d)) k) 0 none cs tr e ∙ count
+  trace-count = walk-length (λ (k : ℕ). roundCore cutting (ltb (suc k) (s .d)) k) 0 none cs tr e ∙ count
 
-  makes : (k : ℕ) (c : Carry) (x : Core) (r : Carry × Cut) → Found t k x → roundCore eps (ltb (suc k) (s .d)) k c x ≡ done r → Left k r
+  makes : (k : ℕ) (c : Carry) (x : Core) (r : Carry × Cut) → Found t k x → roundCore cutting (ltb (suc k) (s .d)) k c x ≡ done r → Left k r
   unfolding bondSize
   makes k c x r f g =
-      let C = round-of eps k c x r (ltb (suc k) (s .d)) (f .1) g in
-      let n = counts-one eps (ltb (suc k) (s .d)) k c x r g in
-      record { points = C .points ∙ f .0; full = C .long; counts = n .0; flags = n .1 }
+      let C = round-of cutting k c x r (ltb (suc k) (s .d)) (f .1) g in
+      record { points = C .points ∙ f .0; full = C .long; cut = bonds-one cutting (ltb (suc k) (s .d)) k c x r g }
 
   all : All Left 0 tr
-  all = walk-all (λ (k : ℕ). roundCore eps (ltb (suc k) (s .d)) k) (Found t) Left makes 0 none cs tr F e
+  all = walk-all (λ (k : ℕ). roundCore cutting (ltb (suc k) (s .d)) k) (Found t) Left makes 0 none cs tr F e
 
   few : s .d ≤ mostAxes
   few = omega (arith, I .sizes .axes .most, I .axes)
@@ -110,18 +113,13 @@ module _ (eps : Float) (s t : Shape) (h : Stepped) (I : Inside s t) (lefts : len
       one-or-none true = omega arith
       one-or-none false = omega arith
 
-  -- the counts and the flags
-  pub counts-front : h .sweeps ≡ replicate mostAxes 0 → keepStep s 0 tr h .sweeps ≡ fit 0 mostAxes (countsIn tr)
+  -- the bonds
+  pub bonds-front : h .bonds ≡ replicate mostAxes noBond → keepStep s 0 tr h .bonds ≡ fit noBond mostAxes (bondsIn tr)
   unfolding keepStep
-  counts-front z =
-      ap (λ (l : List ℕ). write (bondSize s) 0 (s .d) 0 (map (λ (r : Carry × Cut). r .1 .counts) tr) l) z
-      ∙ front-full (bondSize s) 0 (λ (r : Carry × Cut). r .1 .counts) (s .d) mostAxes tr trace-count (each (λ k r. length (r .1 .counts) ≡ bondSize s k) (λ k r L. L .counts) 0 tr all) (omega (arith, bonds-few (s .d), few))
-
-  pub flags-front : h .settled ≡ replicate mostAxes false → keepStep s 0 tr h .settled ≡ fit false mostAxes (flagsIn tr)
-  unfolding keepStep
-  flags-front z =
-      ap (λ (l : List Bool). write (bondSize s) false (s .d) 0 (map (λ (r : Carry × Cut). r .1 .flags) tr) l) z
-      ∙ front-full (bondSize s) false (λ (r : Carry × Cut). r .1 .flags) (s .d) mostAxes tr trace-count (each (λ k r. length (r .1 .flags) ≡ bondSize s k) (λ k r L. L .flags) 0 tr all) (omega (arith, bonds-few (s .d), few))
+  bonds-front z =
+      ap (λ (l : List Bond). write (bondSize s) noBond (s .d) 0 (map (λ (r : Carry × Cut). r .1 .bonds) tr) l) z
+      ∙ front-full (bondSize s) noBond (λ (r : Carry × Cut). r .1 .bonds) (s .d) mostAxes tr trace-count
+      (each (λ k r. length (r .1 .bonds) ≡ bondSize s k) (λ k r L. L .cut) 0 tr all) (omega (arith, bonds-few (s .d), few))
 
   -- the cores
   module _ (J : Inside s (reshaped 0 t (coresIn tr))) where

@@ -1,28 +1,29 @@
 -- A step of the zones from one on as memory has it, and what came of steps over a whole chain. Definitions for code only.
 use mathlib.Core.Path.{_≡_}
-use Prim.Native.Nat.{ℕ, _*_, _-_, _≤_, _<_}
-use mathlib.Core.Bool.{Bool, true, false}
+use Prim.Native.Nat.{ℕ, _-_, _≤_, _<_}
+use mathlib.Core.Bool.{true, false}
 use mathlib.Core.List.{List}
 use lib.ListN.{length}
 use lib.Ieee.{Float}
 use Rattle.answers.specs.declared.Verdict.{Verdict}
-use Rattle.answers.specs.declared.Refusal.{Refusal}
-use Rattle.answers.specs.Outcome.{Answer, done, refused, bind, verdictOf}
-use Rattle.answers.specs.Table.{beforeWork}
+use Rattle.answers.specs.Outcome.{Answer, done, bind, verdictOf}
 use Rattle.lists.specs.Lists.{listed, tab}
 use Rattle.lists.specs.Slots.{fit}
 use Rattle.shape.specs.declared.Shape.{Shape}
-use Rattle.shape.specs.Limits.{mostAxes, mostRank}
+use Rattle.shape.specs.Limits.{mostAxes, mostCarries}
 use Rattle.shape.specs.Shapes.{chainOk, entriesOf}
 use Rattle.shape.specs.Sizes.{Inside}
 use Rattle.shape.specs.Cores.{standing, reshaped}
 use Rattle.stepform.specs.declared.Axis.{Axis}
-use Rattle.cutform.specs.Rounding.{Carry, Cut, coresIn, countsIn, flagsIn}
+use Rattle.cutform.specs.declared.Bond.{Bond}
+use Rattle.cutform.specs.Bonds.{noBond}
+use Rattle.cutform.specs.Rounding.{Carry, Cut, coresIn, bondsIn}
 use Rattle.cutform.specs.Keeping.{Stepped, keepStep, carryLeft}
 use Rattle.stepform.specs.declared.Settings.{Settings}
 use Rattle.stepform.specs.Zones.{rules}
 use Rattle.stepform.specs.Steps.{stepFrom}
-use Rattle.checks.specs.Over.{axisReaches, zoneIn, Rooms}
+use Rattle.stepform.specs.Call.{axisReaches}
+use Rattle.checks.specs.Over.{zoneIn, Rooms}
 
 -- the step of the zones from z on, of the chain of shape t that stands in the room of s: its shape at the end, and what is held then
 unfoldable pub stepHeld : Settings → Shape → ℕ → List Axis → Shape → Stepped → Answer (Shape × Stepped)
@@ -31,21 +32,16 @@ stepHeld set s z xs t h =
     (λ tr. done (reshaped z t (coresIn tr), keepStep s z tr h))
 
 -- tr is what was left of each zone: u is the chain's shape at the end, w what stands in the room of s
-pub record Ends (s t u : Shape) (sweeps : List ℕ) (settled : List Bool) (w : List Float) (tr : List (Carry × Cut)) : Type 0 where
+pub record Ends (s t u : Shape) (bonds : List Bond) (w : List Float) (tr : List (Carry × Cut)) : Type 0 where
   pub shape : u ≡ reshaped 0 t (coresIn tr)
   pub inside : Inside s u
   pub cores : coresIn tr ≡ tab (s .d) (standing s u w)
-  pub counts : sweeps ≡ fit 0 mostAxes (countsIn tr)
-  pub flags : settled ≡ fit false mostAxes (flagsIn tr)
+  pub cut : bonds ≡ fit noBond mostAxes (bondsIn tr)
 
 -- v is the verdict on T, which began with a chain of shape t
-pub record Came (T : Answer (List (Carry × Cut))) (s t : Shape) (v : Verdict) (u : Shape) (sweeps : List ℕ) (settled : List Bool) (w : List Float) : Type 0 where
+pub record Came (T : Answer (List (Carry × Cut))) (s t : Shape) (v : Verdict) (u : Shape) (bonds : List Bond) (w : List Float) : Type 0 where
   pub verdict : v ≡ verdictOf T
-  pub ends : (tr : List (Carry × Cut)) → T ≡ done tr → Ends s t u sweeps settled w tr
-
--- T is refused by its work alone, never by a check before it
-abbrev pub Late : Answer (List (Carry × Cut)) → Type 0
-Late T = (q : Refusal) → T ≡ refused q → beforeWork q ≡ false
+  pub ends : (tr : List (Carry × Cut)) → T ≡ done tr → Ends s t u bonds w tr
 
 -- ---- what work in place asks
 -- a chain of shape t stands in the room of s
@@ -59,5 +55,5 @@ pub record Placed (s t : Shape) (w : List Float) : Type 0 where
 pub record Ready (set : Settings) (s : Shape) (xs : List Axis) (carries room block : List Float) : Type 0 where
   pub ok : chainOk s ≡ done tt
   pub reach : (k : ℕ) → k < s .d → axisReaches set s xs k ≡ true
-  pub carried : mostAxes * (mostRank * mostRank) ≤ length carries
+  pub carried : mostCarries ≤ length carries
   pub rooms : Rooms room block

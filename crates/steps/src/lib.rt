@@ -2,7 +2,7 @@
 pub mod moves;
 pub mod shifts;
 ghost use mathlib.Core.Path.{_≡_};
-ghost use mathlib.Core.Bool.{true, false};
+ghost use mathlib.Core.Bool.{true};
 ghost use Prim.Native.Nat.{ℕ, _-_, _≤_, _<_};
 ghost use lib.ListN.{length};
 ghost use Rattle.answers.specs.declared.Verdict.the-variants.{Fits, Refused};
@@ -13,22 +13,19 @@ ghost use Rattle.shape.specs.Sizes.{Inside};
 ghost use Rattle.shape.specs.Cores.{standing, coresOf};
 ghost use Rattle.cuts.specs.Slots.{AtZone, heldBy};
 ghost use Rattle.stepform.specs.Steps.{step, stepsAndOne};
-ghost use Rattle.checks.specs.Over.{axisReaches, Stands, Rooms};
+ghost use Rattle.stepform.specs.Call.{axisReaches};
+ghost use Rattle.checks.specs.Over.{Stands, Rooms};
 ghost use Rattle.rounding.specs.Slots.{unrounded};
 ghost use Rattle.steps.specs.Held.{stepHeld, Came, Placed, Ready};
-
-// The most numbers that one block of a core has twice.
-pub const MOST_BLOCK: usize = 2 * (shape::MOST_POINTS * shape::MOST_RANK);
 
 fn refused_walk(q: answers::Refusal, t: shape::Shape) -> cuts::Walked
     ensures { λ r. ⌜ r .verdict ≡ Refused q ⌝ }
 {
+    let none = bond::no_bond();
     cuts::Walked {
         verdict: answers::Verdict::Refused(q),
         shape: t,
-        ranks: [0; shape::MOST_AXES],
-        sweeps: [0; shape::MOST_AXES],
-        settled: [false; shape::MOST_AXES],
+        bonds: [none; shape::MOST_AXES],
     }
 }
 
@@ -46,7 +43,7 @@ pub fn step_from(
 ) -> cuts::Walked
     requires { ⌜ (Stands s (w .shape) (now work)) × (Rooms (now room) (now block)) ⌝ }
     requires { ⌜ (z ≤ s .d) × ((k : ℕ) → z ≤ k → k < s .d → axisReaches set s xs k ≡ true) ⌝ }
-    requires { ⌜ (w .verdict ≡ Fits) × AtZone s z z (w .shape) (heldBy w (now work) (now carries)) ⌝ }
+    requires { ⌜ AtZone s z z (w .shape) (heldBy w (now work) (now carries)) ⌝ }
     ensures { λ r. ⌜ (stepHeld set s z xs (w .shape) (heldBy w (now (work .entry)) (now (carries .entry)))
         ≡ answered (r .verdict) (r .shape, heldBy r (now (work .exit)) (now (carries .exit)))) × (z ≡ 0 → r .verdict ≡ Fits → Inside s (r .shape)) ⌝ }
 {
@@ -55,7 +52,8 @@ pub fn step_from(
     if let answers::Verdict::Refused(q) = moved {
         return refused_walk(q, t);
     }
-    cuts::round_from(z, s, w, set.eps, work, carries, room)
+    let cutting = set.cutting;
+    cuts::round_from(z, s, w, cutting, work, carries, room)
 }
 
 // A step of a whole chain of shape t.
@@ -71,7 +69,7 @@ fn one_step(
 ) -> cuts::Walked
     requires { ⌜ Ready set s xs (now carries) (now room) (now block) ⌝ }
     requires { ⌜ Placed s t (now work) ⌝ }
-    ensures { λ r. ⌜ Came (step set xs (tab (s .d) (standing s t (now (work .entry))))) s t (r .verdict) (r .shape) (r .sweeps) (r .settled) (now (work .exit)) ⌝ }
+    ensures { λ r. ⌜ Came (step set xs (tab (s .d) (standing s t (now (work .entry))))) s t (r .verdict) (r .shape) (r .bonds) (now (work .exit)) ⌝ }
 {
     step_from(
         0,
@@ -99,7 +97,7 @@ fn steps_in(
 ) -> cuts::Walked
     requires { ⌜ Ready set s xs (now carries) (now room) (now block) ⌝ }
     requires { ⌜ Placed s s (now work) ⌝ }
-    ensures { λ r. ⌜ Came (stepsAndOne m set xs (tab (s .d) (standing s s (now (work .entry))))) s s (r .verdict) (r .shape) (r .sweeps) (r .settled) (now (work .exit)) ⌝ }
+    ensures { λ r. ⌜ Came (stepsAndOne m set xs (tab (s .d) (standing s s (now (work .entry))))) s s (r .verdict) (r .shape) (r .bonds) (now (work .exit)) ⌝ }
 {
     let mut t = s;
     let mut left = m;
@@ -127,11 +125,11 @@ pub fn stepped(
 ) -> cuts::Walked
     requires { ⌜ (chainOk s ≡ done tt) × ((k : ℕ) → k < s .d → axisReaches set s xs k ≡ true) ⌝ }
     requires { ⌜ (length (now chain) ≡ entriesOf s) × (entriesOf s ≤ length (now scratch)) ⌝ }
-    ensures { λ r. ⌜ Came (stepsAndOne m set xs (coresOf s (now (chain .entry)))) s s (r .verdict) (r .shape) (r .sweeps) (r .settled) (now (scratch .exit)) ⌝ }
+    ensures { λ r. ⌜ Came (stepsAndOne m set xs (coresOf s (now (chain .entry)))) s s (r .verdict) (r .shape) (r .bonds) (now (scratch .exit)) ⌝ }
 {
-    let mut carries = [0.0; rounding::MOST_CARRIES];
-    let mut room = [0.0; rounding::MOST_CORE];
-    let mut block = [0.0; MOST_BLOCK];
+    let mut carries = [0.0; shape::MOST_CARRIES];
+    let mut room = [0.0; shape::MOST_CORE];
+    let mut block = [0.0; shape::MOST_BLOCK];
     let entries = chain.len();
     lists::copy(chain, &mut scratch[0..entries]);
     steps_in(m, s, set, xs, scratch, &mut carries, &mut room, &mut block)

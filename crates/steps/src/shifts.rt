@@ -7,7 +7,8 @@ ghost use Rattle.lists.specs.Lists.{listed};
 ghost use Rattle.lists.specs.Walks.{every};
 ghost use Rattle.stepform.specs.Zones.{rules};
 ghost use Rattle.stepform.specs.Steps.{shiftZone, scaleZone};
-ghost use Rattle.checks.specs.Over.{axisReaches, Onward, zoneIn, standFrom, Stands, Rooms};
+ghost use Rattle.stepform.specs.Call.{axisReaches};
+ghost use Rattle.checks.specs.Over.{Onward, zoneIn, standFrom, Stands, Rooms};
 
 // All shifts from zone z on, then the scaling.
 pub fn move_from(

@@ -10,8 +10,7 @@ use Rattle.lists.proofs.Tables.{length-tab}
 use Rattle.stepform.specs.declared.Axis.{Axis}
 use Rattle.stepform.specs.Axes.{axisAt, gathered}
 use Rattle.stepform.specs.declared.Settings.{Settings}
-use Rattle.stepform.specs.Call.{stepCall, evolveCall}
-use Rattle.checks.specs.Over.{stepOver, evolveOver}
+use Rattle.stepform.specs.Call.{stepOver, stepCall, evolveOver, evolveCall}
 use Rattle.steps.proofs.Gathers.{step-over, evolve-over}
 use Rattle.stepform.specs.declared.Course.{Course}
 use Rattle.records.specs.declared.given.CAxis.{CAxis}

@@ -1,15 +1,16 @@
 -- `comparing::same_counts` meets its contract. Assumes nothing.
 use borrow.Author.Needs.{needs}
 use Prim.Native.Nat.{_≤_, _-_}
+use Rattle.shape.specs.Limits.{mostAxes}
 use Rattle.comparing.proofs.Equal.{Agreed, agreed-none, agreed-more, agreed-all, differs-at}
 use Rattle.comparing.proofs.same_counts.Statement.{statement}
 use Rattle.comparing.proofs.same_counts.Tie as tie
 
 abbrev Inv-loop : tie.InvT-loop
-Inv-loop a b k₀ k = (k ≤ 16) × Agreed 0 a b k
+Inv-loop a b k₀ k = (k ≤ mostAxes) × Agreed 0 a b k
 
 abbrev μ-loop : tie.MeasureT-loop
-μ-loop a b k₀ k = 16 - k
+μ-loop a b k₀ k = mostAxes - k
 
 loop-again : tie.Need-loop-again Inv-loop μ-loop
 loop-again c = (search needs, agreed-more (c .before .before .loop .inv .1) (search needs))

@@ -2,15 +2,16 @@
 use borrow.Author.Needs.{needs}
 use Prim.Native.Nat.{_≤_, _-_}
 use mathlib.Core.Bool.{false}
+use Rattle.shape.specs.Limits.{mostAxes}
 use Rattle.comparing.proofs.Equal.{same-flag, other-flag, Agreed, agreed-none, agreed-more, agreed-all, differs-at}
 use Rattle.comparing.proofs.same_flags.Statement.{statement}
 use Rattle.comparing.proofs.same_flags.Tie as tie
 
 abbrev Inv-loop : tie.InvT-loop
-Inv-loop a b k₀ k = (k ≤ 16) × Agreed false a b k
+Inv-loop a b k₀ k = (k ≤ mostAxes) × Agreed false a b k
 
 abbrev μ-loop : tie.MeasureT-loop
-μ-loop a b k₀ k = 16 - k
+μ-loop a b k₀ k = mostAxes - k
 
 loop-again : tie.Need-loop-again Inv-loop μ-loop
 loop-again c = (search needs, agreed-more (c .before .before .loop .inv .1) (same-flag _ _ (c .if1 .left)))

@@ -8,7 +8,7 @@ use Rattle.cuts.proofs.left_rank.Tie as tie
 ruleset ways = (needs, rank-first)
 
 returns-2 : tie.Need-returns-2
-returns-2 c = let l : 1 ≤ c .before .before .args .k = search needs in rank-next _ _ _ l
+returns-2 c = let l : 1 ≤ c .before .args .k = search needs in rank-next _ _ _ l
 
 pub left-rank-spec : {M : Type 1} → statement M
 left-rank-spec = tie.close (tie.spec

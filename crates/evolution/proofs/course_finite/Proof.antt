@@ -1,9 +1,11 @@
 -- `evolution::course_finite` meets its contract. Assumes nothing.
 use borrow.Author.Needs.{needs}
+use Rattle.stepform.specs.Lone.{courseFinite}
 use Rattle.evolution.proofs.course_finite.Statement.{statement}
 use Rattle.evolution.proofs.course_finite.Tie as tie
 
 returns : tie.Need-returns
+unfolding courseFinite
 returns c = cc
 
 pub course-finite-spec : {M : Type 1} → statement M

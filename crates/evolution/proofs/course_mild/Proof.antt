@@ -1,9 +1,11 @@
 -- `evolution::course_mild` meets its contract. Assumes nothing.
 use borrow.Author.Needs.{needs}
+use Rattle.stepform.specs.Lone.{courseOk}
 use Rattle.evolution.proofs.course_mild.Statement.{statement}
 use Rattle.evolution.proofs.course_mild.Tie as tie
 
 returns : tie.Need-returns
+unfolding courseOk
 returns c = cc
 
 pub course-mild-spec : {M : Type 1} → statement M

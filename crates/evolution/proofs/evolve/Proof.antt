@@ -45,8 +45,7 @@ use Rattle.stepform.specs.Axes.{gathered}
 use Rattle.cutform.specs.declared.Rounded.{Rounded}
 use Rattle.cutform.specs.Call.{Ended}
 use Rattle.stepform.specs.declared.Course.{Course}
-use Rattle.stepform.specs.Call.{evolveCall}
-use Rattle.checks.specs.Over.{evolveOver}
+use Rattle.stepform.specs.Call.{evolveOver, evolveCall}
 use Rattle.steps.proofs.Gathers.{evolve-over}
 use Rattle.evolution.specs.Held.{Answers}
 use Rattle.stepform.proofs.Axis as T
@@ -147,12 +146,12 @@ module _ {M : Type 1} (𝓤 : URA M) (H : Heap 𝓤) (A : Atoms 𝓤) (W : Given
       owned ! P.the-row (Is P.the-row) (LL.makes P.the-type P′.the-plain 𝓤 H A) x _ px $ fjoin ! $ owned ! S.the-row (Is S.the-row) (LL.makes S.the-type S′.the-plain 𝓤 H A) h _ ph $ fjoin ! $ move ! (1 ∷ 0 ∷ []) $ join ! $ frame ! $ done !
 
   -- what `evolve_over` says is what the call promises
-  said : (l : List Axis) (r : Rounded) (zs ws : List Float) → l ≡ gathered (now s) → Answers (evolveOver (x .«t_final») (x .steps) (x .c) (x .eps) h (length (s .now)) l (now c) (now w)) r (zs) (ws) → (r ≡ evolveCall (x .«t_final») (x .steps) (x .c) (x .eps) h (now s) (now c) (now w) .result) × (zs ≡ evolveCall (x .«t_final») (x .steps) (x .c) (x .eps) h (now s) (now c) (now w) .chain) × (ws ≡ evolveCall (x .«t_final») (x .steps) (x .c) (x .eps) h (now s) (now c) (now w) .scratch)
+  said : (l : List Axis) (r : Rounded) (zs ws : List Float) → l ≡ gathered (now s) → Answers (evolveOver (x .«t_final») (x .steps) (x .c) (x .cutting) h (length (s .now)) l (now c) (now w)) r (zs) (ws) → (r ≡ evolveCall (x .«t_final») (x .steps) (x .c) (x .cutting) h (now s) (now c) (now w) .result) × (zs ≡ evolveCall (x .«t_final») (x .steps) (x .c) (x .cutting) h (now s) (now c) (now w) .chain) × (ws ≡ evolveCall (x .«t_final») (x .steps) (x .c) (x .cutting) h (now s) (now c) (now w) .scratch)
   said l r zs ws e f =
-      let same : evolveOver (x .«t_final») (x .steps) (x .c) (x .eps) h (length (s .now)) l (now c) (now w) ≡ evolveCall (x .«t_final») (x .steps) (x .c) (x .eps) h (now s) (now c) (now w) = ap (λ (y : List Axis). evolveOver (x .«t_final») (x .steps) (x .c) (x .eps) h (length (s .now)) y (now c) (now w)) e ∙ evolve-over (x .«t_final») (x .steps) (x .c) (x .eps) h (now s) (now c) (now w) in
+      let same : evolveOver (x .«t_final») (x .steps) (x .c) (x .cutting) h (length (s .now)) l (now c) (now w) ≡ evolveCall (x .«t_final») (x .steps) (x .c) (x .cutting) h (now s) (now c) (now w) = ap (λ (y : List Axis). evolveOver (x .«t_final») (x .steps) (x .c) (x .cutting) h (length (s .now)) y (now c) (now w)) e ∙ evolve-over (x .«t_final») (x .steps) (x .c) (x .cutting) h (now s) (now c) (now w) in
       (f .result ∙ ap (λ (y : Ended). y .result) same, f .chain ∙ ap (λ (y : Ended). y .chain) same, f .scratch ∙ ap (λ (y : Ended). y .scratch) same)
 
-  exits : (r : Rounded) (v : Val) (zs ws : List Float) → (r ≡ evolveCall (x .«t_final») (x .steps) (x .c) (x .eps) h (now s) (now c) (now w) .result) × (zs ≡ evolveCall (x .«t_final») (x .steps) (x .c) (x .eps) h (now s) (now c) (now w) .chain) × (ws ≡ evolveCall (x .«t_final») (x .steps) (x .c) (x .eps) h (now s) (now c) (now w) .scratch) → length zs ≡ length (now c) → length ws ≡ length (now w)
+  exits : (r : Rounded) (v : Val) (zs ws : List Float) → (r ≡ evolveCall (x .«t_final») (x .steps) (x .c) (x .cutting) h (now s) (now c) (now w) .result) × (zs ≡ evolveCall (x .«t_final») (x .steps) (x .c) (x .cutting) h (now s) (now c) (now w) .chain) × (ws ≡ evolveCall (x .«t_final») (x .steps) (x .c) (x .cutting) h (now s) (now c) (now w) .scratch) → length zs ≡ length (now c) → length ws ≡ length (now w)
       → ent 𝓤 (⋆ 𝓤 H A (‵ (O.the-row .own r (v ∷ [])) ∷ ‵ (flft κ₀ q₀) ∷ ‵ (flft κ₁ q₁) ∷ ‵ (flft κ₂ q₂) ∷ ‵ (finally f64 (c .name) zs) ∷ ‵ OwnS ∷ ‵ (finally f64 (w .name) ws) ∷ ‵ OwnX ∷ ‵ OwnH ∷ [])) (Post v)
   exits r v zs ws e lz lw =
       qed W (‵ (O.the-row .own r (v ∷ [])) ∷ ‵ (flft κ₀ q₀) ∷ ‵ (flft κ₁ q₁) ∷ ‵ (flft κ₂ q₂) ∷ ‵ (finally f64 (c .name) zs) ∷ ‵ OwnS ∷ ‵ (finally f64 (w .name) ws) ∷ ‵ OwnX ∷ ‵ OwnH ∷ []) ∵
@@ -240,8 +239,8 @@ module _ {M : Type 1} (𝓤 : URA M) (H : Heap 𝓤) (A : Atoms 𝓤) (W : Given
         -- [pre; κ₀; true; OwnS; OwnX; OwnH; the locals]
         calls-at ! fm (Work 𝓤 H A mem run) known-work (to-work l u) (and-then ! (load ! (from ! (stop !)) (look ! 26 refl)) (and-then ! (load ! (from ! (stop !)) (look ! 24 refl)) (and-then ! (load ! (from ! (stop !)) (look ! 16 refl)) (and-then ! (load ! (from ! (stop !)) (look ! 14 refl)) (and-then ! (load ! (from ! (stop !)) (look ! 10 refl)) (and-then ! (load ! (from ! (stop !)) (look ! 6 refl)) (no-more !))))))) (λ v.
         use1 W (later (some (λ (r : Rounded). ((‵ (flft κ₁ q₁) ⊛ (‵ (flft κ₂ q₂) ⊛ ‵ ftrue)) ⊛ ‵ (O.the-row .own r (v ∷ []))) ⊛ raw (ensured 𝓤 H A work.ended (work.clauses 𝓤 H A mem run) (κ₁, (κ₂, tt)) (h, (x, (l, (length (s .now), (c, (w, tt)))))) tt r)))) (id⊢ 𝓤 _) $ await ! tt $ pick ! (λ r.
-        split ! $ move ! (1 ∷ []) $ use1 W (some (λ (zs : Unit {0} × (Unit {0} × (Unit {0} × (Unit {0} × (List Float × (List Float × Unit {0})))))). ‵ (lasts work.ended (κ₁, (κ₂, tt)) (h, (x, (l, (length (s .now), (c, (w, tt)))))) zs) ⊛ raw (fact 𝓤 (Answers (evolveOver (x .«t_final») (x .steps) (x .c) (x .eps) h (length (s .now)) l (now c) (now w)) r (zs .1 .1 .1 .1 .0) (zs .1 .1 .1 .1 .1 .0))))) (id⊢ 𝓤 _) $ pick ! (λ zs.
-        split ! $ move ! (1 ∷ []) $ heard ! (Answers (evolveOver (x .«t_final») (x .steps) (x .c) (x .eps) h (length (s .now)) l (now c) (now w)) r (zs .1 .1 .1 .1 .0) (zs .1 .1 .1 .1 .1 .0)) (λ f.
+        split ! $ move ! (1 ∷ []) $ use1 W (some (λ (zs : Unit {0} × (Unit {0} × (Unit {0} × (Unit {0} × (List Float × (List Float × Unit {0})))))). ‵ (lasts work.ended (κ₁, (κ₂, tt)) (h, (x, (l, (length (s .now), (c, (w, tt)))))) zs) ⊛ raw (fact 𝓤 (Answers (evolveOver (x .«t_final») (x .steps) (x .c) (x .cutting) h (length (s .now)) l (now c) (now w)) r (zs .1 .1 .1 .1 .0) (zs .1 .1 .1 .1 .1 .0))))) (id⊢ 𝓤 _) $ pick ! (λ zs.
+        split ! $ move ! (1 ∷ []) $ heard ! (Answers (evolveOver (x .«t_final») (x .steps) (x .c) (x .cutting) h (length (s .now)) l (now c) (now w)) r (zs .1 .1 .1 .1 .0) (zs .1 .1 .1 .1 .1 .0)) (λ f.
         fsplit ! $ drop ! $ fsplit ! $ drop ! $ fsplit ! $ drop ! $ fsplit ! $ drop ! $ fsplit ! $ fsplit ! $ move ! (1 ∷ []) $ feqL ! (λ lz. move ! (1 ∷ []) $ fsplit ! $ fsplit ! $ move ! (1 ∷ []) $ feqL ! (λ lw. move ! (1 ∷ []) $ drop ! $
         -- [scratch's last list; chain's; the tokens and the result; κ₀; true; OwnS; OwnX; OwnH; the locals]
         move ! (2 ∷ []) $ split ! $ move ! (1 ∷ []) $ peeks ! O.the-row (Is O.the-row) (shows 𝓤 H A O.the-row) r (v ∷ []) (λ is′.

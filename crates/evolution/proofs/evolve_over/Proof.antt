@@ -2,7 +2,6 @@
 use borrow.Author.Needs.{needs}
 use Rattle.evolution.proofs.Calls.{evolve-stops, evolve-goes, accepted}
 use Rattle.evolution.proofs.Ends.{over-passed}
-use Rattle.cutform.specs.Call.{notBelowZero}
 use Rattle.evolution.proofs.evolve_over.Statement.{statement}
 use Rattle.evolution.proofs.evolve_over.Tie as tie
 
@@ -16,7 +15,7 @@ returns c =
 sub-work : tie.Need-sub-work
 sub-work c =
     let start = c .before .before .before .before .before .before .before .before .before .before .args in
-    accepted (notBelowZero (start .p .«t_final»)) (notBelowZero (start .p .eps)) _ _ (c .before .before .before .before .before .before .course-mild .ensures)
+    accepted (start .p .«t_final») (start .p .cutting) _ _ (c .before .before .before .before .before .before .course-mild .ensures)
     ((over-passed _ _ _ _ _ _ _ _ _ (c .before .before .before .step-ok .ensures) (c .before .enum-told .given .1)) .within) .0
 
 work-requires : tie.Need-work-requires

@@ -45,8 +45,7 @@ use Rattle.stepform.specs.Axes.{gathered}
 use Rattle.cutform.specs.declared.Rounded.{Rounded}
 use Rattle.cutform.specs.Call.{Ended}
 use Rattle.stepform.specs.declared.Settings.{Settings}
-use Rattle.stepform.specs.Call.{stepCall}
-use Rattle.checks.specs.Over.{stepOver}
+use Rattle.stepform.specs.Call.{stepOver, stepCall}
 use Rattle.steps.proofs.Gathers.{step-over}
 use Rattle.evolution.specs.Held.{Answers}
 use Rattle.stepform.proofs.Axis as T

@@ -7,8 +7,8 @@ use Rattle.evolution.proofs.step_over.Tie as tie
 
 returns : tie.Need-returns
 returns c =
-    step-stops _ _ _ _ _ _ _ _ (c .before .before .before .before .before .before .before .step-finite .ensures)
-    (c .before .before .before .before .before .before .step-mild .ensures) _ (c .before .before .before .before .step-ok .ensures) _
+    step-stops _ _ _ _ _ _ _ _ (c .before .before .before .before .before .before .before .lone-finite .ensures)
+    (c .before .before .before .before .before .before .lone-ok .ensures) _ (c .before .before .before .before .step-ok .ensures) _
     (c .before .before .ok .given .1) _ (c .refused-rounding .ensures)
 
 work-requires : tie.Need-work-requires
@@ -23,8 +23,8 @@ work-requires c κs =
 
 returns-2 : tie.Need-returns-2
 returns-2 c =
-    step-goes _ _ _ _ _ _ _ _ (c .before .before .before .before .before .before .before .before .before .before .before .before .step-finite .ensures)
-    (c .before .before .before .before .before .before .before .before .before .before .before .step-mild .ensures) _
+    step-goes _ _ _ _ _ _ _ _ (c .before .before .before .before .before .before .before .before .before .before .before .before .lone-finite .ensures)
+    (c .before .before .before .before .before .before .before .before .before .before .before .lone-ok .ensures) _
     (c .before .before .before .before .before .before .before .before .before .step-ok .ensures)
     (c .before .before .before .before .before .before .before .enum-told .given .1) _ _ _ (c .before .before .before .before .work .ensures)
 

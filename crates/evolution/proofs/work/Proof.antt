@@ -11,7 +11,7 @@ finish-requires c κs =
     let at-9 = at-4 .before .before .before .before .before in (
       ok-sizes _ (at-9 .pre .0 .0),
       (
-        came-inside _ _ _ _ _ _ _ _ (at-4 .stepped .ensures),
+        came-inside _ _ _ _ _ _ _ (at-4 .stepped .ensures),
         omega (arith, at-9 .pre .1 .0),
         omega
             (arith, at-9 .pre .1 .1, at-4 .stepped .kept .1 .1 .1 .1 .1 .0),

@@ -2,13 +2,13 @@
 use Prim.Native.Nat.{_-_, _≤_}
 use mathlib.Core.Path.{_≡_, refl, _∙_}
 use lib.ListN.{length, length-set}
-use Rattle.lists.proofs.Over.{over, over-more, over-all}
+use Rattle.lists.proofs.Over.{overTo, over-more, over-all}
 use borrow.Author.Needs.{needs}
 use Rattle.lists.proofs.copy.Statement.{statement}
 use Rattle.lists.proofs.copy.Tie as tie
 
 abbrev Inv-loop : tie.InvT-loop
-Inv-loop s d₀ i₀ d i = (i ≤ length s) × ((length d ≡ length d₀) × (d ≡ over i s d₀))
+Inv-loop s d₀ i₀ d i = (i ≤ length s) × ((length d ≡ length d₀) × (d ≡ overTo i s d₀))
 
 abbrev μ-loop : tie.MeasureT-loop
 μ-loop s d₀ i₀ d i = length s - i

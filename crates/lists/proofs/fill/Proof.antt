@@ -3,13 +3,13 @@ use Prim.Native.Nat.{_-_, _≤_}
 use mathlib.Core.Path.{_≡_, refl, _∙_}
 use native.Mathlib.Omega.{arith}
 use lib.ListN.{length, length-set, replicate}
-use Rattle.lists.proofs.Over.{over, fills-more, fills-all}
+use Rattle.lists.proofs.Over.{overTo, fills-more, fills-all}
 use borrow.Author.Needs.{needs}
 use Rattle.lists.proofs.fill.Statement.{statement}
 use Rattle.lists.proofs.fill.Tie as tie
 
 abbrev Inv-loop : tie.InvT-loop
-Inv-loop s₀ v i₀ s i = (i ≤ length s) × ((length s ≡ length s₀) × (s ≡ over i (replicate (length s₀) v) s₀))
+Inv-loop s₀ v i₀ s i = (i ≤ length s) × ((length s ≡ length s₀) × (s ≡ overTo i (replicate (length s₀) v) s₀))
 
 abbrev μ-loop : tie.MeasureT-loop
 μ-loop s₀ v i₀ s i = length s - i

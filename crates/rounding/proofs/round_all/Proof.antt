@@ -2,11 +2,10 @@
 use borrow.Author.Needs.{needs}
 use Rattle.rounding.proofs.Ends.{start-at, ended-is}
 use native.Mathlib.Omega.{arith}
-use mathlib.Core.Path.{_≡_, refl, sym, ap, _∙_}
+use mathlib.Core.Path.{_≡_, refl, sym, _∙_}
 use lib.ListN.{length}
 use Rattle.shape.specs.Limits.{mostAxes}
 use Rattle.shape.proofs.Shaped.{shaped}
-use Rattle.cuts.specs.declared.Walked.{Walked}
 use Rattle.rounding.proofs.round_all.Statement.{statement}
 use Rattle.rounding.proofs.round_all.Tie as tie
 
@@ -24,7 +23,6 @@ round-from-requires c κs =
       (
         omega arith,
         omega arith,
-        ap (λ (w : Walked). w .verdict) (u .ensures),
         start-at _ _ _ _ h (u .ensures) a b
             (omega (arith, i .pre .1 .1, c .before .before .before .before .before .before .load .kept .1 .0)) (omega arith),
       ),
@@ -62,7 +60,7 @@ returns c =
     let r = c .before .before .before .before .before .before .before .before .before .before .before .round-from in
     let d = c .before .before .before .before .before .before .before .before .before .before .before .before .before .before .before .before .before .before .load in
     c .before .before .before .before .finish .ensures ∙ sym
-    (ended-is (i .args .eps) (i .args .s) (i .args .chain .now) (i .args .scratch .now) _ (i .pre .1 .0) (d .ensures)
+    (ended-is (i .args .cutting) (i .args .s) (i .args .chain .now) (i .args .scratch .now) _ (i .pre .1 .0) (d .ensures)
     (omega (arith, i .pre .1 .1, d .kept .1 .0)) h _
     (c .before .before .before .before .before .before .before .before .before .before .before .before .before .before .before .unrounded .ensures) _ _ _ _
     (r .ensures .0) (λ v. r .ensures .1 refl v) (r .kept .1 .1 .1 .1 .0 ∙ d .kept .1 .0))

@@ -10,13 +10,13 @@ returns c = round-stops _ _ _ _ _ (c .before .before .before .before .round-ok .
 round-all-requires : tie.Need-round-all-requires
 round-all-requires c κs =
     let i = c .before .before .before .before .before .before .before .before in
-    round-asks (i .args .s) (i .args .eps) (i .args .chain .now) (i .args .scratch .now) _ (c .before .before .before .before .round-ok .ensures)
+    round-asks (i .args .s) (i .args .cutting) (i .args .chain .now) (i .args .scratch .now) _ (c .before .before .before .before .round-ok .ensures)
     (c .before .before .enum-told .given .1)
 
 returns-2 : tie.Need-returns-2
 returns-2 c =
     let i = c .before .before .before .before .before .before .before .before .before .before .before .before .before in
-    round-goes (i .args .s) (i .args .eps) (i .args .chain .now) (i .args .scratch .now) _
+    round-goes (i .args .s) (i .args .cutting) (i .args .chain .now) (i .args .scratch .now) _
     (c .before .before .before .before .before .before .before .before .before .round-ok .ensures)
     (c .before .before .before .before .before .before .before .enum-told .given .1) _ (c .before .before .before .before .round-all .ensures)
 

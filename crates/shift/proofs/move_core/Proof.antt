@@ -18,7 +18,7 @@ returns c = let b = c .before .before in rw (b .before .before .enum-told .given
 returns-2 : tie.Need-returns-2
 returns-2 c =
     let b = c .before .before .before .before .before .before .before in
-    rw (b .before .before .before .before .shift .given .1) (entries-stored _ _ _ _ _ (b .shift-core .ensures) (c .before .stored .ensures) (c .storing .ensures))
+    rw (b .before .before .before .before .shift .given .1) (entries-stored _ _ _ _ _ (b .shift-core .ensures) (c .before .stored .ensures) (c .stored-in .ensures))
 
 pub move-core-spec : {M : Type 1} → statement M
 move-core-spec = tie.close (tie.spec (λ c. search needs) (λ c κs. search needs) (λ c. search needs) shift-core-requires (λ c κs. search needs) (λ c κs. search needs) (λ c. search needs) returns (λ c. search needs) (λ c. search needs) returns-2)

@@ -7,12 +7,12 @@ use lib.ListN.{length}
 use lib.Ieee.{Float, nan}
 use Rattle.numbers.specs.Arithmetic.{times}
 use Rattle.lists.proofs.Turns.{turns}
-use Rattle.lists.proofs.Over.{over, over-none, maps-more, maps-done}
+use Rattle.lists.proofs.Over.{overTo, over-none, maps-more, maps-done}
 use Rattle.shift.proofs.multiply.Statement.{statement}
 use Rattle.shift.proofs.multiply.Tie as tie
 
 abbrev Inv-loop : tie.InvT-loop
-Inv-loop s₀ factor i₀ s i = (i ≤ length s₀) × (length s ≡ length s₀) × (s ≡ over i (map (λ (v : Float). times v factor) s₀) s₀)
+Inv-loop s₀ factor i₀ s i = (i ≤ length s₀) × (length s ≡ length s₀) × (s ≡ overTo i (map (λ (v : Float). times v factor) s₀) s₀)
 
 abbrev μ-loop : tie.MeasureT-loop
 μ-loop s₀ factor i₀ s i = length s₀ - i

@@ -14,7 +14,7 @@ steps-in-requires c κs =
 returns : tie.Need-returns
 returns c =
     came-own _ _ _ _ _ _ _ (c .before .before .before .before .before .before .before .before .before .before .before .before .copy .ensures)
-    (c .before .before .before .before .before .before .before .before .before .before .before .before .before .before .before .before .pre .1 .0) _ _ _ _ _
+    (c .before .before .before .before .before .before .before .before .before .before .before .before .before .before .before .before .pre .1 .0) _ _ _ _
     (c .before .before .before .before .before .steps-in .ensures)
 
 pub stepped-spec : {M : Type 1} → statement M

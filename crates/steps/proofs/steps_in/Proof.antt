@@ -36,7 +36,7 @@ returns : tie.Need-returns Inv-loop μ-loop
 returns c =
     going-stops _ _ _ _ _ _ _
     (c .before .before .before .before .before .before .before .before .before .before .before .before .before .before .before .before .before .loop .inv .0) _
-    _ _ _ _ (c .before .before .before .before .before .before .before .before .before .before .before .one-step .ensures)
+    _ _ _ (c .before .before .before .before .before .before .before .before .before .before .before .one-step .ensures)
     (c .before .before .before .before .before .before .before .before .before .before .before .before .before .before .before .before .loop-test .taken) _
     (c .before .verdict .given .1)
 
@@ -44,7 +44,7 @@ loop-again : tie.Need-loop-again Inv-loop μ-loop
 loop-again c =
     let at-11 = c .before .before .before .before .before .before .before .before .before .before .before in
     let at-17 = at-11 .before .before .before .before .before .before in (
-      going-more _ _ _ _ _ _ _ (at-17 .loop .inv .0) _ _ _ _ _ (at-11 .one-step .ensures)
+      going-more _ _ _ _ _ _ _ (at-17 .loop .inv .0) _ _ _ _ (at-11 .one-step .ensures)
           (c .before .before .before .before .before .before .before .before .before .before .before .before .before .before .before .before .loop-test .taken)
           (c .before .enum-told .given .1),
       at-11 .one-step .kept .1 .1 .1 .1 .0 ∙ at-17 .loop .inv .1,
@@ -66,7 +66,7 @@ one-step-requires-2 c κs =
 returns-2 : tie.Need-returns-2 Inv-loop μ-loop
 returns-2 c =
     going-ends _ _ _ _ _ _ _ (c .before .before .before .before .before .before .before .before .before .before .before .before .before .before .loop .inv .0) _
-    _ _ _ _ (c .before .before .before .before .before .before .before .before .one-step2 .ensures)
+    _ _ _ (c .before .before .before .before .before .before .before .before .one-step2 .ensures)
     (c .before .before .before .before .before .before .before .before .before .before .before .before .before .loop-test .left)
 
 pub steps-in-spec : {M : Type 1} → statement M

@@ -7,13 +7,13 @@ use native.Mathlib.Numerals.{add-one}
 use lib.ListN.{length, set}
 use Rattle.lists.specs.Lists.{iter}
 use Rattle.lists.proofs.Turns.{turns}
-use Rattle.cutform.specs.Values.{rankIn}
+use Rattle.cutform.specs.Values.{placeIn}
 use Rattle.cutform.proofs.Ranked.{rank-lt, order-is}
 use Rattle.bond.proofs.values.order.Statement.{statement}
 use Rattle.bond.proofs.values.order.Tie as tie
 
 abbrev Inv-loop : tie.InvT-loop
-Inv-loop sv n js₀ i₀ js i = (i ≤ n) × (length js ≡ length js₀) × (js ≡ iter i (λ (k : ℕ) (l : List ℕ). set l (rankIn n sv k) k) js₀)
+Inv-loop sv n js₀ i₀ js i = (i ≤ n) × (length js ≡ length js₀) × (js ≡ iter i (λ (k : ℕ) (l : List ℕ). set l (placeIn n sv k) k) js₀)
 
 abbrev μ-loop : tie.MeasureT-loop
 μ-loop sv n js₀ i₀ js i = n - i

@@ -1,7 +1,7 @@
 -- `checks::settings::first_too_far` meets its contract. Assumes nothing.
 use borrow.Author.Needs.{needs}
 use Rattle.lists.proofs.Demands.{Passed, passing}
-use Rattle.checks.specs.Over.{axisReaches}
+use Rattle.stepform.specs.Call.{axisReaches}
 use Prim.Native.Nat.{_≤_, _-_}
 use Rattle.checks.proofs.settings.first_too_far.Statement.{statement}
 use Rattle.checks.proofs.settings.first_too_far.Tie as tie

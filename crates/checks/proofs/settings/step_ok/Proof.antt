@@ -3,7 +3,7 @@ use borrow.Author.Needs.{needs}
 use Rattle.shape.proofs.Shaped.{fits-sizes, fits-points}
 use Rattle.checks.proofs.Verdicts.{chain-long}
 use Rattle.checks.proofs.StepVerdicts.{guards}
-use Rattle.checks.specs.Over.{overOk}
+use Rattle.stepform.specs.Call.{stepOk}
 use Rattle.checks.proofs.settings.step_ok.Statement.{statement}
 use Rattle.checks.proofs.settings.step_ok.Tie as tie
 
@@ -24,7 +24,7 @@ settings-ok-requires : tie.Need-settings-ok-requires
 settings-ok-requires c κs = fits-points _ _ _ (c .before .before .before .before .before .before .before .before .before .before .before .check .ensures) (c .before .before .before .before .before .before .before .before .before .enum-told .given .1)
 
 pub step-ok-spec : {M : Type 1} → statement M
-unfolding overOk
+unfolding stepOk
 step-ok-spec = tie.close (tie.spec
     (λ c κs. search ways)
     (λ c. search ways)

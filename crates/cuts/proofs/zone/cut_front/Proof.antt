@@ -12,8 +12,8 @@ returns : tie.Need-returns
 returns c =
     let i = c .before .before .before .before .before .before .before .before .before .before .before .before .before in
     let b = c .before .before .before .before .before .before .cut-bond in (
-      front-cut _ _ _ _ _ _ _ _ _ _ _ _ (b .ensures) (i .pre .4) (b .kept .0 ∙ span-length _ _ (i .pre .0)) _,
-      front-rank _ _ _ _ _ _ _ _ _ _ _ _ (b .ensures)
+      front-cut _ _ _ _ _ _ _ _ _ _ (b .ensures) (i .pre .4) (b .kept .0 ∙ span-length _ _ (i .pre .0)) _,
+      front-rank _ _ _ _ _ _ _ _ _ _ (b .ensures)
           (i .pre .4),
     )
 

@@ -13,14 +13,14 @@ cut-in-requires c κs = let i = c .before .before .before .before .before .befor
 returns : tie.Need-returns
 returns c =
     let h : c .before .before .before .before .before .before .before .before .before .before .before .before .before .before .args .more ≡ true = search needs in
-    if-cut _ _ _ _ _ _ h _ _ _ _ _ _ _ (c .before .before .before .before .before .before .cut-in .ensures)
+    if-cut _ _ _ _ _ _ h _ _ _ _ _ (c .before .before .before .before .before .before .cut-in .ensures)
 
 returns-2 : tie.Need-returns-2
 returns-2 c =
     let i = c .before .before .before .before .before .before .before .before in
     let e = c .before .before .last-in .ensures in
     let h : i .args .more ≡ false = search needs in
-    if-last _ _ _ _ _ _ h _ _ _ _ _ _ (ap (λ (r : BondCut). r .verdict) (e .0)) (ap (λ (r : BondCut). r .rank) (e .0)) (e .1) refl (i .pre .7 h)
+    if-last _ _ _ _ _ _ h _ _ _ _ (ap (λ (r : BondCut). r .verdict) (e .0)) (ap (λ (r : BondCut). r .bond .rank) (e .0)) (e .1) refl (i .pre .7 h)
 
 pub cut-if-spec : {M : Type 1} → statement M
 cut-if-spec = tie.close (tie.spec

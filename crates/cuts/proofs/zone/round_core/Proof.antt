@@ -59,7 +59,7 @@ returns-2 c =
     let t = c .before .before .before .before .before .before .before .before .before .before .before .before .before .before .before .before .taken in
     let h : t .result ≡ Fits = c .before .before .before .before .before .before .before .before .before .before .enum-told .given .1 in
     let m = part-long (i .args .mid) (i .args .to) (i .args .carries .now) (i .pre .right) (i .pre .held) in (
-      zone-goes _ _ _ _ _ _ _ (t .ensures) _ _ h _ _ _ _ _ _ _ _ _ _ (u .ensures) (t .kept .0) m
+      zone-goes _ _ _ _ _ _ _ (t .ensures) _ _ h _ _ _ _ _ _ _ _ (u .ensures) (t .kept .0) m
           (part-read (i .args .mid) (i .args .to) (i .args .carries .now) (i .pre .right) (i .pre .held) (u .last .1 .1 .1 .1 .1 .1 .1 .0) (u .kept .1 .1 .1 .1 .1 .1 .1 .0)),
       part-anew (i .args .mid) (i .args .to) (i .args .carries .now) (i .pre .right) (i .pre .held) (u .last .1 .1 .1 .1 .1 .1 .1 .0)
           (u .kept .1 .1 .1 .1 .1 .1 .1 .0),

@@ -7,14 +7,14 @@ use native.Mathlib.Omega.{arith}
 use lib.ListN.{length}
 use lib.Ieee.{nan}
 use Rattle.numbers.specs.Root.{rootOf}
-use Rattle.lists.proofs.Over.{over, over-none, maps-more, maps-done}
+use Rattle.lists.proofs.Over.{overTo, over-none, maps-more, maps-done}
 use Rattle.pair.proofs.parts.roots.Statement.{statement}
 use Rattle.pair.proofs.parts.roots.Tie as tie
 
 ruleset ways = (turns, over-none)
 
 abbrev Inv-loop : tie.InvT-loop
-Inv-loop s₀ i₀ s i = (i ≤ length s₀) × (length s ≡ length s₀) × (s ≡ over i (map rootOf s₀) s₀)
+Inv-loop s₀ i₀ s i = (i ≤ length s₀) × (length s ≡ length s₀) × (s ≡ overTo i (map rootOf s₀) s₀)
 
 abbrev μ-loop : tie.MeasureT-loop
 μ-loop s₀ i₀ s i = length s₀ - i

@@ -5,6 +5,7 @@ use mathlib.Core.Path.{sym, ap, _∙_}
 use mathlib.Core.Bool.{Bool, _&&_}
 use lib.Dec.{leb}
 use Rattle.lists.proofs.Asked.{length-wrong, length-right}
+use Rattle.shape.specs.Limits.{mostLines}
 use Rattle.pairform.specs.Call.{pairSized}
 use Rattle.pair.proofs.Verdicts.{ask-no, ask-yes, small}
 use Rattle.pair.proofs.refusals.sized.Statement.{statement}
@@ -18,7 +19,7 @@ returns : tie.Need-returns
 unfolding pairSized
 returns c =
     let start = c .before .before .before .args in
-    ask-no _ _ _ _ (c .before .lines-ok .ensures ∙ ap (λ (s : Bool). s && leb (start .l .rl * start .l .n) 64) (c .before .before .sizes-ok .ensures))
+    ask-no _ _ _ _ (c .before .lines-ok .ensures ∙ ap (λ (s : Bool). s && leb (start .l .rl * start .l .n) mostLines) (c .before .before .sizes-ok .ensures))
     (c .if1 .taken)
 
 lines-ok-requires-2 : tie.Need-lines-ok-requires-2
@@ -30,9 +31,9 @@ unfolding pairSized
 returns-2 c =
     let start = c .before .before .before .before .before .before .args in
     ask-yes _ _ _ _
-    (c .before .before .before .before .lines-ok .ensures ∙ ap (λ (s : Bool). s && leb (start .l .rl * start .l .n) 64)
+    (c .before .before .before .before .lines-ok .ensures ∙ ap (λ (s : Bool). s && leb (start .l .rl * start .l .n) mostLines)
     (c .before .before .before .before .before .sizes-ok .ensures)) (c .before .before .before .if1 .left) _
-    (ask-no _ _ _ _ (c .before .lines-ok2 .ensures ∙ ap (λ (s : Bool). s && leb (start .r .n * start .r .rr) 64) (c .before .before .sizes-ok2 .ensures))
+    (ask-no _ _ _ _ (c .before .lines-ok2 .ensures ∙ ap (λ (s : Bool). s && leb (start .r .n * start .r .rr) mostLines) (c .before .before .sizes-ok2 .ensures))
     (c .if2 .taken))
 
 returns-3 : tie.Need-returns-3
@@ -40,10 +41,10 @@ unfolding pairSized
 returns-3 c =
     let start = c .before .before .before .before .before .before .before .before .before .args in
     ask-yes _ _ _ _
-    (c .before .before .before .before .before .before .before .lines-ok .ensures ∙ ap (λ (s : Bool). s && leb (start .l .rl * start .l .n) 64)
+    (c .before .before .before .before .before .before .before .lines-ok .ensures ∙ ap (λ (s : Bool). s && leb (start .l .rl * start .l .n) mostLines)
     (c .before .before .before .before .before .before .before .before .sizes-ok .ensures)) (c .before .before .before .before .before .before .if1 .left) _
     (ask-yes _ _ _ _
-    (c .before .before .before .before .lines-ok2 .ensures ∙ ap (λ (s : Bool). s && leb (start .r .n * start .r .rr) 64)
+    (c .before .before .before .before .lines-ok2 .ensures ∙ ap (λ (s : Bool). s && leb (start .r .n * start .r .rr) mostLines)
     (c .before .before .before .before .before .sizes-ok2 .ensures)) (c .before .before .before .if2 .left) _ (length-wrong _ _ _ (c .if3 .taken)))
 
 returns-4 : tie.Need-returns-4
@@ -51,10 +52,10 @@ unfolding pairSized
 returns-4 c =
     let start = c .before .before .before .before .before .before .before .before .before .args in
     ask-yes _ _ _ _
-    (c .before .before .before .before .before .before .before .lines-ok .ensures ∙ ap (λ (s : Bool). s && leb (start .l .rl * start .l .n) 64)
+    (c .before .before .before .before .before .before .before .lines-ok .ensures ∙ ap (λ (s : Bool). s && leb (start .l .rl * start .l .n) mostLines)
     (c .before .before .before .before .before .before .before .before .sizes-ok .ensures)) (c .before .before .before .before .before .before .if1 .left) _
     (ask-yes _ _ _ _
-    (c .before .before .before .before .lines-ok2 .ensures ∙ ap (λ (s : Bool). s && leb (start .r .n * start .r .rr) 64)
+    (c .before .before .before .before .lines-ok2 .ensures ∙ ap (λ (s : Bool). s && leb (start .r .n * start .r .rr) mostLines)
     (c .before .before .before .before .before .sizes-ok2 .ensures)) (c .before .before .before .if2 .left) _ (length-right _ _ _ (c .if3 .left)))
 
 pub sized-spec : {M : Type 1} → statement M

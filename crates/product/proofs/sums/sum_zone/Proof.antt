@@ -1,16 +1,9 @@
--- `product::sums::sum_zone` meets its contract. Assumes nothing.
+-- `product::sums::sum_zone` by its stage, told as the call's verdict. Assumes nothing.
 use borrow.Author.Needs.{needs}
-use Rattle.product.proofs.sums.sum_zone.Reads as reads
-use Rattle.product.proofs.sums.sum_zone.Lts as lts
-use Rattle.product.proofs.sums.axis_sums.Reads as axis-sums-reads
-use Rattle.product.proofs.sums.keep_sums.Reads as keep-sums-reads
-use Rattle.product.proofs.sums.left_sums.Reads as left-sums-reads
 use Rattle.product.proofs.Slotted.{left-asks, own-asks}
 use Rattle.product.proofs.Turning.{turn-stops, turn-keeps}
-use mathlib.Core.Path.{_≡_}
 use Prim.Native.Nat.{_-_}
 use native.Mathlib.Omega.{arith}
-use Rattle.answers.specs.declared.Stage.the-variants.{Whole}
 use Rattle.product.proofs.sums.sum_zone.Statement.{statement}
 use Rattle.product.proofs.sums.sum_zone.Tie as tie
 
@@ -18,13 +11,32 @@ left-sums-requires : tie.Need-left-sums-requires
 left-sums-requires c κs = let i = c .before .before .before .before .before .before in let a = left-asks _ _ _ _ _ (i .pre .2) (i .pre .0) in (i .pre .2 .within, (i .pre .0, i .pre .1, a .0, a .1, a .2, a .3))
 
 returns : tie.Need-returns
-returns c = let i = c .before .before .before .before .before .before .before .before .before .before .before .before .before .before in turn-stops _ _ (i .pre .2 .inside) _ _ _ _ _ _ _ (c .before .before .before .before .before .before .before .left-sums .ensures) (c .before .before .before .before .axis-sums .ensures) _ (c .before .stage .given .1) _
+returns c =
+    let made = c .before .before .before in
+    let summed = made .before .before in
+    let left = summed .before .before .before in
+    let start = left .before .before .before .before .before .before .before in
+    turn-stops _ _ (start .pre .2 .inside) _ _ _ _ _ _ _ (left .left-sums .ensures) (summed .axis-sums .ensures) _ (made .stored-in .ensures) _
+    (c .before .made .given .1) _
 
 keep-sums-requires : tie.Need-keep-sums-requires
-keep-sums-requires c κs = let i = c .before .before .before .before .before .before .before .before .before .before .before .before .before .before .before .before in let a = own-asks _ _ _ _ _ (i .pre .2) (i .pre .0) in (i .pre .2 .within, (i .pre .0, i .pre .1, omega (arith, a .0, c .before .before .before .before .before .before .axis-sums .kept .1 .1 .1 .1 .1 .0, c .before .before .before .before .before .before .before .before .before .left-sums .kept .1 .1 .1 .1 .0), a .1))
+keep-sums-requires c κs =
+    let summed = c .before .before .before .before .before .before .before in
+    let left = summed .before .before .before in
+    let start = left .before .before .before .before .before .before .before in
+    let a = own-asks _ _ _ _ _ (start .pre .2) (start .pre .0) in (
+      start .pre .2 .within,
+      (start .pre .0, start .pre .1, omega (arith, a .0, summed .axis-sums .kept .1 .1 .1 .1 .1 .0, left .left-sums .kept .1 .1 .1 .1 .0), a .1),
+    )
 
 returns-2 : tie.Need-returns-2
-returns-2 c = let i = c .before .before .before .before .before .before .before .before .before .before .before .before .before .before .before .before .before .before .before in let h : c .before .before .before .before .before .before .before .before .before .axis-sums .result ≡ Whole = search needs in turn-keeps _ _ (i .pre .2 .inside) _ _ _ _ _ _ _ (c .before .before .before .before .before .before .before .before .before .before .before .before .left-sums .ensures) (c .before .before .before .before .before .before .before .before .before .axis-sums .ensures) h _ (c .before .before .keep-sums .ensures)
+returns-2 c =
+    let made = c .before .before .before .before .before .before .before .before in
+    let summed = made .before .before in
+    let left = summed .before .before .before in
+    let start = left .before .before .before .before .before .before .before in
+    turn-keeps _ _ (start .pre .2 .inside) _ _ _ _ _ _ _ (left .left-sums .ensures) (summed .axis-sums .ensures) _ (made .stored-in .ensures)
+    (c .before .before .before .before .before .before .enum-told .given .1) _ (c .before .before .keep-sums .ensures)
 
 pub sum-zone-spec : {M : Type 1} → statement M
 sum-zone-spec = tie.close (tie.spec
@@ -33,6 +45,7 @@ sum-zone-spec = tie.close (tie.spec
     (λ c. search needs)
     left-sums-requires
     (λ c. search needs)
+    (λ c κs. search needs)
     (λ c κs. search needs)
     (λ c. search needs)
     (λ c. search needs)

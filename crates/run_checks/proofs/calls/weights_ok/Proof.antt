@@ -5,7 +5,7 @@ use Rattle.runform.specs.Kept.{keptOf}
 use Rattle.run_checks.proofs.InRow.{found-stops, found-says, weights-wrong, weights-room, weights-fit}
 use Rattle.stepform.specs.Zones.{rules}
 use Rattle.runform.specs.Requests.{newWeights}
-use Rattle.run_checks.specs.Asking.{scratchOf}
+use Rattle.runform.specs.Checks.{scratchLent}
 use native.Mathlib.Omega.{arith}
 use Rattle.shape.proofs.Offsets.{entries-most}
 use Rattle.run_checks.proofs.calls.weights_ok.Statement.{statement}
@@ -14,7 +14,7 @@ use Rattle.run_checks.proofs.calls.weights_ok.Tie as tie
 returns : tie.Need-returns
 returns c =
     let i = c .before .before .before .before .before .before .before .before .before .before .before .before in
-    found-stops rules (scratchOf (i .args .r .shape) 6 (i .args .scratch))
+    found-stops rules (scratchLent (i .args .r .shape) 6 (i .args .scratch))
     (keptOf (i .args .r) (i .args .source .now) (i .args .weights .now) (i .args .chain .now) (i .args .carries .now) (i .args .sums .now))
     (newWeights (i .args .z) (i .args .part .now)) _ (c .before .before .before .found-ok .ensures) _ (c .before .found .given .1)
 

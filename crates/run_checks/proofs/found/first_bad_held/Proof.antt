@@ -6,7 +6,9 @@ use Rattle.run_checks.proofs.found.first_bad_held.Statement.{statement}
 use Rattle.run_checks.proofs.found.first_bad_held.Tie as tie
 
 returns : tie.Need-returns
-returns c = held-first _ _ _ _ _ _ (c .before .least .ensures) (c .least2 .ensures) _ _ _ _ (c .before .before .before .before .first-bad-core .ensures) (c .before .before .before .first-bad-carry .ensures) (c .before .before .first-bad-sum .ensures)
+returns c =
+    held-first _ _ _ _ _ _ (c .before .least .ensures) (c .least2 .ensures) _ _ _ _ (c .before .before .before .before .first-bad-core .ensures)
+    (c .before .before .before .first-bad-carry .ensures) (c .before .before .first-bad-sum .ensures)
 
 pub first-bad-held-spec : {M : Type 1} → statement M
 first-bad-held-spec = tie.close (tie.spec

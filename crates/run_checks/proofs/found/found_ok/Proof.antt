@@ -3,14 +3,14 @@ use borrow.Author.Needs.{needs}
 use Prim.Native.Nat.{_-_}
 use Rattle.run_checks.proofs.Guards.{sized}
 use Rattle.shape.proofs.Shaped.{fits-sizes}
-use Rattle.run_checks.specs.Slices.{foundBy}
+use Rattle.runform.specs.Requests.{foundOk}
 use Rattle.run_checks.proofs.found.found_ok.Statement.{statement}
 use Rattle.run_checks.proofs.found.found_ok.Tie as tie
 
 ruleset ways = (needs, sized, fits-sizes)
 
 pub found-ok-spec : {M : Type 1} → statement M
-unfolding foundBy
+unfolding foundOk
 found-ok-spec = tie.close (tie.spec
     (λ c κs. search ways)
     (λ c. search ways)

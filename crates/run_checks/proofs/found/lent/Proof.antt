@@ -1,14 +1,14 @@
 -- `run_checks::found::lent` meets its contract. Assumes nothing.
 use borrow.Author.Needs.{needs}
 use Rattle.run_checks.proofs.Guards.{sized}
-use Rattle.run_checks.specs.Slices.{lentBy}
+use Rattle.runform.specs.Checks.{lentFrom}
 use Rattle.run_checks.proofs.found.lent.Statement.{statement}
 use Rattle.run_checks.proofs.found.lent.Tie as tie
 
 ruleset ways = (needs, sized)
 
 pub lent-spec : {M : Type 1} → statement M
-unfolding lentBy
+unfolding lentFrom
 lent-spec = tie.close (tie.spec
     (λ c κs. search ways)
     (λ c. search ways)

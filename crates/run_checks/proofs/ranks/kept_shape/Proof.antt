@@ -9,10 +9,10 @@ use Rattle.run_checks.proofs.ranks.kept_shape.Tie as tie
 ruleset ways = (needs, ranked-none, ranked-more, ranked-all)
 
 abbrev Inv-loop : tie.InvT-loop
-Inv-loop s ranks t₀ k₀ t k = (k ≤ s .d) × Ranked s ranks t k
+Inv-loop s bonds t₀ k₀ t k = (k ≤ s .d) × Ranked s bonds t k
 
 abbrev μ-loop : tie.MeasureT-loop
-μ-loop s ranks t₀ k₀ t k = s .d - k
+μ-loop s bonds t₀ k₀ t k = s .d - k
 
 pub kept-shape-spec : {M : Type 1} → statement M
 kept-shape-spec = tie.close (tie.spec

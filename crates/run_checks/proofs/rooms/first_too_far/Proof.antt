@@ -2,7 +2,7 @@
 use borrow.Author.Needs.{needs}
 use Rattle.lists.proofs.Demands.{Passed, passing}
 use Prim.Native.Nat.{_-_, _≤_}
-use Rattle.run_checks.specs.Rooms.{reachFrom}
+use Rattle.run_checks.specs.Reach.{reachFrom}
 use Rattle.run_checks.proofs.rooms.first_too_far.Statement.{statement}
 use Rattle.run_checks.proofs.rooms.first_too_far.Tie as tie
 

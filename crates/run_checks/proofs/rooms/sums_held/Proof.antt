@@ -10,7 +10,6 @@ ruleset ways = (needs, sums-room, sums-found)
 pub sums-held-spec : {M : Type 1} → statement M
 sums-held-spec = tie.close (tie.spec
     (λ c κs. search ways)
-    (λ c. search ways)
-    (λ c. search ways)
+    (λ c κs. search ways)
     (λ c κs. search ways)
     (λ c. search ways))

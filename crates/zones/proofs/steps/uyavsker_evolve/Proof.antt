@@ -4,7 +4,7 @@ use mathlib.Core.List.{List}
 use Rattle.shape.specs.declared.Shape.{Shape}
 use Rattle.stepform.specs.declared.Axis.{Axis}
 use Rattle.stepform.specs.declared.Course.{Course}
-use Rattle.checks.specs.Over.{evolveOver}
+use Rattle.stepform.specs.Call.{evolveOver}
 use Rattle.records.specs.Given.{shapeIn, courseIn}
 use Rattle.zones.proofs.Faces.{steps-as, evolve-lent}
 use Rattle.zones.proofs.steps.uyavsker_evolve.Statement.{statement}

@@ -4,7 +4,7 @@ use mathlib.Core.List.{List}
 use Rattle.shape.specs.declared.Shape.{Shape}
 use Rattle.stepform.specs.declared.Axis.{Axis}
 use Rattle.stepform.specs.declared.Settings.{Settings}
-use Rattle.checks.specs.Over.{stepOver}
+use Rattle.stepform.specs.Call.{stepOver}
 use Rattle.records.specs.Given.{shapeIn, settingsIn}
 use Rattle.zones.proofs.Faces.{steps-as, step-lent}
 use Rattle.zones.proofs.steps.uyavsker_step.Statement.{statement}

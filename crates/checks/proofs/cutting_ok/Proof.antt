@@ -1,0 +1,12 @@
+-- `cuttingOk` is the test of eps.
+use borrow.Author.Needs.{needs}
+use Rattle.cutform.specs.Asked.{cuttingOk}
+use Rattle.checks.proofs.cutting_ok.Statement.{statement}
+use Rattle.checks.proofs.cutting_ok.Tie as tie
+
+returns : tie.Need-returns
+unfolding cuttingOk
+returns c = cc
+
+pub cutting-ok-spec : {M : Type 1} → statement M
+cutting-ok-spec = tie.close (tie.spec (λ c κs. search needs) returns)
