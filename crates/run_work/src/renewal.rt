@@ -45,27 +45,19 @@ fn walked_of(r: runform::Run) -> cuts::Walked
     ensures { λ w. ⌜ w ≡ walkedOf r ⌝ }
 {
     let shape = r.shape;
-    let ranks = r.ranks;
-    let sweeps = r.sweeps;
-    let settled = r.settled;
+    let bonds = r.bonds;
     cuts::Walked {
         verdict: answers::Verdict::Fits,
         shape,
-        ranks,
-        sweeps,
-        settled,
+        bonds,
     }
 }
 
 fn fitted(mut r: runform::Run, w: cuts::Walked, figure: f64) -> runform::Ran
     ensures { λ a. ⌜ a ≡ record { verdict = Fits; run = runWith r w figure } ⌝ }
 {
-    let ranks = w.ranks;
-    r.ranks = ranks;
-    let sweeps = w.sweeps;
-    r.sweeps = sweeps;
-    let settled = w.settled;
-    r.settled = settled;
+    let bonds = w.bonds;
+    r.bonds = bonds;
     r.figure = figure;
     runform::Ran {
         verdict: answers::Verdict::Fits,

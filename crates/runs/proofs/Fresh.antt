@@ -66,14 +66,14 @@ write-all : (size : ℕ → ℕ) (o : Float) (d : ℕ) (q : List (List Float)) (
 unfolding write offset
 write-all size o d q l l' e e' = ap (λ (x : List Float). laid size o 0 q ++ x) (drop-of-length-le l {i = offset size d} (le-of-eq e) ∙ sym (drop-of-length-le l' {i = offset size d} (le-of-eq e')))
 
-module _ (i : Inputs) (h h' : Stepped) (ranks : h .ranks ≡ h' .ranks) (sweeps : h .sweeps ≡ h' .sweeps) (settled : h .settled ≡ h' .settled)
+module _ (i : Inputs) (h h' : Stepped) (bonds : h .bonds ≡ h' .bonds)
     (c : length (h .chain) ≡ entriesOf (i .shape)) (c' : length (h' .chain) ≡ entriesOf (i .shape)) (b : length (h .carries) ≡ allCarries (i .shape)) (b' : length (h' .carries) ≡ allCarries (i .shape)) where
   step-any : (tr : List (Carry × Cut)) → keepStep (i .shape) 0 tr h ≡ keepStep (i .shape) 0 tr h'
   unfolding keepStep
   step-any tr =
       let chain = write-all (coreSize (i .shape)) zero64 (i .shape .d) (map (λ (r : Carry × Cut). r .1 .core .entries) tr) (h .chain) (h' .chain) c c' in
       let carries = write-all (carrySize (i .shape)) zero64 (i .shape .d) (map (λ (r : Carry × Cut). numbersIn (r .0)) tr) (h .carries) (h' .carries) b b' in
-      cc (chain, carries, ranks, sweeps, settled)
+      cc (chain, carries, bonds)
 
   module _ (u u' : Summed) (n : length (u .sums) ≡ allSums (i .shape)) (n' : length (u' .sums) ≡ allSums (i .shape)) where
     sums-any : (e : List (List Float × Unit {0})) → keepSums (i .shape) 0 e u ≡ keepSums (i .shape) 0 e u'

@@ -28,7 +28,7 @@ use Rattle.runs.proofs.Replaced.{replace-goes}
 module _ (r : Run) (z : ℕ) (source weights chain carries sums part scratch : List Float) (v : Verdict)
     (e : v ≡ verdictOf (replaceOk rules (scratchLent (r .shape) 6 (length scratch)) (keptOf r source weights chain carries sums) (newWeights z part))) (h : v ≡ Fits) where
   -- what the checks let the work ask
-  pub weights-lent : (shapeOk (r .shape) (rankOk (r .shape) (r .ranks)) ≡ done tt) × Lent (r .shape) z part weights chain sums
+  pub weights-lent : (shapeOk (r .shape) (rankOk (r .shape) (r .bonds)) ≡ done tt) × Lent (r .shape) z part weights chain sums
   weights-lent =
       let k = keptOf r source weights chain carries sums in
       let A = checks-say rules (scratchLent (r .shape) 6 (length scratch)) k (newWeights z part) (verdict-passed _ v e h) in

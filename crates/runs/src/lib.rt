@@ -13,13 +13,12 @@ fn blank_run(
 ) -> runform::Run
     ensures { λ r. ⌜ r ≡ blankRun s xs set ⌝ }
 {
+    let none = bond::no_bond();
     runform::Run {
         shape: s,
         axes: xs,
         set,
-        ranks: [0; shape::MOST_AXES],
-        sweeps: [0; shape::MOST_AXES],
-        settled: [false; shape::MOST_AXES],
+        bonds: [none; shape::MOST_AXES],
         figure: 0.0,
     }
 }
