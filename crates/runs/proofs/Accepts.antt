@@ -18,7 +18,7 @@ use Rattle.shape.specs.Limits.{mostAxes, within, scratchFor}
 use Rattle.shape.specs.Shapes.{leftOf, rightOf, sizeOk, bondOk, shapeOk, chainOk, coreSize, entriesOf}
 use Rattle.shape.specs.Sizes.{SizesWithin}
 use Rattle.shape.proofs.Shaped.{shaped, shape-same, within-is}
-use Rattle.cutform.specs.declared.Bond.{Bond}
+use Rattle.cutform.specs.declared.Bond.{Bond as Told}
 use Rattle.cutform.specs.Keeping.{rankAmong}
 use Rattle.stepform.specs.declared.Axis.{Axis}
 use Rattle.stepform.specs.declared.Settings.{Settings}
@@ -51,7 +51,7 @@ module _ (s : Shape) (kept : ℕ → Bool) (ok : shapeOk s kept ≡ done tt) whe
   chain-passes : chainOk s ≡ done tt
   chain-passes = sym (shape-same s kept (λ (k : ℕ). true) kept-passes) ∙ ok
 
-ranks-pass : (s : Shape) (bonds : List Bond) → shapeOk s (rankOk s bonds) ≡ done tt → (m : ℕ) → RanksWithin s bonds m
+ranks-pass : (s : Shape) (bonds : List Told) → shapeOk s (rankOk s bonds) ≡ done tt → (m : ℕ) → RanksWithin s bonds m
 unfolding rankOk
 ranks-pass s bonds ok m k a b =
     let r = rankAmong bonds k in

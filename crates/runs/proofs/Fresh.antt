@@ -142,7 +142,7 @@ module _ (s : Shape) (xs : List Axis) (set : Settings) (source weights chain car
     unfolding blank bare
     whole =
         let k = keptOf r0 source weights chain carries sums in
-        sym (work-any i (k .stepped) (blank i .stepped) refl refl refl (A0 .chain-long) (length-replicate (entriesOf s) zero64) (A0 .carries-long) (length-replicate (allCarries s) zero64) (k .summed) (blank i .summed) (A0 .sums-long) (length-replicate (allSums s) zero64))
+        sym (work-any i (k .stepped) (blank i .stepped) refl (A0 .chain-long) (length-replicate (entriesOf s) zero64) (A0 .carries-long) (length-replicate (allCarries s) zero64) (k .summed) (blank i .summed) (A0 .sums-long) (length-replicate (allSums s) zero64))
         ∙ R0 .work source S
 
     goes : freshEnd i m (workFrom rules (blank i) 0) ≡ freshCall s xs set source weights chain carries sums scratch
