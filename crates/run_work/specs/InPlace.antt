@@ -67,7 +67,8 @@ pub record Memory (i : Inputs) (h : Stepped) (u : Summed) (z : ℕ) (work carrie
 -- ---- what is committed
 -- what a run kept, with what the work t left of each zone from one on: its core stands at a, its carry at b; its sums at c
 abbrev pub steppedOver : ℕ → ℕ → Stepped → Stepped → Stepped
-steppedOver a b h t = record { ranks = t .ranks; sweeps = t .sweeps; settled = t .settled; chain = over a (h .chain) (t .chain); carries = over b (h .carries) (t .carries) }
+steppedOver a b h t =
+    record { ranks = t .ranks; sweeps = t .sweeps; settled = t .settled; chain = over a (h .chain) (t .chain); carries = over b (h .carries) (t .carries) }
 
 abbrev pub summedOver : Shape → ℕ → List Float → List Float → Summed
 summedOver s c sums sums' = record { sums = over c sums sums'; figure = at sums' (offset (sumSize s) (s .d - 1)) }

@@ -80,7 +80,10 @@ fn commit(
 }
 
 fn fitted(mut r: runform::Run, figure: f64) -> runform::Ran
-    ensures { λ a. ⌜ a ≡ record { verdict = Fits; run = record { shape = r .shape; axes = r .axes; set = r .set; ranks = r .ranks; sweeps = r .sweeps; settled = r .settled; figure = figure } } ⌝ }
+    ensures { λ a. ⌜ a ≡ record {
+      verdict = Fits;
+      run = record { shape = r .shape; axes = r .axes; set = r .set; ranks = r .ranks; sweeps = r .sweeps; settled = r .settled; figure = figure };
+    } ⌝ }
 {
     r.figure = figure;
     runform::Ran {
@@ -101,7 +104,17 @@ pub fn resummed(
     requires { ⌜ shapeOk (r .shape) (rankHeld (r .shape) (r .ranks)) ≡ done tt ⌝ }
     requires { ⌜ Lent (r .shape) z (now part) (now weights) (now chain) (now sums) ⌝ }
     ensures { λ a. ⌜ ((source carries scratch : List Float) →
-        record { result = a; source = source; weights = now (weights .exit); chain = now (chain .entry); carries = carries; sums = now (sums .exit); scratch = zeros (length scratch) } ≡ weightsEnd r z source (now (weights .entry)) (now (chain .entry)) carries (now (sums .entry)) (now (part .entry)) scratch) ⌝ }
+        record {
+          result = a;
+          source = source;
+          weights = now (weights .exit);
+          chain = now (chain .entry);
+          carries = carries;
+          sums = now (sums .exit);
+          scratch = zeros (length scratch);
+        }
+        ≡ weightsEnd r z source (now (weights .entry)) (now (chain .entry)) carries (now (sums .entry))
+        (now (part .entry)) scratch) ⌝ }
 {
     let s = r.shape;
     let ranks = r.ranks;

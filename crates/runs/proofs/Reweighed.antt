@@ -40,7 +40,9 @@ module _ (r : Run) (z : ℕ) (source weights chain carries sums part scratch : L
       (A .shape, record { zone = A .order .inside; part-long = eqb-is (length part) (pointSize (r .shape) z) (A .order .fits); weights-long = lent-is (k .inputs) (A .inputs) .weights; chain-long = S .chain-long; sums-long = S .sums-long })
 
   -- u is scratch at the end
-  pub weights-worked : (a : Ran) (x y u : List Float) (n : ℕ) → record { result = a; source = source; weights = x; chain = chain; carries = carries; sums = y; scratch = zeros (length scratch) } ≡ weightsEnd r z source weights chain carries sums part scratch
+  pub weights-worked : (a : Ran) (x y u : List Float) (n : ℕ)
+      → record { result = a; source = source; weights = x; chain = chain; carries = carries; sums = y; scratch = zeros (length scratch) }
+      ≡ weightsEnd r z source weights chain carries sums part scratch
       → u ≡ replicate n zero64 → n ≡ length scratch
       → record { result = a; source = source; weights = x; chain = chain; carries = carries; sums = y; scratch = u } ≡ replaceWeightsCall r z source weights chain carries sums part scratch
   unfolding weightsEnd

@@ -12,8 +12,10 @@ use Rattle.runform.specs.declared.Run.{Run}
 
 -- it keeps nothing yet
 abbrev pub blankRun : Shape → List Axis → Settings → Run
-blankRun s xs t = record { shape = s; axes = xs; set = t; ranks = replicate mostAxes 0; sweeps = replicate mostAxes 0; settled = replicate mostAxes false; figure = zero64 }
+blankRun s xs t =
+    record { shape = s; axes = xs; set = t; ranks = replicate mostAxes 0; sweeps = replicate mostAxes 0; settled = replicate mostAxes false; figure = zero64 }
 
 -- with a new record for axis z
 abbrev pub axisRun : Run → ℕ → Axis → Run
-axisRun r z x = record { shape = r .shape; axes = set (r .axes) z x; set = r .set; ranks = r .ranks; sweeps = r .sweeps; settled = r .settled; figure = r .figure }
+axisRun r z x =
+    record { shape = r .shape; axes = set (r .axes) z x; set = r .set; ranks = r .ranks; sweeps = r .sweeps; settled = r .settled; figure = r .figure }

@@ -1,4 +1,4 @@
--- `shift::storing` meets its contract. Assumes nothing.
+-- `shift::storing`: the two cases of the stage, for any list.
 use borrow.Author.Needs.{needs}
 use Rattle.answers.specs.Outcome.{answered, staged}
 use Rattle.shift.proofs.storing.Statement.{statement}

@@ -1,4 +1,4 @@
--- `product::sums::sum_zone` meets its contract. Assumes nothing.
+-- `product::sums::sum_zone`: one turn of the walk: sums that are not finite stop it (turn-stops), and any others are kept in their slot (turn-keeps).
 use borrow.Author.Needs.{needs}
 use Rattle.product.proofs.sums.sum_zone.Reads as reads
 use Rattle.product.proofs.sums.sum_zone.Lts as lts
@@ -18,13 +18,35 @@ left-sums-requires : tie.Need-left-sums-requires
 left-sums-requires c κs = let i = c .before .before .before .before .before .before in let a = left-asks _ _ _ _ _ (i .pre .2) (i .pre .0) in (i .pre .2 .within, (i .pre .0, i .pre .1, a .0, a .1, a .2, a .3))
 
 returns : tie.Need-returns
-returns c = let i = c .before .before .before .before .before .before .before .before .before .before .before .before .before .before in turn-stops _ _ (i .pre .2 .inside) _ _ _ _ _ _ _ (c .before .before .before .before .before .before .before .left-sums .ensures) (c .before .before .before .before .axis-sums .ensures) _ (c .before .stage .given .1) _
+returns c =
+    let i = c .before .before .before .before .before .before .before .before .before .before .before .before .before .before in
+    turn-stops _ _ (i .pre .2 .inside) _ _ _ _ _ _ _ (c .before .before .before .before .before .before .before .left-sums .ensures)
+    (c .before .before .before .before .axis-sums .ensures) _ (c .before .stage .given .1) _
 
 keep-sums-requires : tie.Need-keep-sums-requires
-keep-sums-requires c κs = let i = c .before .before .before .before .before .before .before .before .before .before .before .before .before .before .before .before in let a = own-asks _ _ _ _ _ (i .pre .2) (i .pre .0) in (i .pre .2 .within, (i .pre .0, i .pre .1, omega (arith, a .0, c .before .before .before .before .before .before .axis-sums .kept .1 .1 .1 .1 .1 .0, c .before .before .before .before .before .before .before .before .before .left-sums .kept .1 .1 .1 .1 .0), a .1))
+keep-sums-requires c κs =
+    let i = c .before .before .before .before .before .before .before .before .before .before .before .before .before .before .before .before in
+    let a = own-asks _ _ _ _ _ (i .pre .2) (i .pre .0) in (
+      i .pre .2 .within,
+      (
+        i .pre .0,
+        i .pre .1,
+        omega (
+          arith,
+          a .0,
+          c .before .before .before .before .before .before .axis-sums .kept .1 .1 .1 .1 .1 .0,
+          c .before .before .before .before .before .before .before .before .before .left-sums .kept .1 .1 .1 .1 .0,
+        ),
+        a .1,
+      ),
+    )
 
 returns-2 : tie.Need-returns-2
-returns-2 c = let i = c .before .before .before .before .before .before .before .before .before .before .before .before .before .before .before .before .before .before .before in let h : c .before .before .before .before .before .before .before .before .before .axis-sums .result ≡ Whole = search needs in turn-keeps _ _ (i .pre .2 .inside) _ _ _ _ _ _ _ (c .before .before .before .before .before .before .before .before .before .before .before .before .left-sums .ensures) (c .before .before .before .before .before .before .before .before .before .axis-sums .ensures) h _ (c .before .before .keep-sums .ensures)
+returns-2 c =
+    let i = c .before .before .before .before .before .before .before .before .before .before .before .before .before .before .before .before .before .before .before in
+    let h : c .before .before .before .before .before .before .before .before .before .axis-sums .result ≡ Whole = search needs in
+    turn-keeps _ _ (i .pre .2 .inside) _ _ _ _ _ _ _ (c .before .before .before .before .before .before .before .before .before .before .before .before .left-sums .ensures)
+    (c .before .before .before .before .before .before .before .before .before .axis-sums .ensures) h _ (c .before .before .keep-sums .ensures)
 
 pub sum-zone-spec : {M : Type 1} → statement M
 sum-zone-spec = tie.close (tie.spec
