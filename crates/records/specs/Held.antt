@@ -12,7 +12,16 @@ use Rattle.records.specs.Given.{shapeIn, axisIn, settingsIn}
 use Rattle.records.specs.Told.{refusalOf, shapeOut}
 
 abbrev pub runIn : CRun → Run
-runIn r = record { shape = shapeIn (r .shape); axes = map axisIn (r .axes); set = settingsIn (r .set); ranks = r .ranks; sweeps = r .sweeps; settled = r .settled; figure = r .figure }
+runIn r =
+    record {
+      shape = shapeIn (r .shape);
+      axes = map axisIn (r .axes);
+      set = settingsIn (r .set);
+      ranks = r .ranks;
+      sweeps = r .sweeps;
+      settled = r .settled;
+      figure = r .figure;
+    }
 
 abbrev pub axisOut : Axis → CAxis
 axisOut x = record { a = x .a; b = x .b; xmin = x .xmin; xmax = x .xmax }
@@ -21,7 +30,16 @@ abbrev pub settingsOut : Settings → CSettings
 settingsOut x = record { tau = x .tau; c = x .c; eps = x .eps }
 
 abbrev pub runOut : Run → CRun
-runOut r = record { shape = shapeOut (r .shape); axes = map axisOut (r .axes); set = settingsOut (r .set); ranks = r .ranks; sweeps = r .sweeps; settled = r .settled; figure = r .figure }
+runOut r =
+    record {
+      shape = shapeOut (r .shape);
+      axes = map axisOut (r .axes);
+      set = settingsOut (r .set);
+      ranks = r .ranks;
+      sweeps = r .sweeps;
+      settled = r .settled;
+      figure = r .figure;
+    }
 
 abbrev pub ranOut : Ran → CRan
 ranOut w = record { refusal = refusalOf (w .verdict); run = runOut (w .run) }

@@ -128,7 +128,8 @@ module _ (i : Inputs) (shp : Shaped (i .shape)) (h : Stepped) (u : Summed) (z : 
         let r = rightRank s new k in
         let c = M .chain-long in
         ap (λ (l : ℕ). coreWith l n r (take (l * n * r) (slot (coreSize s) k (new .chain)))) (left-same k)
-        ∙ ap (λ (l : List Float). coreWith (leftRank new' k) n r (take (leftRank new' k * n * r) l)) (write-alike (coreSize s) zero64 (s .d) z (map f tr) (ap (λ (m : ℕ). z + m) (length-map tr f) ∙ whole) (h .chain) work (omega arith) (M .cores) k ge lt)
+        ∙ ap (λ (l : List Float). coreWith (leftRank new' k) n r (take (leftRank new' k * n * r) l))
+        (write-alike (coreSize s) zero64 (s .d) z (map f tr) (ap (λ (m : ℕ). z + m) (length-map tr f) ∙ whole) (h .chain) work (omega arith) (M .cores) k ge lt)
 
     pairs-same : weighedFrom i new z ≡ weighedFrom i' new' z
     unfolding weighedAt
@@ -166,7 +167,10 @@ module _ (i : Inputs) (shp : Shaped (i .shape)) (h : Stepped) (u : Summed) (z : 
       let one = shp .least in
       ap (at l) (sym (add-zero (offset (sumSize s) (s .d - 1)))) ∙ sym (getD-slot (sumSize s) (s .d - 1) l 0 nan (shp .right (s .d - 1) (omega arith)))
 
-  figure-same : (q : List (List Float)) → z + length q ≡ i .shape .d → at (write (sumSize (i .shape)) zero64 (i .shape .d) z q (u .sums)) (offset (sumSize (i .shape)) (i .shape .d - 1)) ≡ at (write (sumSize (i .shape)) zero64 (i .shape .d) z q sums) (offset (sumSize (i .shape)) (i .shape .d - 1))
+  figure-same : (q : List (List Float))
+      → z + length q ≡ i .shape .d
+      → at (write (sumSize (i .shape)) zero64 (i .shape .d) z q (u .sums)) (offset (sumSize (i .shape)) (i .shape .d - 1))
+      ≡ at (write (sumSize (i .shape)) zero64 (i .shape .d) z q sums) (offset (sumSize (i .shape)) (i .shape .d - 1))
   figure-same q n =
       let one = shp .least in
       let l = M .sums-long in

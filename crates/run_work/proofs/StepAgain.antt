@@ -123,5 +123,6 @@ module _ (z : ℕ) (w : Walked) (set : Settings) (xs : List Axis) (work carries 
   pub step-made : (r : Walked) (work' carries' : List Float) → stepHeld set (w .shape) z xs (w .shape) held ≡ answered (r .verdict) (r .shape, heldBy r work' carries')
       → ((weights : List Float) → restep rules (inPlace (w .shape) xs set work weights) held z ≡ answered (r .verdict) (heldBy r work' carries')) × (r .verdict ≡ Fits → RanksWithin (w .shape) (r .bonds) (w .shape .d))
   step-made r work' carries' e =
-      let R : (weights : List Float) → restep rules (inPlace (w .shape) xs set work weights) held z ≡ answered (r .verdict) (heldBy r work' carries') = λ weights. restep-is (w .shape) shp xs set weights held z (S .zone) (r .verdict) (r .shape) (heldBy r work' carries') e in
+      let R : (weights : List Float) → restep rules (inPlace (w .shape) xs set work weights) held z ≡ answered (r .verdict) (heldBy r work' carries') =
+      λ weights. restep-is (w .shape) shp xs set weights held z (S .zone) (r .verdict) (r .shape) (heldBy r work' carries') e in
       (R, λ f. ranks-after (inPlace (w .shape) xs set work []) shp held (heldBy r work' carries') roomy z (S .zone) (S .ranks) (R [] ∙ ap (λ (v : Verdict). answered v (heldBy r work' carries')) f ∙ answered-fits (heldBy r work' carries')))

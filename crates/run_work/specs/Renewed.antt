@@ -38,7 +38,9 @@ pub record RenewAsks (r : Run) (z : ℕ) (weights chain carries sums scratch : L
 
 -- the run, whatever source it has in the slots from z on as scratch has it; refused, all of it is as it was
 pub record Renewed (r : Run) (z : ℕ) (weights chain carries sums scratch : List Float) (a : Ran) (chain' carries' sums' : List Float) : Type 0 where
-  pub work : (source : List Float) → SourcesFrom (r .shape) z source scratch → workFrom rules (keptOf r source weights chain carries sums) z ≡ answered (a .verdict) (keptOf (a .run) source weights chain' carries' sums')
+  pub work : (source : List Float) → SourcesFrom (r .shape) z source scratch
+      → workFrom rules (keptOf r source weights chain carries sums) z
+      ≡ answered (a .verdict) (keptOf (a .run) source weights chain' carries' sums')
   pub left : (q : Refusal) → a .verdict ≡ Refused q → (a .run ≡ r) × (chain' ≡ chain) × (carries' ≡ carries) × (sums' ≡ sums)
 
 -- the bonds of a run

@@ -55,7 +55,10 @@ pub fn redo_from(
 ) -> cuts::Walked
     requires { ⌜ Steps z w set xs (now work) (now carries) ⌝ }
     requires { ⌜ Sums (w .shape) (now weights) (now sums) ⌝ }
-    ensures { λ r. ⌜ workFrom rules (heldIn (inPlace (w .shape) xs set (now (work .entry)) (now (weights .entry))) w (now (work .entry)) (now (carries .entry)) (now (sums .entry))) z ≡ answered (r .verdict) (heldIn (inPlace (w .shape) xs set (now (work .entry)) (now (weights .entry))) r (now (work .exit)) (now (carries .exit)) (now (sums .exit))) ⌝ }
+    ensures { λ r. ⌜ workFrom rules
+        (heldIn (inPlace (w .shape) xs set (now (work .entry)) (now (weights .entry))) w (now (work .entry)) (now (carries .entry)) (now (sums .entry))) z
+        ≡ answered (r .verdict)
+        (heldIn (inPlace (w .shape) xs set (now (work .entry)) (now (weights .entry))) r (now (work .exit)) (now (carries .exit)) (now (sums .exit))) ⌝ }
 {
     let s = w.shape;
     let stepped = step_again(z, w, set, xs, work, carries);

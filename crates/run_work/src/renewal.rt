@@ -76,7 +76,8 @@ fn worked(
     scratch: &mut [f64],
 ) -> runform::Ran
     requires { ⌜ RenewAsks r z (now weights) (now chain) (now carries) (now sums) (now scratch) ⌝ }
-    ensures { λ a. ⌜ Renewed r z (now (weights .entry)) (now (chain .entry)) (now (carries .entry)) (now (sums .entry)) (now (scratch .entry)) a (now (chain .exit)) (now (carries .exit)) (now (sums .exit)) ⌝ }
+    ensures { λ a. ⌜ Renewed r z (now (weights .entry)) (now (chain .entry)) (now (carries .entry)) (now (sums .entry))
+        (now (scratch .entry)) a (now (chain .exit)) (now (carries .exit)) (now (sums .exit)) ⌝ }
 {
     let s = r.shape;
     let xs = r.axes;
@@ -114,7 +115,9 @@ pub fn renew(
     scratch: &mut [f64],
 ) -> runform::Ran
     requires { ⌜ RenewAsks r z (now weights) (now chain) (now carries) (now sums) (now scratch) ⌝ }
-    ensures { λ a. ⌜ (Renewed r z (now (weights .entry)) (now (chain .entry)) (now (carries .entry)) (now (sums .entry)) (now (scratch .entry)) a (now (chain .exit)) (now (carries .exit)) (now (sums .exit))) × (now (scratch .exit) ≡ zeros (length (now (scratch .entry)))) ⌝ }
+    ensures { λ a. ⌜ (Renewed r z (now (weights .entry)) (now (chain .entry)) (now (carries .entry)) (now (sums .entry))
+        (now (scratch .entry)) a (now (chain .exit)) (now (carries .exit)) (now (sums .exit)))
+        × (now (scratch .exit) ≡ zeros (length (now (scratch .entry)))) ⌝ }
 {
     let a = worked(z, r, weights, chain, carries, sums, scratch);
     lists::fill(scratch, 0.0);

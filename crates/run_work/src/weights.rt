@@ -96,7 +96,17 @@ pub fn resummed(
     requires { ⌜ shapeOk (r .shape) (rankOk (r .shape) (r .bonds)) ≡ done tt ⌝ }
     requires { ⌜ Lent (r .shape) z (now part) (now weights) (now chain) (now sums) ⌝ }
     ensures { λ a. ⌜ ((source carries scratch : List Float) →
-        record { result = a; source = source; weights = now (weights .exit); chain = now (chain .entry); carries = carries; sums = now (sums .exit); scratch = zeros (length scratch) } ≡ weightsEnd r z source (now (weights .entry)) (now (chain .entry)) carries (now (sums .entry)) (now (part .entry)) scratch) ⌝ }
+        record {
+          result = a;
+          source = source;
+          weights = now (weights .exit);
+          chain = now (chain .entry);
+          carries = carries;
+          sums = now (sums .exit);
+          scratch = zeros (length scratch);
+        }
+        ≡ weightsEnd r z source (now (weights .entry)) (now (chain .entry)) carries (now (sums .entry))
+        (now (part .entry)) scratch) ⌝ }
 {
     let s = r.shape;
     let bonds = r.bonds;

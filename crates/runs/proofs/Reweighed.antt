@@ -37,7 +37,9 @@ module _ (r : Run) (z : ℕ) (source weights chain carries sums part scratch : L
       (A .shape, record { zone = A .order .inside; part-long = part-long; weights-long = S .weights; chain-long = S .chain; sums-long = S .sums })
 
   -- u is scratch at the end
-  pub weights-worked : (a : Ran) (x y u : List Float) (n : ℕ) → record { result = a; source = source; weights = x; chain = chain; carries = carries; sums = y; scratch = zeros (length scratch) } ≡ weightsEnd r z source weights chain carries sums part scratch
+  pub weights-worked : (a : Ran) (x y u : List Float) (n : ℕ)
+      → record { result = a; source = source; weights = x; chain = chain; carries = carries; sums = y; scratch = zeros (length scratch) }
+      ≡ weightsEnd r z source weights chain carries sums part scratch
       → u ≡ replicate n zero64 → n ≡ length scratch
       → record { result = a; source = source; weights = x; chain = chain; carries = carries; sums = y; scratch = u } ≡ replaceWeightsCall r z source weights chain carries sums part scratch
   unfolding weightsEnd

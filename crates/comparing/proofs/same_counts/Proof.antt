@@ -1,4 +1,4 @@
--- `comparing::same_counts` meets its contract. Assumes nothing.
+-- `comparing::same_counts`: the invariant: the first k counts agree (agreed-more); the first that does not tells the lists apart (differs-at).
 use borrow.Author.Needs.{needs}
 use Prim.Native.Nat.{_≤_, _-_}
 use Rattle.shape.specs.Limits.{mostAxes}

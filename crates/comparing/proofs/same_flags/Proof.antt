@@ -1,4 +1,4 @@
--- `comparing::same_flags` meets its contract. Assumes nothing.
+-- `comparing::same_flags`: the invariant: the first k flags agree (agreed-more); the first that does not tells the lists apart (differs-at).
 use borrow.Author.Needs.{needs}
 use Prim.Native.Nat.{_≤_, _-_}
 use mathlib.Core.Bool.{false}

@@ -1,4 +1,4 @@
--- `comparing::same_record` meets its contract. Assumes nothing.
+-- `comparing::same_record`: each field compared by itself: the first that differs tells the records apart (tells-no), and the last tells the rest (tells-as).
 use borrow.Author.Needs.{needs}
 use borrow.Author.Tests.{not-false}
 use Rattle.comparing.proofs.Equal.{tells-as, tells-no, refuted}

@@ -1,4 +1,4 @@
--- `records::held::run_in` meets its contract. Assumes nothing.
+-- `records::held::run_in`: shape, axes and settings by their own functions, put together (run-in-as).
 use borrow.Author.Needs.{needs}
 use Rattle.records.proofs.Runs.{run-in-as}
 use Rattle.records.proofs.held.run_in.Statement.{statement}

@@ -1,4 +1,4 @@
--- `records::held::run_out` meets its contract. Assumes nothing.
+-- `records::held::run_out`: shape, axes and settings by their own functions, put together (run-out-as).
 use borrow.Author.Needs.{needs}
 use Rattle.records.proofs.Runs.{run-out-as}
 use Rattle.records.proofs.held.run_out.Statement.{statement}

@@ -1,4 +1,4 @@
--- `records::told::rounded_out` meets its contract. Assumes nothing.
+-- `records::told::rounded_out`: refusal and shape by their own functions, put together (rounded-as).
 use Rattle.records.proofs.Refusals.{rounded-as}
 use borrow.Author.Needs.{needs}
 use Rattle.records.proofs.told.rounded_out.Statement.{statement}

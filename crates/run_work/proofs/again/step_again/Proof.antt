@@ -1,4 +1,4 @@
--- The step from zone z on is the run's own (step-made), of sources that stand in the work as it asks (step-asks).
+-- `run_work::again::step_again`: what stands in memory is what `step_from` asks (step-asks), and what it leaves is the step of the definition (step-made).
 use borrow.Author.Needs.{needs}
 use Rattle.run_work.proofs.StepAgain.{mapped-long, step-asks, step-made}
 use Rattle.run_work.proofs.again.step_again.Statement.{statement}
