@@ -1,5 +1,6 @@
 // What a call answers: the refusals of the scope's table, one case a row, and whether there was one.
 ghost use mathlib.Core.Path.{_≡_};
+ghost use Rattle.answers.specs.declared.Refusal.the-variants.{Stored};
 ghost use Rattle.answers.specs.Outcome.{storedIn};
 ghost use Rattle.answers.specs.Table.{numberOf, placeOf, beforeWork};
 
@@ -108,12 +109,19 @@ pub fn before_work(r: Refusal) -> bool
     }
 }
 
+// A number to be stored that isn't finite: what was being made, of which core, and the number's index in it.
+pub fn stored_at(part: Part, core: usize, index: usize) -> Refusal
+    ensures { λ r. ⌜ r ≡ Stored part core index ⌝ }
+{
+    Refusal::Stored(part, core, index)
+}
+
 // What a call answers of a stage that makes this part for this core.
 pub fn stored_in(stage: Stage, part: Part, core: usize) -> Verdict
     ensures { λ r. ⌜ r ≡ storedIn part core stage ⌝ }
 {
     match stage {
         Stage::Whole => Verdict::Fits,
-        Stage::Spilt(i) => Verdict::Refused(Refusal::Stored(part, core, i)),
+        Stage::Spilt(i) => Verdict::Refused(stored_at(part, core, i)),
     }
 }

@@ -84,7 +84,7 @@ fn cut_refused(part: answers::Part, k: usize, i: usize) -> BondCut
     ensures { λ r. ⌜ r ≡ record { verdict = Refused (Stored part k i); bond = noBond } ⌝ }
 {
     BondCut {
-        verdict: answers::Verdict::Refused(answers::Refusal::Stored(part, k, i)),
+        verdict: answers::Verdict::Refused(answers::stored_at(part, k, i)),
         bond: no_bond(),
     }
 }

@@ -101,7 +101,7 @@ fn inner_sums(s: shape::Shape, chain: &[f64], weights: &[f64]) -> Figure
             &mut eta,
         );
         if let answers::Stage::Spilt(i) = stage {
-            return refused_figure(answers::Refusal::Stored(answers::Part::Sum, k, i));
+            return refused_figure(answers::stored_at(answers::Part::Sum, k, i));
         }
         rank = rr;
         at = end;

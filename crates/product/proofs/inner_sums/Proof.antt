@@ -3,8 +3,11 @@ use native.Mathlib.Omega.{arith}
 use Prim.Native.Nat.{_*_, _^_, _<_}
 use lib.ListN.{length}
 use Prim.Native.Nat.{_-_}
-use mathlib.Core.Path.{refl, _∙_}
+use mathlib.Core.Path.{refl, ap, _∙_}
 use borrow.Author.Needs.{needs}
+use Rattle.answers.specs.declared.Refusal.{Refusal}
+use Rattle.answers.specs.Outcome.{refused}
+use Rattle.sumform.specs.Call.{figureBy}
 use Rattle.shape.proofs.Offsets.{offsets}
 use Rattle.shape.proofs.Slotwise.{slotwise}
 use Rattle.shape.proofs.Shaped.{shaped}
@@ -97,15 +100,17 @@ refused-figure-requires c κs = search (needs, offsets, slotwise)
 
 returns : tie.Need-returns Inv-loop μ-loop
 returns c =
-    let at-5 = c .before .before .before .before .before in
-    let at-10 = at-5 .before .before .before .before .before in
-    let at-16 = at-10 .before .before .before .before .before .before in
-    let a = c .before .before .before .before .before .before .before .before .before .before .before .before .before .before .before .before .args in
-    let p = c .before .before .before .before .before .before .before .before .before .before .before .before .before .loop in
-    c .refused-figure .ensures ∙ axis-stops (a .t1) (a .chain .now) (a .weights .now) (at-16 .pre .0) (at-16 .pre .1 .0) (at-16 .pre .1 .1) (p .eta) (p .rank)
-    (p .at) (p .points) (p .k) (p .inv) (c .before .before .before .before .before .before .before .before .before .before .before .before .loop-test .taken)
-    (at-10 .core-size .result) (at-10 .core-size .ensures) (at-5 .sum-axis .result) _ (at-5 .sum-axis .kept .1 .1 .1 .1 .0) (at-5 .sum-axis .ensures) _
-    (c .before .before .stage .given .1)
+    let summed = c .before .before .before .before .before .before in
+    let sized = summed .before .before .before .before .before in
+    let tested = sized .before .before in
+    let turn = tested .before in
+    let start = turn .before .before .before in
+    let a = start .args in
+    let p = turn .loop in
+    c .refused-figure .ensures ∙ ap (λ (r : Refusal). figureBy (refused r)) (c .before .stored-at .ensures)
+    ∙ axis-stops (a .t1) (a .chain .now) (a .weights .now) (start .pre .0) (start .pre .1 .0) (start .pre .1 .1) (p .eta) (p .rank) (p .at) (p .points) (p .k)
+    (p .inv) (tested .loop-test .taken) (sized .core-size .result) (sized .core-size .ensures) (summed .sum-axis .result) _
+    (summed .sum-axis .kept .1 .1 .1 .1 .0) (summed .sum-axis .ensures) _ (c .before .before .before .stage .given .1)
 
 enum-told : tie.Need-enum-told Inv-loop μ-loop
 enum-told c = search (needs, offsets, slotwise)
@@ -141,4 +146,4 @@ inner-sums-spec =
     tie.close
     (tie.spec Inv-loop μ-loop loop-holds mul-rr element-copy-out-rr core-size-requires add-end mul-last element-copy-out-last add-last mul-sum-axis
     sub-sum-axis part-sum-axis-start part-sum-axis-end mul-sum-axis-2 sub-sum-axis-2 part-sum-axis-start-2 part-sum-axis-end-2 slice-aggregate-sum-axis
-    sum-axis-requires enum-known-stage refused-figure-requires returns enum-told add-k loop-less loop-again array-read-figure-of figure-of-requires returns-2)
+    sum-axis-requires enum-known-stage (λ c κs. search needs) refused-figure-requires returns enum-told add-k loop-less loop-again array-read-figure-of figure-of-requires returns-2)
