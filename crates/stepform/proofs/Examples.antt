@@ -30,6 +30,10 @@ tiny = coreWith 1 4 1 (map of (0x1d74124e3d1 ∷ 0x3cbf65c15df5 ∷ 0x8005089620
 abbrev some-axis : Axis
 some-axis = record { a = of 0x3fe3333333333333; b = of 0x3fc999999999999a; xmin = of 0xbff0000000000000; xmax = of 0x4000000000000000 }
 
+-- from the least to the greatest number: its length is above all f64, and so is its spacing
+abbrev endless-axis : Axis
+endless-axis = record { a = of 0; b = of 0x3ff0000000000000; xmin = of 0xffefffffffffffff; xmax = of 0x7fefffffffffffff }
+
 abbrev ratioOf : Shift → ℕ
 ratioOf Stay = 0
 ratioOf (By r) = toBits binary64 r
@@ -40,7 +44,9 @@ pub record Examples : Type 0 where
   pub behind : bits (shifted three (of 0xc01dcccccccccccd)) ≡ 0x3fc3fdf3b645a1cb ∷ 0x3fd0083126e978d5 ∷ 0x3fb7e353f7ced915 ∷ []
   pub subnormal : bits (shifted tiny (of 0x3fd3333333333333)) ≡ 0x11d6eb7145836 ∷ 0x800075638b474a35 ∷ 0x800378360c6ee131 ∷ 0xc67d856dcf6d3 ∷ []
   pub ratio : ratioOf (shiftOf some-axis (of 0x3fb999999999999a) 3) ≡ 0x3fd5c17200e4310c
+  -- an infinite spacing is no reason to stay
+  pub endless : shiftOf endless-axis (of 0x3ff0000000000000) 3 ≡ By (of 0)
 
 pub examples : Examples
 unfolding add sub mul div neg lt le eq ofInt ofBits toBits rootIn wholeRoot rootOfUnits rootOf wholeOf fractionOf wrap pick listed flat sumOn place entry block cubicBandWeights bandOn shiftedAt distance spacing shiftOf shifted
-examples = record { weights = refl; ahead = refl; behind = refl; subnormal = refl; ratio = refl }
+examples = record { weights = refl; ahead = refl; behind = refl; subnormal = refl; ratio = refl; endless = refl }
