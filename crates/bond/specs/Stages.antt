@@ -24,7 +24,11 @@ unfoldable pub restOf : ℕ → Cutting → Core → Swept → Answer CutCore
 restOf k cutting c w =
     bind (making Spectrum k (chosenOf (cutting .eps) (c .rr) (w .eig .g))) (λ q.
     bind (making Factor k (factorsOf c (q .rank) (q .values) (q .order) (w .eig .v))) (λ f.
-    done (record { core = coreWith (c .rl) (c .n) (q .rank) (f .left); bond = record { rank = q .rank; sweeps = w .count; settled = w .settles }; carry = f .carry })))
+    done (record {
+      core = coreWith (c .rl) (c .n) (q .rank) (f .left);
+      bond = record { rank = q .rank; sweeps = w .count; settled = w .settles };
+      carry = f .carry;
+    })))
 
 -- a cut as code leaves it: the left factor and the carry stand at the front of their slices
 abbrev pub cutInto : ℕ → ℕ → ℕ → Bond → List Float → List Float → CutCore

@@ -1,5 +1,5 @@
--- A rounding from zone z on, as memory has it: every core in the room where its source begins, the carry of each bond in a slot of its own, and an array with what
--- is said of bond k at k. Definitions only.
+-- A rounding from zone z on, as memory has it: every core in the room where its source begins, the carry of each bond in a slot of its own,
+-- and an array with what is said of bond k at k. Definitions only.
 use Prim.Native.Nat.{ℕ, zero, suc, _-_, _*_}
 use mathlib.Core.List.{List, map}
 use lib.Dec.{ltb}

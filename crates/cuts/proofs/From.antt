@@ -184,7 +184,9 @@ module _ (cutting : Cutting) (s : Shape) where
             rights = length-set (t .right) k (new .rr) ∙ A .rights;
             bonds = put-length (bondSize s) k (fit noBond (bondSize s k) (r .1 .bonds)) (h .bonds) (fit-length noBond (bondSize s k) (r .1 .bonds)) (array-room (A .bonds)) ∙ A .bonds;
             chain = subst (λ (n : ℕ). entriesOf s ≤ n) (sym (put-length (coreSize s) k (fit zero64 (coreSize s k) (new .entries)) (h .chain) (fit-length zero64 (coreSize s k) (new .entries)) (chain-room s z k t h A lt))) (A .chain);
-            carries = subst (λ (n : ℕ). offset (carrySize s) (s .d) ≤ n) (sym (put-length (carrySize s) k (fit zero64 (carrySize s k) (numbersIn (r .0))) (h .carries) (fit-length zero64 (carrySize s k) (numbersIn (r .0))) (carries-room s z k t h A lt))) (A .carries);
+            carries = subst (λ (n : ℕ). offset (carrySize s) (s .d) ≤ n)
+                (sym (put-length (carrySize s) k (fit zero64 (carrySize s k) (numbersIn (r .0))) (h .carries) (fit-length zero64 (carrySize s k) (numbersIn (r .0))) (carries-room s z k t h A lt)))
+                (A .carries);
           }
         where
           first-left : 0 ≡ k → rankLeft k t (h .bonds) ≡ 1
@@ -256,7 +258,9 @@ module _ (cutting : Cutting) (s : Shape) where
       bind-assoc o (λ r. bind (walk f (suc k) (r .0) rest) (λ rs. done (r ∷ rs))) F
       ∙ bind-cong o (λ r. bind (bind (walk f (suc k) (r .0) rest) (λ rs. done (r ∷ rs))) F) (λ r. turning m (suc k) (zoneTurn cutting s) (withCore t k (r .1 .core), zoneTurned s k r h)) (λ r e.
       bind-assoc (walk f (suc k) (r .0) rest) (λ rs. done (r ∷ rs)) F
-      ∙ bind-cong (walk f (suc k) (r .0) rest) (λ rs. F (r ∷ rs)) (λ rs. done (reshaped (suc k) (withCore t k (r .1 .core)) (coresIn rs), keepStep s (suc k) rs (zoneTurned s k r h))) (λ rs _. ap (λ (x : Stepped). done (reshaped (suc k) (withCore t k (r .1 .core)) (coresIn rs), x)) (keep-one z k t h A lt r rs))
+      ∙ bind-cong (walk f (suc k) (r .0) rest) (λ rs. F (r ∷ rs))
+      (λ rs. done (reshaped (suc k) (withCore t k (r .1 .core)) (coresIn rs), keepStep s (suc k) rs (zoneTurned s k r h)))
+      (λ rs _. ap (λ (x : Stepped). done (reshaped (suc k) (withCore t k (r .1 .core)) (coresIn rs), x)) (keep-one z k t h A lt r rs))
       ∙ ap (λ (w : Answer (List (Carry × Cut))). bind w (λ rs. done (reshaped (suc k) (withCore t k (r .1 .core)) (coresIn rs), keepStep s (suc k) rs (zoneTurned s k r h)))) (walk-next z k t h A lt r e m (omega arith))
       ∙ from-turns m z (suc k) (withCore t k (r .1 .core)) (zoneTurned s k r h) (omega arith) (at-next z k t h A lt r e))
       ∙ sym (turn-open o k m t h)

@@ -141,7 +141,10 @@ module _ (s : Shape) (z k : ℕ) (t : Shape) (h : Stepped) (w : SizesWithin s) (
 
     abbrev Claim : Places → Type 0
     Claim p =
-        zone (ltb (k + 1) (s .d)) (carryFrom k r (take (r * leftOf t k) (take (p .mid - p .from) (drop (p .from) (h .carries))))) (coreWith (leftOf t k) (pointsOf t k) (rightOf t k) (take (leftOf t k * pointsOf t k * rightOf t k) (lent p))) (length (lent p)) (p .to - p .mid)
+        zone (ltb (k + 1) (s .d))
+        (carryFrom k r (take (r * leftOf t k) (take (p .mid - p .from) (drop (p .from) (h .carries)))))
+        (coreWith (leftOf t k) (pointsOf t k) (rightOf t k) (take (leftOf t k * pointsOf t k * rightOf t k) (lent p)))
+        (length (lent p)) (p .to - p .mid)
         ≡ answered v (laidAs (ltb (k + 1) (s .d)) r b x (own p))
         → carries ≡ take (p .mid) (h .carries) ++ (own p ++ drop (p .to) (h .carries))
         → length x ≡ length (lent p)
@@ -165,9 +168,15 @@ module _ (s : Shape) (z k : ℕ) (t : Shape) (h : Stepped) (w : SizesWithin s) (
         record {
           laid = ap (λ (n : ℕ). zone (ltb n (s .d)) (carryLeft s t h k) (standing s t (h .chain) k) (coreSize s k) (carrySize s k)) (sym (add-one k))
               ∙ ap (λ (cy : Carry). zone (ltb (k + 1) (s .d)) cy (standing s t (h .chain) k) (coreSize s k) (carrySize s k)) (sym (carry-read r q))
-              ∙ ap (λ (y : List Float). zone (ltb (k + 1) (s .d)) (carryFrom k r (take (r * leftOf t k) (take (P .mid - P .from) (drop (P .from) (h .carries))))) (coreWith (leftOf t k) (pointsOf t k) (rightOf t k) (take (coreSize t k) y)) (coreSize s k) (carrySize s k)) (sym o)
-              ∙ ap (λ (n : ℕ). zone (ltb (k + 1) (s .d)) (carryFrom k r (take (r * leftOf t k) (take (P .mid - P .from) (drop (P .from) (h .carries))))) (coreWith (leftOf t k) (pointsOf t k) (rightOf t k) (take (coreSize t k) (lent P))) n (carrySize s k)) (sym m)
-              ∙ ap (λ (n : ℕ). zone (ltb (k + 1) (s .d)) (carryFrom k r (take (r * leftOf t k) (take (P .mid - P .from) (drop (P .from) (h .carries))))) (coreWith (leftOf t k) (pointsOf t k) (rightOf t k) (take (coreSize t k) (lent P))) (length (lent P)) n) (sym own-size)
+              ∙ ap (λ (y : List Float). zone (ltb (k + 1) (s .d))
+              (carryFrom k r (take (r * leftOf t k) (take (P .mid - P .from) (drop (P .from) (h .carries)))))
+              (coreWith (leftOf t k) (pointsOf t k) (rightOf t k) (take (coreSize t k) y)) (coreSize s k) (carrySize s k)) (sym o)
+              ∙ ap (λ (n : ℕ). zone (ltb (k + 1) (s .d))
+              (carryFrom k r (take (r * leftOf t k) (take (P .mid - P .from) (drop (P .from) (h .carries)))))
+              (coreWith (leftOf t k) (pointsOf t k) (rightOf t k) (take (coreSize t k) (lent P))) n (carrySize s k)) (sym m)
+              ∙ ap (λ (n : ℕ). zone (ltb (k + 1) (s .d))
+              (carryFrom k r (take (r * leftOf t k) (take (P .mid - P .from) (drop (P .from) (h .carries)))))
+              (coreWith (leftOf t k) (pointsOf t k) (rightOf t k) (take (coreSize t k) (lent P))) (length (lent P)) n) (sym own-size)
               ∙ f
               ∙ ap (λ (n : ℕ). answered v (laidAs (ltb n (s .d)) r b x (own P))) (add-one k)
               ∙ ap (λ (n : ℕ). answered v (laidAs (ltb (suc k) (s .d)) n b x (own P))) q

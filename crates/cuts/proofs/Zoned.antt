@@ -111,7 +111,9 @@ module _ (k r rl n rr : ℕ) (carry slot : List Float) where
     taken-opened : Taken ≡ bind (making Factor k (staged s (take (r * n * rr) after))) (λ x. done (coreWith r n rr x))
     taken-opened = go k l ∙ ap (λ (m : Made (List Float)). bind (making Factor k m) (λ x. done (coreWith r n rr x))) e
       where
-        go : (j : ℕ) → 1 ≤ j → takenIn j (carryFrom j r (take (r * rl) carry)) (coreWith rl n rr (take (rl * n * rr) slot)) ≡ bind (making Factor j (stored (absorb r (take (r * rl) carry) (coreWith rl n rr (take (rl * n * rr) slot))))) (λ x. done (coreWith r n rr x))
+        go : (j : ℕ) → 1 ≤ j
+            → takenIn j (carryFrom j r (take (r * rl) carry)) (coreWith rl n rr (take (rl * n * rr) slot))
+            ≡ bind (making Factor j (stored (absorb r (take (r * rl) carry) (coreWith rl n rr (take (rl * n * rr) slot))))) (λ x. done (coreWith r n rr x))
         go zero o = let z : ⊥ = omega arith in absurd z
         go (suc j) o = refl
 

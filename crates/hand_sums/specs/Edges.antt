@@ -53,7 +53,8 @@ stepped tau c eps a0 a1 x =
     told (stepCall (record { tau = tau; c = c; cutting = record { eps = eps } }) D-shape (a0 ∷ a1 ∷ []) (D-with x) (zeros (scratchFor 6)) .result .verdict)
 
 abbrev evolved : Float → ℕ → Float → List ℕ
-evolved final steps x = told (evolveCall final steps zero64 (record { eps = zero64 }) D-shape (still ∷ still ∷ []) (D-with x) (zeros (scratchFor 6)) .result .verdict)
+evolved final steps x =
+    told (evolveCall final steps zero64 (record { eps = zero64 }) D-shape (still ∷ still ∷ []) (D-with x) (zeros (scratchFor 6)) .result .verdict)
 
 -- ---- the start of two axes, of one and two points
 abbrev started : List Float → List Float → List ℕ

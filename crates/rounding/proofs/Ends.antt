@@ -158,7 +158,9 @@ module _ (cutting : Cutting) (s : Shape) where
         ∙ ap (λ (y : List A). f r ++ y) (laid-all o f (suc k) rs (a .1))
 
     -- over arrays that were all o
-    array-is : {A : Type 0} (o : A) (f : Carry × Cut → List A) → All (λ (j : ℕ) (r : Carry × Cut). length (f r) ≡ bondSize s j) 0 tr → s .d ≤ mostAxes → write (bondSize s) o (s .d) 0 (map f tr) (replicate mostAxes o) ≡ fit o mostAxes (flat (map f tr))
+    array-is : {A : Type 0} (o : A) (f : Carry × Cut → List A)
+        → All (λ (j : ℕ) (r : Carry × Cut). length (f r) ≡ bondSize s j) 0 tr → s .d ≤ mostAxes
+        → write (bondSize s) o (s .d) 0 (map f tr) (replicate mostAxes o) ≡ fit o mostAxes (flat (map f tr))
     unfolding write offset
     array-is {A} o f a m =
         let L = laid (bondSize s) o 0 (map f tr) in
@@ -213,7 +215,9 @@ module _ (cutting : Cutting) (s : Shape) where
           ∙ array-is noBond (λ (r : Carry × Cut). r .1 .bonds) bonds-all m in
           let c : fit zero64 (length l) (joined (s .d) (λ (j : ℕ). take (coreSize (x .shape) j) (slot (coreSize s) j work))) ≡ chainAfter l (coresIn tr) =
           packed-is s (x .shape) work l (none-left .1 .core) (coresIn tr) (length-map tr (λ (r : Carry × Cut). r .1 .core) ∙ tr-length) (λ j lt. stands j lt) in
-          rw v (rw (a, ← g, n) (ap (λ (y : List Float). record { result = record { verdict = Fits; shape = reshaped 0 s (coresIn tr); bonds = fit noBond mostAxes (bondsIn tr) }; chain = y; scratch = zeros (length w) }) (sym c ∙ ap (λ (t : Shape). fit zero64 (length l) (joined (s .d) (λ (j : ℕ). take (coreSize t j) (slot (coreSize s) j work)))) (sym g))))
+          rw v (rw (a, ← g, n)
+          (ap (λ (y : List Float). record { result = record { verdict = Fits; shape = reshaped 0 s (coresIn tr); bonds = fit noBond mostAxes (bondsIn tr) }; chain = y; scratch = zeros (length w) })
+          (sym c ∙ ap (λ (t : Shape). fit zero64 (length l) (joined (s .d) (λ (j : ℕ). take (coreSize t j) (slot (coreSize s) j work)))) (sym g))))
         where
           stands : (j : ℕ) → j < s .d → getD (coresIn tr) j (none-left .1 .core) .entries ≡ take (coreSize (x .shape) j) (slot (coreSize s) j work)
           stands j lt =
@@ -235,7 +239,9 @@ places-there l d o h = let g : d - 1 < length l = go l (d - 1) h in omega arith
 
 -- ---- the call's work, by what `round_from` says of it
 module _ (cutting : Cutting) (s : Shape) (l w start : List Float) (long : length l ≡ entriesOf s) (same : take (length l) start ≡ l) (wide : entriesOf s ≤ length start) (shp : Shaped s)
-    (u : Walked) (i : u ≡ unrounded s) (held : List Float) (x : Walked) (work carries : List Float) (e : roundFrom cutting s 0 (u .shape) (heldBy u start held) ≡ answered (x .verdict) (x .shape, heldBy x work carries)) (I : x .verdict ≡ Fits → Inside s (x .shape)) (n : length work ≡ length w) where
+    (u : Walked) (i : u ≡ unrounded s) (held : List Float) (x : Walked) (work carries : List Float)
+    (e : roundFrom cutting s 0 (u .shape) (heldBy u start held) ≡ answered (x .verdict) (x .shape, heldBy x work carries))
+    (I : x .verdict ≡ Fits → Inside s (x .shape)) (n : length work ≡ length w) where
   abbrev h : Stepped
   h = heldBy (unrounded s) start held
 
@@ -251,7 +257,9 @@ module _ (cutting : Cutting) (s : Shape) (l w start : List Float) (long : length
   abbrev whole : Answer (List (Carry × Cut))
   whole = walk (λ (k : ℕ). roundCore cutting (ltb (suc k) (s .d)) k) 0 (carryLeft s s h 0) (listed (s .d - 0) 0 (standing s s start))
 
-  by-outcome : (o : Answer (List (Carry × Cut))) → whole ≡ o → (v : Verdict) → x .verdict ≡ v → bind {B = Shape × Stepped} o (λ tr. done (reshaped 0 s (coresIn tr), keepStep s 0 tr h)) ≡ answered v (x .shape, heldBy x work carries) → endedBy s l w o ≡ finished s x l work
+  by-outcome : (o : Answer (List (Carry × Cut))) → whole ≡ o → (v : Verdict) → x .verdict ≡ v
+      → bind {B = Shape × Stepped} o (λ tr. done (reshaped 0 s (coresIn tr), keepStep s 0 tr h)) ≡ answered v (x .shape, heldBy x work carries)
+      → endedBy s l w o ≡ finished s x l work
   unfolding answered endedBy scratchAfter pick
   by-outcome (done tr) f Fits v g =
       let p = done-inj g in

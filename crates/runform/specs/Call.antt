@@ -89,7 +89,8 @@ module _ (R : Rules) where
 -- ---- the public calls, by the rules of 000 and 001: the settings, then the slices in their order
 abbrev pub freshCall : Shape → List Axis → Settings → List Float → List Float → List Float → List Float → List Float → List Float → FreshEnd
 freshCall s xs t source weights chain carries sums scratch =
-    freshBy rules (record { shape = s; axes = xs; set = t; source = source; weights = weights }) (record { chain = chain; carries = carries; sums = sums; scratch = scratch })
+    freshBy rules (record { shape = s; axes = xs; set = t; source = source; weights = weights })
+    (record { chain = chain; carries = carries; sums = sums; scratch = scratch })
 
 abbrev pub replaceCoreCall : Run → ℕ → List Float → List Float → List Float → List Float → List Float → List Float → List Float → ReplaceEnd
 replaceCoreCall r z source weights chain carries sums part scratch = replaceBy rules (keptOf r source weights chain carries sums) (newCore z part) scratch

@@ -38,7 +38,8 @@ zoneOf (newWeights z ws) = z
 abbrev pub present : Inputs → Request → Inputs
 present i (newCore z xs) = record { shape = i .shape; axes = i .axes; set = i .set; source = put (coreSize (i .shape)) z xs (i .source); weights = i .weights }
 present i (newAxis z a) = record { shape = i .shape; axes = set (i .axes) z a; set = i .set; source = i .source; weights = i .weights }
-present i (newWeights z ws) = record { shape = i .shape; axes = i .axes; set = i .set; source = i .source; weights = put (pointSize (i .shape)) z ws (i .weights) }
+present i (newWeights z ws) =
+    record { shape = i .shape; axes = i .axes; set = i .set; source = i .source; weights = put (pointSize (i .shape)) z ws (i .weights) }
 
 -- ---- what is asked of the new part: 5, its length; 6 and 7, at its zone
 abbrev pub partFits : Shape → Request → Bool

@@ -22,7 +22,14 @@ keptAfter e = keptOf (e .result .run) (e .source) (e .weights) (e .chain) (e .ca
 
 -- the end of a fresh run that leaves k
 abbrev pub leaving : Room → Kept → FreshEnd
-leaving m k = record { result = record { verdict = Fits; run = recordOf k }; chain = k .stepped .chain; carries = k .stepped .carries; sums = k .summed .sums; scratch = zeros (length (m .scratch)) }
+leaving m k =
+    record {
+      result = record { verdict = Fits; run = recordOf k };
+      chain = k .stepped .chain;
+      carries = k .stepped .carries;
+      sums = k .summed .sums;
+      scratch = zeros (length (m .scratch));
+    }
 
 -- the run k is, in its record and its five slices, what a fresh run on the inputs i leaves, whatever slices of the right lengths it is lent
 pub record AsFresh (R : Rules) (i : Inputs) (k : Kept) : Type 0 where

@@ -1,4 +1,5 @@
--- A fresh run as the scope says it, by the definitions of `step` and `inner_separable`: one step, then the inner product over the step's own cores. Definitions only.
+-- A fresh run as the scope says it, by the definitions of `step` and `inner_separable`: one step, then the inner product
+-- over the step's own cores. Definitions only.
 use Prim.Native.Nat.{ℕ, suc}
 use mathlib.Core.List.{List, [], _∷_}
 use lib.Ieee.{Float}

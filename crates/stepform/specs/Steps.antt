@@ -1,4 +1,5 @@
--- A step over zones: all shifts, then the scaling of core 0, then the bonds left to right; and steps one after another (001: `step`, `evolve`). Definitions only.
+-- A step over zones: all shifts, then the scaling of core 0, then the bonds left to right; and steps one after another
+-- (001: `step`, `evolve`). Definitions only.
 use Prim.Native.Nat.{ℕ, zero, suc}
 use mathlib.Core.List.{List}
 use lib.Dec.{ltb}

@@ -1,4 +1,4 @@
--- `bond::absorb` meets its contract. Assumes nothing.
+-- `bond::absorb`: the absorbed core is a product of the carry's rows with the core's lines (absorb-is).
 use native.Mathlib.Omega.{arith}
 use borrow.Author.Needs.{needs}
 use Rattle.bond.proofs.Cores.{line-most, absorb-is}

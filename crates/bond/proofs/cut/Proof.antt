@@ -1,4 +1,4 @@
--- `bond::cut` meets its contract. Assumes nothing.
+-- `bond::cut`: sweeps that are not finite stop it (cut-stop); else `finish` is what follows them (cut-on).
 use Rattle.bond.proofs.Staged.{cut-stop, cut-on}
 use borrow.Author.Needs.{needs}
 use Rattle.bond.proofs.cut.Statement.{statement}

@@ -1,4 +1,4 @@
--- `bond::cut_bond` meets its contract. Assumes nothing.
+-- `bond::cut_bond`: r * r numbers find room where the most rank's do; the rest is `cut`.
 use native.Mathlib.Nat.{mul-le-mul}
 use borrow.Author.Needs.{needs}
 use Rattle.bond.proofs.cut_bond.Statement.{statement}

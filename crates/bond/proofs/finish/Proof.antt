@@ -1,4 +1,4 @@
--- `bond::finish` meets its contract. Assumes nothing.
+-- `bond::finish`: stage by stage: the values stop it (rest-first), the factors do (rest-second), or both are whole (rest-whole).
 use Rattle.bond.proofs.Chosen.{chosen-most, chosen-columns}
 use Rattle.bond.proofs.Staged.{rest-first, rest-second, rest-whole}
 use borrow.Author.Needs.{needs}

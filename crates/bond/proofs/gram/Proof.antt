@@ -1,4 +1,4 @@
--- `bond::gram` meets its contract. Assumes nothing.
+-- `bond::gram`: the Gram matrix is a product of the core's rows with themselves (gram-is).
 use native.Mathlib.Omega.{arith}
 use borrow.Author.Needs.{needs}
 use Rattle.bond.proofs.Cores.{row-most, gram-is}

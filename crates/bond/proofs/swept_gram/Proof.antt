@@ -1,4 +1,4 @@
--- `bond::swept_gram` meets its contract. Assumes nothing.
+-- `bond::swept_gram`: a Gram matrix that is not finite stops it (swept-stop); any other is diagonalized from the unit matrix on (swept-end).
 use borrow.Author.Needs.{needs}
 use Rattle.bond.proofs.Staged.{swept-stop, swept-end}
 use Rattle.bond.proofs.swept_gram.Statement.{statement}

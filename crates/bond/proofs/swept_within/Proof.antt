@@ -1,4 +1,4 @@
--- `bond::swept_within` meets its contract. Assumes nothing.
+-- `bond::swept_within`: the matrices lent are the front of their slices (swept-front).
 use mathlib.Core.Path.{_∙_}
 use Rattle.lists.proofs.Parts.{span-length}
 use Rattle.bond.proofs.Staged.{swept-front}

@@ -1,4 +1,4 @@
--- `checks::not_below_zero` meets its contract. Assumes nothing.
+-- `checks::not_below_zero`: the code is the definition, unfolded.
 use mathlib.Core.Path.{refl}
 use Rattle.cutform.specs.Asked.{notBelowZero}
 use Rattle.checks.proofs.not_below_zero.Statement.{statement}

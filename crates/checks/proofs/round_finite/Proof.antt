@@ -1,4 +1,4 @@
--- `checks::round_finite` meets its contract. Assumes nothing.
+-- `checks::round_finite`: one law for each return (finite-found).
 use borrow.Author.Needs.{needs}
 use Rattle.checks.proofs.Verdicts.{finite-found}
 use Rattle.checks.proofs.round_finite.Statement.{statement}

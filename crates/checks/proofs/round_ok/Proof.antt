@@ -1,4 +1,4 @@
--- `checks::round_ok` meets its contract. Assumes nothing.
+-- `checks::round_ok`: check after check: one that refuses is the verdict (then-stops), one that passes is passed over (then-passes); the last is a test (tested).
 use borrow.Author.Needs.{needs}
 use Rattle.answers.proofs.Checks.{then-stops, then-passes}
 use Rattle.lists.proofs.Asked.{tested}

@@ -1,4 +1,4 @@
--- `cuts::carry_before` meets its contract. Assumes nothing.
+-- `cuts::carry_before`: left of core 0 nothing comes before (before-none); else it is the offset of the bond before (carry-slots).
 use borrow.Author.Needs.{needs}
 use Rattle.cutform.proofs.BondSlots.{carry-slots}
 use Rattle.cuts.proofs.Stands.{before-none}

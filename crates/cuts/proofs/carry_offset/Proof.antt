@@ -1,4 +1,4 @@
--- `cuts::carry_offset` meets its contract. Assumes nothing.
+-- `cuts::carry_offset`: the invariant: the total is where the carry of bond j starts (offsets, carry-slots).
 use borrow.Author.Needs.{needs}
 use Rattle.cutform.proofs.BondSlots.{carry-slots}
 use Rattle.shape.proofs.Offsets.{offsets}

@@ -1,4 +1,4 @@
--- `cuts::carry_size` meets its contract. Assumes nothing.
+-- `cuts::carry_size`: by whether core k has a next one, as the definition asks; the square is small (carry-slots).
 use borrow.Author.Needs.{needs}
 use Rattle.cutform.proofs.BondSlots.{carry-slots}
 use Rattle.cuts.proofs.carry_size.Statement.{statement}

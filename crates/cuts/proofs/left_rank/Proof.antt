@@ -1,4 +1,4 @@
--- `cuts::left_rank` meets its contract. Assumes nothing.
+-- `cuts::left_rank`: core 0 has its shape's left rank (rank-first), any other the rank of the bond before (rank-next).
 use borrow.Author.Needs.{needs}
 use Rattle.cuts.proofs.Stands.{rank-first, rank-next}
 use Prim.Native.Nat.{_≤_}

@@ -1,4 +1,4 @@
--- `cuts::places_of` meets its contract. Assumes nothing.
+-- `cuts::places_of`: each place is what its call answers; both sums stay within their offsets' limits (core-offset-fits, carry-offset-fits).
 use borrow.Author.Needs.{needs}
 use Rattle.cutform.proofs.BondSlots.{carry-offset-fits}
 use Rattle.shape.proofs.Offsets.{core-offset-fits}

@@ -47,7 +47,9 @@ returns c =
     (loop-stop _ _ _ (start .args .z) _ _ _ (inv .6) lt _ _ _ turn _ told _, λ o f. refused-fits _ _ refl f)
 
 with-core-requires : tie.Need-with-core-requires Inv-loop μ-loop
-with-core-requires c κs = let start = c .before .before .before .before .before .before .before .before .before .before .before .before .before .before .before .before .before .before .before .before .before in omega (arith, start .pre .0 .axes .most, c .before .before .before .before .before .before .before .before .before .before .before .before .if1 .taken)
+with-core-requires c κs =
+    let start = c .before .before .before .before .before .before .before .before .before .before .before .before .before .before .before .before .before .before .before .before .before in
+    omega (arith, start .pre .0 .axes .most, c .before .before .before .before .before .before .before .before .before .before .before .before .if1 .taken)
 
 mul-placed : tie.Need-mul-placed Inv-loop μ-loop
 mul-placed c =

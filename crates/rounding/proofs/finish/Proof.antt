@@ -1,4 +1,4 @@
--- `rounding::finish` meets its contract. Assumes nothing.
+-- `rounding::finish`: the chain and scratch are as `leave` left them; the record goes by the verdict (finish-stops, finish-goes).
 use borrow.Author.Needs.{needs}
 use Rattle.rounding.proofs.Ends.{finish-stops, finish-goes}
 use Rattle.rounding.proofs.finish.Statement.{statement}

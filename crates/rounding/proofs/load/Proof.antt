@@ -1,4 +1,4 @@
--- `rounding::load` meets its contract. Assumes nothing.
+-- `rounding::load`: what is copied to the front is read there again (loaded).
 use borrow.Author.Needs.{needs}
 use Rattle.rounding.proofs.Ends.{loaded}
 use Rattle.rounding.proofs.load.Statement.{statement}

@@ -1,4 +1,4 @@
--- `rounding::round_all` meets its contract. Assumes nothing.
+-- `rounding::round_all`: the walk that `round_from` made over the loaded chain is the rounding of its cores, and `finish` leaves the call's end (ended-is).
 use borrow.Author.Needs.{needs}
 use Rattle.rounding.proofs.Ends.{start-at, ended-is}
 use native.Mathlib.Omega.{arith}

@@ -1,4 +1,4 @@
--- `rounding::tt_round` meets its contract. Assumes nothing.
+-- `rounding::tt_round`: by the verdict of the checks: refused, nothing is touched (round-stops); passed, they give what the work asks (round-asks, round-goes).
 use borrow.Author.Needs.{needs}
 use Rattle.rounding.proofs.Ends.{round-stops, round-asks, round-goes}
 use Rattle.rounding.proofs.tt_round.Statement.{statement}

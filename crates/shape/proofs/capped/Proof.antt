@@ -1,4 +1,4 @@
--- `shape::capped` meets its contract. Assumes nothing.
+-- `shape::capped`: a row past (most - i) / n is cut off (capped-at), any other is not (capped-not).
 use native.Mathlib.Omega.{arith}
 use borrow.Author.Needs.{needs}
 use Rattle.shape.proofs.Places.{capped-at, capped-not}

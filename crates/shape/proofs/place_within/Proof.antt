@@ -1,4 +1,4 @@
--- `shape::place_within` meets its contract. Assumes nothing.
+-- `shape::place_within`: a place cut off row by row is the place cut off (place-capped).
 use mathlib.Core.Path.{_∙_}
 use borrow.Author.Needs.{needs}
 use Rattle.shape.proofs.Places.{place-capped}

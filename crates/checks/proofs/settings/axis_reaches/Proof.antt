@@ -1,4 +1,4 @@
--- `checks::settings::axis_reaches` meets its contract. Assumes nothing.
+-- `checks::settings::axis_reaches`: record and shift are those of the definition (reaches-found); the points are at most their limit.
 use borrow.Author.Needs.{needs}
 use Rattle.checks.proofs.StepVerdicts.{reaches-found}
 use Rattle.checks.proofs.settings.axis_reaches.Statement.{statement}

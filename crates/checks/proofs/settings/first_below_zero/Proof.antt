@@ -1,4 +1,4 @@
--- `checks::settings::first_below_zero` meets its contract. Assumes nothing.
+-- `checks::settings::first_below_zero`: the invariant: all axes before k passed; the first that does not is found (passing).
 use borrow.Author.Needs.{needs}
 use mathlib.Core.Path.{ap, _∙_}
 use Rattle.lists.proofs.Demands.{Passed, passing}

@@ -1,4 +1,4 @@
--- `checks::settings::first_not_finite` meets its contract. Assumes nothing.
+-- `checks::settings::first_not_finite`: the invariant: all axes before k are finite; the first that is not is found (passing).
 use borrow.Author.Needs.{needs}
 use mathlib.Core.Path.{ap, _∙_}
 use Rattle.lists.proofs.Demands.{Passed, passing}

@@ -1,4 +1,4 @@
--- `checks::settings::first_too_far` meets its contract. Assumes nothing.
+-- `checks::settings::first_too_far`: the invariant: all axes before k reach; the first that does not is found (passing).
 use borrow.Author.Needs.{needs}
 use Rattle.lists.proofs.Demands.{Passed, passing}
 use Rattle.stepform.specs.Call.{axisReaches}

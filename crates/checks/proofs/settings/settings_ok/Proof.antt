@@ -1,4 +1,4 @@
--- `checks::settings::settings_ok` meets its contract. Assumes nothing.
+-- `checks::settings::settings_ok`: one law for each return (settings-found).
 use borrow.Author.Needs.{needs}
 use Rattle.checks.proofs.StepVerdicts.{settings-found}
 use Rattle.checks.proofs.settings.settings_ok.Statement.{statement}

@@ -1,4 +1,4 @@
--- `checks::settings::step_ok` meets its contract. Assumes nothing.
+-- `checks::settings::step_ok`: check after check, each stops or is passed over (guards); a shape that passed gives the sizes that the later ones ask (fits-sizes, fits-points, chain-long).
 use borrow.Author.Needs.{needs}
 use Rattle.shape.proofs.Shaped.{fits-sizes, fits-points}
 use Rattle.checks.proofs.Verdicts.{chain-long}

@@ -1,4 +1,4 @@
--- `checks::settings::zones_finite` meets its contract. Assumes nothing.
+-- `checks::settings::zones_finite`: the lesser of two first places decides: one law for each return (zones-found).
 use borrow.Author.Needs.{needs}
 use Rattle.checks.proofs.StepVerdicts.{zones-found}
 use Rattle.checks.proofs.settings.zones_finite.Statement.{statement}

@@ -1,4 +1,4 @@
--- `cuts::absorbed` meets its contract. Assumes nothing.
+-- `cuts::zone::absorbed`: `out` has just the product's length, so it is the product, and is looked at as a stage (absorbed-is).
 use borrow.Author.Needs.{needs}
 use Rattle.cuts.proofs.Zoned.{absorbed-is}
 use Rattle.cuts.proofs.zone.absorbed.Statement.{statement}

@@ -1,4 +1,4 @@
--- `cuts::clear_behind` meets its contract. Assumes nothing.
+-- `cuts::zone::clear_behind`: the used front, then zeros: a list made to fit (cleared).
 use mathlib.Core.Path.{refl}
 use borrow.Author.Needs.{needs}
 use Rattle.cuts.proofs.Zoned.{cleared}

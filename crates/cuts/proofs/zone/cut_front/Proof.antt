@@ -1,4 +1,4 @@
--- `cuts::cut_front` meets its contract. Assumes nothing.
+-- `cuts::zone::cut_front`: the core lent is the front of its slot (front-cut), and the rank of a cut is at most the core's (front-rank).
 use borrow.Author.Needs.{needs}
 use Rattle.cuts.proofs.Zoned.{sizes, front-rank, front-cut}
 use mathlib.Core.Path.{_∙_}

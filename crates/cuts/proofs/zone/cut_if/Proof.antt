@@ -1,4 +1,4 @@
--- `cuts::cut_if` meets its contract. Assumes nothing.
+-- `cuts::zone::cut_if`: by whether there is a bond to the right: the cut (if-cut), or the core as it is and no carry (if-last).
 use borrow.Author.Needs.{needs}
 use Rattle.cuts.proofs.Zoned.{if-cut, if-last}
 use mathlib.Core.Path.{_≡_, refl, ap}

@@ -1,4 +1,4 @@
--- `cuts::cut_in` meets its contract. Assumes nothing.
+-- `cuts::zone::cut_in`: refused, nothing is promised of the slots (cut-stopped); else both are cleared behind what the new rank uses (cut-laid).
 use borrow.Author.Needs.{needs}
 use Rattle.cuts.proofs.Zoned.{sizes, ranks, rank-within, carry-within, carry-fits, cut-laid, cut-stopped}
 use mathlib.Core.Path.{_≡_}

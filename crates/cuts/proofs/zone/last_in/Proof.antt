@@ -1,4 +1,4 @@
--- `cuts::last_in` meets its contract. Assumes nothing.
+-- `cuts::zone::last_in`: `clear_behind` leaves the slot as promised; the core's size fits a machine word (sizes).
 use borrow.Author.Needs.{needs}
 use Rattle.cuts.proofs.Zoned.{sizes}
 use Rattle.cuts.proofs.zone.last_in.Statement.{statement}

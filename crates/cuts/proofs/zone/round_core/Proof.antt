@@ -1,4 +1,4 @@
--- `cuts::round_core` meets its contract. Assumes nothing.
+-- `cuts::zone::round_core`: the carry is taken in or stops it (zone-stops), then the cut (zone-goes); of the carries only the zone's own part is written (part-same, part-anew).
 use borrow.Author.Needs.{needs}
 use Rattle.cuts.proofs.Zoned.{fewer-rows, zone-stops, zone-goes, part-long, part-same, part-read, part-anew}
 use mathlib.Core.Path.{_≡_, ap}

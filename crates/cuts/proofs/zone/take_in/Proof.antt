@@ -1,4 +1,4 @@
--- `cuts::take_in` meets its contract. Assumes nothing.
+-- `cuts::zone::take_in`: what was made in the room is copied to the front of the slot (taken-is).
 use borrow.Author.Needs.{needs}
 use Rattle.cuts.proofs.Zoned.{sizes, taken-is}
 use mathlib.Core.Path.{_∙_}

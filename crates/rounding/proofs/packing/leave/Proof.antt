@@ -1,4 +1,4 @@
--- `rounding::packing::leave` meets its contract. Assumes nothing.
+-- `rounding::packing::leave`: by the verdict: refused, the chain stays (left-stays); else it is what `pack` wrote, with the new sizes inside the old (left-packed).
 use borrow.Author.Needs.{needs}
 use native.Mathlib.Omega.{arith}
 use Rattle.shape.proofs.Insides.{inside-size}

@@ -1,4 +1,4 @@
--- `rounding::packing::pack` meets its contract. Assumes nothing.
+-- `rounding::packing::pack`: the invariant (Packing): k cores stand packed at the chain's front, and the next is read where its source begins.
 use Prim.Native.Nat.{_-_, _*_, _^_, _<_}
 use native.Mathlib.Omega.{arith}
 use mathlib.Core.Path.{ap, _∙_}

@@ -1,4 +1,4 @@
--- `run_checks::calls::fresh_ok` meets its contract. Assumes nothing.
+-- `run_checks::calls::fresh_ok`: check after check, one law for each return (shape-stops, lent-stops, scratch-stops, numbers-stop, fresh-fits).
 use borrow.Author.Needs.{needs}
 use native.Mathlib.Omega.{arith}
 use Rattle.answers.proofs.Checks.{verdict-passed}

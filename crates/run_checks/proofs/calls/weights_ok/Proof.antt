@@ -1,4 +1,4 @@
--- `run_checks::calls::weights_ok` meets its contract. Assumes nothing.
+-- `run_checks::calls::weights_ok`: check after check, one law for each return (found-stops, weights-wrong, weights-room, weights-fit); a run found right has its sizes (found-says).
 use borrow.Author.Needs.{needs}
 use Rattle.shape.proofs.Shaped.{shaped}
 use Rattle.runform.specs.Kept.{keptOf}
@@ -39,20 +39,26 @@ returns-2 c =
 
 entries-requires : tie.Need-entries-requires
 entries-requires c κs =
-    let i = c .before .before .before .before .before .before .before .before .before .before .before .before .before in
-    let f = found-says (keptOf (i .args .r) (i .args .source .now) (i .args .weights .now) (i .args .chain .now) (i .args .carries .now) (i .args .sums .now)) (i .args .z) _ (c .before .before .before .before .found-ok .ensures) (c .before .before .enum-told .given .1) in
+    let told = c .before .before in
+    let i = told .before .before .before .before .before .before .before .before .before .before .before in
+    let f = found-says (keptOf (i .args .r) (i .args .source .now) (i .args .weights .now) (i .args .chain .now) (i .args .carries .now) (i .args .sums .now))
+    (i .args .z) _ (told .before .before .found-ok .ensures) (told .enum-told .given .1) in
     shaped _ _ (f .1) .sizes
 
 mul-if2 : tie.Need-mul-if2
 mul-if2 c =
-    let i = c .before .before .before .before .before .before .before .before .before .before .before .before .before .before in
-    let f = found-says (keptOf (i .args .r) (i .args .source .now) (i .args .weights .now) (i .args .chain .now) (i .args .carries .now) (i .args .sums .now)) (i .args .z) _ (c .before .before .before .before .before .found-ok .ensures) (c .before .before .before .enum-told .given .1) in
+    let told = c .before .before .before in
+    let i = told .before .before .before .before .before .before .before .before .before .before .before in
+    let f = found-says (keptOf (i .args .r) (i .args .source .now) (i .args .weights .now) (i .args .chain .now) (i .args .carries .now) (i .args .sums .now))
+    (i .args .z) _ (told .before .before .found-ok .ensures) (told .enum-told .given .1) in
     record { fits = omega (arith, c .entries .ensures, entries-most _ (shaped _ _ (f .1) .sizes)) }
 
 add-if2 : tie.Need-add-if2
 add-if2 c =
-    let i = c .before .before .before .before .before .before .before .before .before .before .before .before .before .before in
-    let f = found-says (keptOf (i .args .r) (i .args .source .now) (i .args .weights .now) (i .args .chain .now) (i .args .carries .now) (i .args .sums .now)) (i .args .z) _ (c .before .before .before .before .before .found-ok .ensures) (c .before .before .before .enum-told .given .1) in
+    let told = c .before .before .before in
+    let i = told .before .before .before .before .before .before .before .before .before .before .before in
+    let f = found-says (keptOf (i .args .r) (i .args .source .now) (i .args .weights .now) (i .args .chain .now) (i .args .carries .now) (i .args .sums .now))
+    (i .args .z) _ (told .before .before .found-ok .ensures) (told .enum-told .given .1) in
     record { fits = omega (arith, c .entries .ensures, entries-most _ (shaped _ _ (f .1) .sizes)) }
 
 returns-3 : tie.Need-returns-3
@@ -64,8 +70,10 @@ returns-3 c =
 
 numbers-found-requires : tie.Need-numbers-found-requires
 numbers-found-requires c κs =
-    let i = c .before .before .before .before .before .before .before .before .before .before .before .before .before .before .before .before in
-    let f = found-says (keptOf (i .args .r) (i .args .source .now) (i .args .weights .now) (i .args .chain .now) (i .args .carries .now) (i .args .sums .now)) (i .args .z) _ (c .before .before .before .before .before .before .before .found-ok .ensures) (c .before .before .before .before .before .enum-told .given .1) in
+    let told = c .before .before .before .before .before in
+    let i = told .before .before .before .before .before .before .before .before .before .before .before in
+    let f = found-says (keptOf (i .args .r) (i .args .source .now) (i .args .weights .now) (i .args .chain .now) (i .args .carries .now) (i .args .sums .now))
+    (i .args .z) _ (told .before .before .found-ok .ensures) (told .enum-told .given .1) in
     ((f .0, f .1), f .2)
 
 returns-4 : tie.Need-returns-4

@@ -1,4 +1,4 @@
--- `run_checks::found::either` meets its contract. Assumes nothing.
+-- `run_checks::found::either`: the lesser of two first places is the first that fails either test (least-fails).
 use borrow.Author.Needs.{needs}
 use Prim.Native.Nat.{_-_}
 use Rattle.run_checks.proofs.Guards.{least-fails}

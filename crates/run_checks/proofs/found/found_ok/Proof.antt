@@ -1,4 +1,4 @@
--- `run_checks::found::found_ok` meets its contract. Assumes nothing.
+-- `run_checks::found::found_ok`: check after check, each stops or is passed over (sized); a shape that passed gives the sizes that the lengths ask (fits-sizes).
 use borrow.Author.Needs.{needs}
 use Prim.Native.Nat.{_-_}
 use Rattle.run_checks.proofs.Guards.{sized}

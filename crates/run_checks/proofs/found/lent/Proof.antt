@@ -1,4 +1,4 @@
--- `run_checks::found::lent` meets its contract. Assumes nothing.
+-- `run_checks::found::lent`: length after length, each stops or is passed over (sized).
 use borrow.Author.Needs.{needs}
 use Rattle.run_checks.proofs.Guards.{sized}
 use Rattle.runform.specs.Checks.{lentFrom}

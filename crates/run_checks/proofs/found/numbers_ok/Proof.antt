@@ -1,4 +1,4 @@
--- `run_checks::found::numbers_ok` meets its contract. Assumes nothing.
+-- `run_checks::found::numbers_ok`: one law for each return (numbers-found).
 use borrow.Author.Needs.{needs}
 use Prim.Native.Nat.{_-_}
 use Rattle.run_checks.proofs.Guards.{numbers-found}

@@ -1,4 +1,4 @@
--- `run_checks::found::part_place` meets its contract. Assumes nothing.
+-- `run_checks::found::part_place`: the test fails at z alone, or nowhere (part-fails, part-passes).
 use borrow.Author.Needs.{needs}
 use mathlib.Core.Path.{_≡_}
 use mathlib.Core.Bool.{true, false}

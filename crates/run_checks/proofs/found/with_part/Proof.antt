@@ -1,4 +1,4 @@
--- `run_checks::found::with_part` meets its contract. Assumes nothing.
+-- `run_checks::found::with_part`: the lesser of two first places is the first that fails either test (least-fails).
 use borrow.Author.Needs.{needs}
 use mathlib.Core.Bool.{true}
 use lib.Dec.{eqb}

@@ -1,4 +1,4 @@
--- `run_checks::new_axis::axis_ok` meets its contract. Assumes nothing.
+-- `run_checks::new_axis::axis_ok`: check after check, one law for each return (found-stops, axis-room, axis-stops, axis-fits); a run found right has its sizes (found-says).
 use borrow.Author.Needs.{needs}
 use Rattle.shape.proofs.Shaped.{shaped}
 use Rattle.runform.specs.Kept.{keptOf}
@@ -26,14 +26,18 @@ entries-requires c κs =
 
 mul-if1 : tie.Need-mul-if1
 mul-if1 c =
-    let i = c .before .before .before .before .before .before .before .before .before .before .before in
-    let f = found-says (keptOf (i .args .r) (i .args .source .now) (i .args .weights .now) (i .args .chain .now) (i .args .carries .now) (i .args .sums .now)) (i .args .z) _ (c .before .before .before .found-ok .ensures) (c .before .enum-told .given .1) in
+    let told = c .before in
+    let i = told .before .before .before .before .before .before .before .before .before .before in
+    let f = found-says (keptOf (i .args .r) (i .args .source .now) (i .args .weights .now) (i .args .chain .now) (i .args .carries .now) (i .args .sums .now))
+    (i .args .z) _ (told .before .before .found-ok .ensures) (told .enum-told .given .1) in
     record { fits = omega (arith, c .entries .ensures, entries-most _ (shaped _ _ (f .1) .sizes)) }
 
 add-if1 : tie.Need-add-if1
 add-if1 c =
-    let i = c .before .before .before .before .before .before .before .before .before .before .before in
-    let f = found-says (keptOf (i .args .r) (i .args .source .now) (i .args .weights .now) (i .args .chain .now) (i .args .carries .now) (i .args .sums .now)) (i .args .z) _ (c .before .before .before .found-ok .ensures) (c .before .enum-told .given .1) in
+    let told = c .before in
+    let i = told .before .before .before .before .before .before .before .before .before .before in
+    let f = found-says (keptOf (i .args .r) (i .args .source .now) (i .args .weights .now) (i .args .chain .now) (i .args .carries .now) (i .args .sums .now))
+    (i .args .z) _ (told .before .before .found-ok .ensures) (told .enum-told .given .1) in
     record { fits = omega (arith, c .entries .ensures, entries-most _ (shaped _ _ (f .1) .sizes)) }
 
 returns-2 : tie.Need-returns-2
@@ -45,8 +49,10 @@ returns-2 c =
 
 numbers-found-requires : tie.Need-numbers-found-requires
 numbers-found-requires c κs =
-    let i = c .before .before .before .before .before .before .before .before .before .before .before .before .before .before in
-    let f = found-says (keptOf (i .args .r) (i .args .source .now) (i .args .weights .now) (i .args .chain .now) (i .args .carries .now) (i .args .sums .now)) (i .args .z) _ (c .before .before .before .before .before .before .found-ok .ensures) (c .before .before .before .before .enum-told .given .1) in
+    let told = c .before .before .before .before in
+    let i = told .before .before .before .before .before .before .before .before .before .before in
+    let f = found-says (keptOf (i .args .r) (i .args .source .now) (i .args .weights .now) (i .args .chain .now) (i .args .carries .now) (i .args .sums .now))
+    (i .args .z) _ (told .before .before .found-ok .ensures) (told .enum-told .given .1) in
     ((f .0, f .1), f .2)
 
 returns-3 : tie.Need-returns-3
@@ -61,20 +67,26 @@ returns-3 c =
 
 mul-xs : tie.Need-mul-xs
 mul-xs c =
-    let i = c .before .before .before .before .before .before .before .before .before .before .before .before .before .before .before .before .before .before .before in
-    let f = found-says (keptOf (i .args .r) (i .args .source .now) (i .args .weights .now) (i .args .chain .now) (i .args .carries .now) (i .args .sums .now)) (i .args .z) _ (c .before .before .before .before .before .before .before .before .before .before .before .found-ok .ensures) (c .before .before .before .before .before .before .before .before .before .enum-told .given .1) in
+    let told = c .before .before .before .before .before .before .before .before .before in
+    let i = told .before .before .before .before .before .before .before .before .before .before in
+    let f = found-says (keptOf (i .args .r) (i .args .source .now) (i .args .weights .now) (i .args .chain .now) (i .args .carries .now) (i .args .sums .now))
+    (i .args .z) _ (told .before .before .found-ok .ensures) (told .enum-told .given .1) in
     record { fits = omega (arith, f .0, shaped _ _ (f .1) .most) }
 
 array-set-from-xs : tie.Need-array-set-from-xs
 array-set-from-xs c =
-    let i = c .before .before .before .before .before .before .before .before .before .before .before .before .before .before .before .before .before .before .before in
-    let f = found-says (keptOf (i .args .r) (i .args .source .now) (i .args .weights .now) (i .args .chain .now) (i .args .carries .now) (i .args .sums .now)) (i .args .z) _ (c .before .before .before .before .before .before .before .before .before .before .before .found-ok .ensures) (c .before .before .before .before .before .before .before .before .before .enum-told .given .1) in
+    let told = c .before .before .before .before .before .before .before .before .before in
+    let i = told .before .before .before .before .before .before .before .before .before .before in
+    let f = found-says (keptOf (i .args .r) (i .args .source .now) (i .args .weights .now) (i .args .chain .now) (i .args .carries .now) (i .args .sums .now))
+    (i .args .z) _ (told .before .before .found-ok .ensures) (told .enum-told .given .1) in
     omega (arith, f .0, shaped _ _ (f .1) .most)
 
 reaches-ok-requires : tie.Need-reaches-ok-requires
 reaches-ok-requires c κs =
-    let i = c .before .before .before .before .before .before .before .before .before .before .before .before .before .before .before .before .before .before .before in
-    let f = found-says (keptOf (i .args .r) (i .args .source .now) (i .args .weights .now) (i .args .chain .now) (i .args .carries .now) (i .args .sums .now)) (i .args .z) _ (c .before .before .before .before .before .before .before .before .before .before .before .found-ok .ensures) (c .before .before .before .before .before .before .before .before .before .enum-told .given .1) in
+    let told = c .before .before .before .before .before .before .before .before .before in
+    let i = told .before .before .before .before .before .before .before .before .before .before in
+    let f = found-says (keptOf (i .args .r) (i .args .source .now) (i .args .weights .now) (i .args .chain .now) (i .args .carries .now) (i .args .sums .now))
+    (i .args .z) _ (told .before .before .found-ok .ensures) (told .enum-told .given .1) in
     (shaped _ _ (f .1) .sizes .axes, omega (arith, f .0))
 
 returns-4 : tie.Need-returns-4

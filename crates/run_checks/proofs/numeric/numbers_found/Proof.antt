@@ -1,4 +1,4 @@
--- `run_checks::numeric::numbers_found` meets its contract. Assumes nothing.
+-- `run_checks::numeric::numbers_found`: the first zones that fail, with the new part's put in (with_part), make the verdict (numbers-are).
 use borrow.Author.Needs.{needs}
 use Rattle.run_checks.proofs.Asks.{numbers-are}
 use Rattle.shape.proofs.Shaped.{shaped}

@@ -1,4 +1,4 @@
--- `run_checks::numeric::numbers_made` meets its contract. Assumes nothing.
+-- `run_checks::numeric::numbers_made`: the first zones that fail make the verdict (made-are).
 use borrow.Author.Needs.{needs}
 use Rattle.run_checks.proofs.Asks.{made-are}
 use Rattle.run_checks.proofs.numeric.numbers_made.Statement.{statement}

@@ -1,4 +1,4 @@
--- `run_checks::ranks::kept_shape` meets its contract. Assumes nothing.
+-- `run_checks::ranks::kept_shape`: the invariant (Ranked): the cores before k have their kept ranks (ranked-none, ranked-more, ranked-all).
 use borrow.Author.Needs.{needs}
 use Rattle.run_checks.proofs.Bonded.{ranked-none, ranked-more, ranked-all}
 use Prim.Native.Nat.{_-_, _≤_}

@@ -1,4 +1,4 @@
--- `run_checks::ranks::left_rank` meets its contract. Assumes nothing.
+-- `run_checks::ranks::left_rank`: core 0 has rank 1 on its left (left-first), any other the kept rank of the bond before (left-next).
 use borrow.Author.Needs.{needs}
 use Rattle.run_checks.proofs.Bonded.{left-first, left-next}
 use Prim.Native.Nat.{_-_}

@@ -1,4 +1,4 @@
--- `run_checks::ranks::rank_ok` meets its contract. Assumes nothing.
+-- `run_checks::ranks::rank_ok`: by whether core k has a next one, as the definition asks (rank-bond, rank-end).
 use borrow.Author.Needs.{needs}
 use Rattle.run_checks.proofs.Bonded.{rank-bond, rank-end}
 use Prim.Native.Nat.{_-_}

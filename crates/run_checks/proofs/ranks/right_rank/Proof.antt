@@ -1,4 +1,4 @@
--- `run_checks::ranks::right_rank` meets its contract. Assumes nothing.
+-- `run_checks::ranks::right_rank`: by whether core k has a next one, as the definition asks (right-bond, right-end).
 use borrow.Author.Needs.{needs}
 use Rattle.run_checks.proofs.Bonded.{right-bond, right-end}
 use Prim.Native.Nat.{_-_}

@@ -1,4 +1,4 @@
--- `run_checks::ranks::shape_ok` meets its contract. Assumes nothing.
+-- `run_checks::ranks::shape_ok`: one law for each return, those of a chain's check with one test more of each bond (verdicts).
 use borrow.Author.Needs.{needs}
 use Rattle.shape.proofs.Verdicts.{verdicts}
 use Rattle.run_checks.proofs.ranks.shape_ok.Statement.{statement}

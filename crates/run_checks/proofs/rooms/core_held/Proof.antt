@@ -1,4 +1,4 @@
--- `run_checks::rooms::core_held` meets its contract. Assumes nothing.
+-- `run_checks::rooms::core_held`: kept ranks are at most the source's, so the used room lies within the core's slot (core-room, core-found).
 use borrow.Author.Needs.{needs}
 use Rattle.run_checks.proofs.Fronts.{core-part-fits, core-used-fits, core-room, core-found}
 use Prim.Native.Nat.{_-_}

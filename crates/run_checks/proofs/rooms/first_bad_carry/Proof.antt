@@ -1,4 +1,4 @@
--- `run_checks::rooms::first_bad_carry` meets its contract. Assumes nothing.
+-- `run_checks::rooms::first_bad_carry`: the invariant: all carries before bond k passed; the first that does not is found (passing).
 use borrow.Author.Needs.{needs}
 use Rattle.lists.proofs.Demands.{Passed, passing}
 use Prim.Native.Nat.{_-_, _≤_}

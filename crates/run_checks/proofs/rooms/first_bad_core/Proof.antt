@@ -1,4 +1,4 @@
--- `run_checks::rooms::first_bad_core` meets its contract. Assumes nothing.
+-- `run_checks::rooms::first_bad_core`: the invariant: all cores before k passed; the first that does not is found (passing).
 use borrow.Author.Needs.{needs}
 use Rattle.lists.proofs.Demands.{Passed, passing}
 use Prim.Native.Nat.{_-_, _≤_}

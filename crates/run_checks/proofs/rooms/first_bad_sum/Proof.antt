@@ -1,4 +1,4 @@
--- `run_checks::rooms::first_bad_sum` meets its contract. Assumes nothing.
+-- `run_checks::rooms::first_bad_sum`: the invariant: all sums before axis k passed; the first that do not are found (passing).
 use borrow.Author.Needs.{needs}
 use Rattle.lists.proofs.Demands.{Passed, passing}
 use Prim.Native.Nat.{_-_, _≤_}

@@ -1,4 +1,4 @@
--- `run_checks::rooms::front_finite` meets its contract. Assumes nothing.
+-- `run_checks::rooms::front_finite`: the part lent is the front asked about (front-found).
 use borrow.Author.Needs.{needs}
 use Rattle.run_checks.proofs.Fronts.{front-found}
 use Prim.Native.Nat.{_-_}

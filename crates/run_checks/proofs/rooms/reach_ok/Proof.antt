@@ -1,4 +1,4 @@
--- `run_checks::rooms::reach_ok` meets its contract. Assumes nothing.
+-- `run_checks::rooms::reach_ok`: a zone before z is not asked (reach-before); from z on its axis is (reach-found).
 use borrow.Author.Needs.{needs}
 use Rattle.run_checks.proofs.Fronts.{reach-before, reach-found}
 use Prim.Native.Nat.{_-_}

@@ -1,4 +1,4 @@
--- `run_checks::rooms::reaches_ok` meets its contract. Assumes nothing.
+-- `run_checks::rooms::reaches_ok`: the first axis too far, or none, is the verdict of the check from z on (far-wrong, far-right).
 use borrow.Author.Needs.{needs}
 use Rattle.run_checks.proofs.Fronts.{far-wrong, far-right}
 use Prim.Native.Nat.{_-_}

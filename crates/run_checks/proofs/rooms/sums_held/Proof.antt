@@ -1,4 +1,4 @@
--- `run_checks::rooms::sums_held` meets its contract. Assumes nothing.
+-- `run_checks::rooms::sums_held`: as many sums as the kept right rank lie within their slot (sums-room, sums-found).
 use borrow.Author.Needs.{needs}
 use Rattle.run_checks.proofs.Fronts.{sums-room, sums-found}
 use Prim.Native.Nat.{_-_}

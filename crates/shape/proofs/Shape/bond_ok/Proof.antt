@@ -1,4 +1,4 @@
--- `shape::Shape::bond_ok` meets its contract. Assumes nothing.
+-- `shape::Shape::bond_ok`: by whether core k has a next one, as the definition asks.
 use native.Mathlib.Numerals.{add-one}
 use borrow.Author.Needs.{needs}
 use borrow.Author.Tests.{lt-ltb, le-ltb}

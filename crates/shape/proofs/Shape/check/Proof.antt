@@ -1,4 +1,4 @@
--- `shape::Shape::check` meets its contract. Assumes nothing.
+-- `shape::Shape::check`: one law for each return (verdicts); a chain asks nothing of its bonds but that they join (bond-alone).
 use borrow.Author.Needs.{needs}
 use Rattle.shape.proofs.Verdicts.{verdicts, bond-alone}
 use Rattle.shape.proofs.Shape.check.Statement.{statement}

@@ -1,4 +1,4 @@
--- `shape::Shape::core_size` meets its contract. Assumes nothing.
+-- `shape::Shape::core_size`: the code is the definition; the sizes' limits keep both products small (offsets).
 use borrow.Author.Needs.{needs}
 use mathlib.Core.Path.{refl}
 use Rattle.shape.specs.Shapes.{coreSize}

@@ -1,4 +1,4 @@
--- `shape::Shape::first_bad_bond` meets its contract. Assumes nothing.
+-- `shape::Shape::first_bad_bond`: the invariant: all bonds before k passed; the first that does not is found (passing).
 use Prim.Native.Nat.{_≤_, _-_}
 use borrow.Author.Needs.{needs}
 use Rattle.lists.proofs.Demands.{Passed, passing}

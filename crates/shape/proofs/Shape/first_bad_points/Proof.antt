@@ -1,4 +1,4 @@
--- `shape::Shape::first_bad_points` meets its contract. Assumes nothing.
+-- `shape::Shape::first_bad_points`: the invariant: all axes before k passed; the first that does not is found (passing).
 use Prim.Native.Nat.{ℕ, _≤_, _-_}
 use borrow.Author.Needs.{needs}
 use Rattle.lists.proofs.Demands.{Passed, passing}

@@ -1,4 +1,4 @@
--- `shape::Shape::first_not_finite_axis` meets its contract. Assumes nothing.
+-- `shape::Shape::first_not_finite_axis`: the invariant: axis k starts at `start`, and all axes before it are finite (slotwise, passing).
 use Prim.Native.Nat.{ℕ, _≤_, _-_}
 use mathlib.Core.Path.{_≡_}
 use borrow.Author.Needs.{needs}

@@ -1,4 +1,4 @@
--- `shape::Shape::first_not_finite_core` meets its contract. Assumes nothing.
+-- `shape::Shape::first_not_finite_core`: the invariant: core k starts at `start`, and all cores before it are finite (slotwise, passing).
 use Prim.Native.Nat.{ℕ, _≤_, _-_}
 use mathlib.Core.Path.{_≡_}
 use borrow.Author.Needs.{needs}

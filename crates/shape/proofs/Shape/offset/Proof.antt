@@ -1,4 +1,4 @@
--- `shape::Shape::offset` meets its contract. Assumes nothing.
+-- `shape::Shape::offset`: the invariant: the total is where core j starts (offsets).
 use Prim.Native.Nat.{_≤_, _-_}
 use mathlib.Core.Path.{_≡_}
 use borrow.Author.Needs.{needs}

@@ -1,4 +1,4 @@
--- `shape::Shape::points_offset` meets its contract. Assumes nothing.
+-- `shape::Shape::points_offset`: the invariant: the total is where axis j starts (offsets).
 use Prim.Native.Nat.{_≤_, _-_}
 use mathlib.Core.Path.{_≡_}
 use borrow.Author.Needs.{needs}

@@ -1,4 +1,4 @@
--- `shape::Shape::size_ok` meets its contract. Assumes nothing.
+-- `shape::Shape::size_ok`: three sizes, each asked by `within`: the definition, unfolded.
 use borrow.Author.Needs.{needs}
 use Rattle.shape.specs.Shapes.{sizeOk}
 use Rattle.shape.proofs.Shape.size_ok.Statement.{statement}
