@@ -4,9 +4,18 @@ ghost use mathlib.Core.Path.{_≡_};
 ghost use Prim.Native.Nat.{_≤_};
 ghost use lib.ListN.{length};
 ghost use Rattle.answers.specs.Outcome.{verdictOf};
+ghost use Rattle.shape.specs.Limits.{scratchFor};
 ghost use Rattle.shape.specs.Shapes.{entriesOf};
 ghost use Rattle.shape.specs.Sizes.{SizesWithin};
 ghost use Rattle.cutform.specs.Asked.{lengthsOk, notBelowZero, cuttingFinite, cuttingOk, roundFinite, roundOk};
+
+// Scratch for a chain of this shape.
+pub fn scratch_of(s: shape::Shape) -> usize
+    requires { ⌜ SizesWithin s ⌝ }
+    ensures { λ r. ⌜ r ≡ scratchFor (entriesOf s) ⌝ }
+{
+    shape::scratch_for(s.entries())
+}
 
 // Refusal 5: the chain is slice i, scratch slice j.
 pub fn lengths_ok(

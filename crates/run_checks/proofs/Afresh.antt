@@ -66,18 +66,18 @@ module _ (i : Inputs) (c k u n : ℕ) where
       pub lent-stops : (r : Refusal) → w ≡ Refused r → Refused r ≡ verdictOf Fresh
       lent-stops r g = past (Refused r) (then-stops Lent (scratchLent s 5 n then numbers) w f r g)
 
-      module _ (g : w ≡ Fits) (m : ℕ) (o : m ≡ entriesOf s) where
+      module _ (g : w ≡ Fits) (m : ℕ) (o : m ≡ scratchFor (entriesOf s)) where
         further : (x : Verdict) → x ≡ verdictOf (scratchLent s 5 n then numbers) → x ≡ verdictOf Fresh
         further x p = past x (then-passes Lent (scratchLent s 5 n then numbers) w f x g p)
 
-        pub scratch-stops : (n ≡ scratchFor m → ⊥) → Refused (Length 5) ≡ verdictOf Fresh
+        pub scratch-stops : (n ≡ m → ⊥) → Refused (Length 5) ≡ verdictOf Fresh
         unfolding scratchLent
-        scratch-stops q = further (Refused (Length 5)) (size-stops numbers (Length 5) n (scratchFor (entriesOf s)) (scratchFor m) (ap scratchFor o) q)
+        scratch-stops q = further (Refused (Length 5)) (size-stops numbers (Length 5) n (scratchFor (entriesOf s)) m o q)
 
-        module _ (q : n ≡ scratchFor m) (y : Verdict) (p : y ≡ verdictOf (madeOk i)) where
+        module _ (q : n ≡ m) (y : Verdict) (p : y ≡ verdictOf (madeOk i)) where
           onward : (x : Verdict) → x ≡ verdictOf numbers → x ≡ verdictOf Fresh
           unfolding scratchLent
-          onward x a = further x (size-passes numbers (Length 5) n (scratchFor (entriesOf s)) (scratchFor m) (ap scratchFor o) q x a)
+          onward x a = further x (size-passes numbers (Length 5) n (scratchFor (entriesOf s)) m o q x a)
 
           pub numbers-stop : (r : Refusal) → y ≡ Refused r → Refused r ≡ verdictOf Fresh
           numbers-stop r a = onward (Refused r) (then-stops (madeOk i) shifts y p r a)

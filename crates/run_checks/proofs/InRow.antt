@@ -83,19 +83,19 @@ module _ (R : Rules) (k : Kept) (z : ℕ) (ws : List Float) where
     unfolding pointSize
     weights-wrong f = found-goes R (scratchLent (k .inputs .shape) 6 n) k (newWeights z ws) v e h (Refused (Length 5)) (size-stops later (Length 5) (length ws) (pointSize (k .inputs .shape) z) (pointsOf (k .inputs .shape) z) refl f)
 
-    module _ (f : length ws ≡ pointsOf (k .inputs .shape) z) (m : ℕ) (g : m ≡ entriesOf (k .inputs .shape)) where
+    module _ (f : length ws ≡ pointsOf (k .inputs .shape) z) (m : ℕ) (g : m ≡ scratchFor (entriesOf (k .inputs .shape))) where
       go : (w : Verdict) → w ≡ verdictOf later → w ≡ verdictOf Asks
       unfolding pointSize
       go w o = found-goes R (scratchLent (k .inputs .shape) 6 n) k (newWeights z ws) v e h w (size-passes later (Length 5) (length ws) (pointSize (k .inputs .shape) z) (pointsOf (k .inputs .shape) z) refl f w o)
 
-      pub weights-room : (n ≡ scratchFor m → ⊥) → Refused (Length 6) ≡ verdictOf Asks
+      pub weights-room : (n ≡ m → ⊥) → Refused (Length 6) ≡ verdictOf Asks
       unfolding scratchLent
-      weights-room o = go (Refused (Length 6)) (size-stops (numbersOk R k (newWeights z ws)) (Length 6) n (scratchFor (entriesOf (k .inputs .shape))) (scratchFor m) (ap scratchFor g) o)
+      weights-room o = go (Refused (Length 6)) (size-stops (numbersOk R k (newWeights z ws)) (Length 6) n (scratchFor (entriesOf (k .inputs .shape))) m g o)
 
-      pub weights-fit : n ≡ scratchFor m → (part : Bool) → part ≡ allFinite ws → (w : Verdict) → w ≡ verdictOf (foundNumbers k z part true) → w ≡ verdictOf Asks
+      pub weights-fit : n ≡ m → (part : Bool) → part ≡ allFinite ws → (w : Verdict) → w ≡ verdictOf (foundNumbers k z part true) → w ≡ verdictOf Asks
       unfolding scratchLent
       weights-fit o part p w y =
-          go w (size-passes (numbersOk R k (newWeights z ws)) (Length 6) n (scratchFor (entriesOf (k .inputs .shape))) (scratchFor m) (ap scratchFor g) o w
+          go w (size-passes (numbersOk R k (newWeights z ws)) (Length 6) n (scratchFor (entriesOf (k .inputs .shape))) m g o w
           (y ∙ ap (λ (b : Bool). verdictOf (foundNumbers k z b true)) p ∙ ap verdictOf (sym weights-numbers)))
 
 -- ---- a new core
@@ -113,19 +113,19 @@ module _ (k : Kept) (z : ℕ) (xs : List Float) where
     pub core-wrong : (length xs ≡ l → ⊥) → Refused (Length 5) ≡ verdictOf CoreAsks
     core-wrong f = found-goes rules (scratchLent (k .inputs .shape) 6 n) k (newCore z xs) v e h (Refused (Length 5)) (size-stops behind (Length 5) (length xs) (coreSize (k .inputs .shape) z) l sz f)
 
-    module _ (f : length xs ≡ l) (m : ℕ) (g : m ≡ entriesOf (k .inputs .shape)) where
+    module _ (f : length xs ≡ l) (m : ℕ) (g : m ≡ scratchFor (entriesOf (k .inputs .shape))) where
       past : (w : Verdict) → w ≡ verdictOf behind → w ≡ verdictOf CoreAsks
       past w o = found-goes rules (scratchLent (k .inputs .shape) 6 n) k (newCore z xs) v e h w (size-passes behind (Length 5) (length xs) (coreSize (k .inputs .shape) z) l sz f w o)
 
-      pub core-room : (n ≡ scratchFor m → ⊥) → Refused (Length 6) ≡ verdictOf CoreAsks
+      pub core-room : (n ≡ m → ⊥) → Refused (Length 6) ≡ verdictOf CoreAsks
       unfolding scratchLent
-      core-room o = past (Refused (Length 6)) (size-stops (numbersOk rules k (newCore z xs)) (Length 6) n (scratchFor (entriesOf (k .inputs .shape))) (scratchFor m) (ap scratchFor g) o)
+      core-room o = past (Refused (Length 6)) (size-stops (numbersOk rules k (newCore z xs)) (Length 6) n (scratchFor (entriesOf (k .inputs .shape))) m g o)
 
-      module _ (o : n ≡ scratchFor m) (part : Bool) (p : part ≡ allFinite xs) (u : Verdict) (y : u ≡ verdictOf (foundNumbers k z part true)) where
+      module _ (o : n ≡ m) (part : Bool) (p : part ≡ allFinite xs) (u : Verdict) (y : u ≡ verdictOf (foundNumbers k z part true)) where
         onward : (w : Verdict) → w ≡ verdictOf (foundNumbers k z (allFinite xs) true then shifts) → w ≡ verdictOf CoreAsks
         unfolding scratchLent numbersOk
         onward w i =
-            past w (size-passes (numbersOk rules k (newCore z xs)) (Length 6) n (scratchFor (entriesOf (k .inputs .shape))) (scratchFor m) (ap scratchFor g) o w i)
+            past w (size-passes (numbersOk rules k (newCore z xs)) (Length 6) n (scratchFor (entriesOf (k .inputs .shape))) m g o w i)
 
         told : u ≡ verdictOf (foundNumbers k z (allFinite xs) true)
         told = y ∙ ap (λ (b : Bool). verdictOf (foundNumbers k z b true)) p
@@ -141,7 +141,7 @@ module _ (k : Kept) (z : ℕ) (x : Axis) where
   abbrev newShifts : Check
   newShifts = demandEach Reach (axisReaches (k .inputs .set) (k .inputs .shape) (set (k .inputs .axes) z x)) (k .inputs .shape .d - z) z
 
-  module _ (n : ℕ) (v : Verdict) (e : v ≡ verdictOf (foundAs k z)) (h : v ≡ Fits) (m : ℕ) (g : m ≡ entriesOf (k .inputs .shape)) where
+  module _ (n : ℕ) (v : Verdict) (e : v ≡ verdictOf (foundAs k z)) (h : v ≡ Fits) (m : ℕ) (g : m ≡ scratchFor (entriesOf (k .inputs .shape))) where
     abbrev AxisAsks : Check
     AxisAsks = replaceOk rules (scratchLent (k .inputs .shape) 5 n) k (newAxis z x)
 
@@ -149,15 +149,15 @@ module _ (k : Kept) (z : ℕ) (x : Axis) where
     unfolding demand
     beyond w o = found-goes rules (scratchLent (k .inputs .shape) 5 n) k (newAxis z x) v e h w o
 
-    pub axis-room : (n ≡ scratchFor m → ⊥) → Refused (Length 5) ≡ verdictOf AxisAsks
+    pub axis-room : (n ≡ m → ⊥) → Refused (Length 5) ≡ verdictOf AxisAsks
     unfolding scratchLent
-    axis-room o = beyond (Refused (Length 5)) (size-stops (numbersOk rules k (newAxis z x)) (Length 5) n (scratchFor (entriesOf (k .inputs .shape))) (scratchFor m) (ap scratchFor g) o)
+    axis-room o = beyond (Refused (Length 5)) (size-stops (numbersOk rules k (newAxis z x)) (Length 5) n (scratchFor (entriesOf (k .inputs .shape))) m g o)
 
-    module _ (o : n ≡ scratchFor m) (part mild : Bool) (p : part ≡ axisFinite x) (q : mild ≡ axisOk x) (u : Verdict) (y : u ≡ verdictOf (foundNumbers k z part mild)) where
+    module _ (o : n ≡ m) (part mild : Bool) (p : part ≡ axisFinite x) (q : mild ≡ axisOk x) (u : Verdict) (y : u ≡ verdictOf (foundNumbers k z part mild)) where
       further : (w : Verdict) → w ≡ verdictOf (foundNumbers k z (axisFinite x) (axisOk x) then newShifts) → w ≡ verdictOf AxisAsks
       unfolding scratchLent numbersOk
       further w i =
-          beyond w (size-passes (numbersOk rules k (newAxis z x)) (Length 5) n (scratchFor (entriesOf (k .inputs .shape))) (scratchFor m) (ap scratchFor g) o w i)
+          beyond w (size-passes (numbersOk rules k (newAxis z x)) (Length 5) n (scratchFor (entriesOf (k .inputs .shape))) m g o w i)
 
       heard : u ≡ verdictOf (foundNumbers k z (axisFinite x) (axisOk x))
       heard = y ∙ ap (λ (b : Bool). verdictOf (foundNumbers k z b mild)) p ∙ ap (λ (b : Bool). verdictOf (foundNumbers k z (axisFinite x) b)) q

@@ -37,7 +37,7 @@ pub fn fresh_ok(
     if let answers::Verdict::Refused(q) = lent {
         return answers::Verdict::Refused(q);
     }
-    if scratch != shape::SCRATCH_TIMES * s.entries() + shape::SCRATCH_BESIDE {
+    if scratch != checks::scratch_of(s) {
         return answers::Verdict::Refused(answers::Refusal::Length(5));
     }
     let numbers = crate::numeric::numbers_made(s, xs, set, source, weights);
@@ -79,7 +79,7 @@ pub fn weights_ok(
     if part.len() != s.n[z] {
         return answers::Verdict::Refused(answers::Refusal::Length(5));
     }
-    if scratch != shape::SCRATCH_TIMES * s.entries() + shape::SCRATCH_BESIDE {
+    if scratch != checks::scratch_of(s) {
         return answers::Verdict::Refused(answers::Refusal::Length(6));
     }
     let finite = lists::all_finite(part);
@@ -118,7 +118,7 @@ pub fn core_ok(
     if part.len() != s.core_size(z) {
         return answers::Verdict::Refused(answers::Refusal::Length(5));
     }
-    if scratch != shape::SCRATCH_TIMES * s.entries() + shape::SCRATCH_BESIDE {
+    if scratch != checks::scratch_of(s) {
         return answers::Verdict::Refused(answers::Refusal::Length(6));
     }
     let finite = lists::all_finite(part);

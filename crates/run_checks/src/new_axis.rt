@@ -34,7 +34,7 @@ pub fn axis_ok(
     if let answers::Verdict::Refused(q) = found {
         return answers::Verdict::Refused(q);
     }
-    if scratch != shape::SCRATCH_TIMES * s.entries() + shape::SCRATCH_BESIDE {
+    if scratch != checks::scratch_of(s) {
         return answers::Verdict::Refused(answers::Refusal::Length(5));
     }
     let finite = axes::axis_finite(a);

@@ -7,7 +7,6 @@ use Rattle.stepform.specs.Zones.{rules}
 use Rattle.runform.specs.Requests.{newCore}
 use Rattle.runform.specs.Checks.{scratchLent}
 use native.Mathlib.Omega.{arith}
-use Rattle.shape.proofs.Offsets.{entries-most}
 use Rattle.run_checks.proofs.calls.core_ok.Statement.{statement}
 use Rattle.run_checks.proofs.calls.core_ok.Tie as tie
 
@@ -31,29 +30,13 @@ returns-2 c =
     (i .args .z) (i .args .part .now) (i .args .scratch) _ (c .before .before .before .before .found-ok .ensures) (c .before .before .enum-told .given .1) _
     (c .before .core-size .ensures) (c .if1 .taken)
 
-entries-requires : tie.Need-entries-requires
-entries-requires c κs =
+scratch-of-requires : tie.Need-scratch-of-requires
+scratch-of-requires c κs =
     let told = c .before .before in
     let i = told .before .before .before .before .before .before .before .before .before .before .before in
     let f = found-says (keptOf (i .args .r) (i .args .source .now) (i .args .weights .now) (i .args .chain .now) (i .args .carries .now) (i .args .sums .now))
     (i .args .z) _ (told .before .before .found-ok .ensures) (told .enum-told .given .1) in
     shaped _ _ (f .1) .sizes
-
-mul-if2 : tie.Need-mul-if2
-mul-if2 c =
-    let told = c .before .before .before in
-    let i = told .before .before .before .before .before .before .before .before .before .before .before in
-    let f = found-says (keptOf (i .args .r) (i .args .source .now) (i .args .weights .now) (i .args .chain .now) (i .args .carries .now) (i .args .sums .now))
-    (i .args .z) _ (told .before .before .found-ok .ensures) (told .enum-told .given .1) in
-    record { fits = omega (arith, c .entries .ensures, entries-most _ (shaped _ _ (f .1) .sizes)) }
-
-add-if2 : tie.Need-add-if2
-add-if2 c =
-    let told = c .before .before .before in
-    let i = told .before .before .before .before .before .before .before .before .before .before .before in
-    let f = found-says (keptOf (i .args .r) (i .args .source .now) (i .args .weights .now) (i .args .chain .now) (i .args .carries .now) (i .args .sums .now))
-    (i .args .z) _ (told .before .before .found-ok .ensures) (told .enum-told .given .1) in
-    record { fits = omega (arith, c .entries .ensures, entries-most _ (shaped _ _ (f .1) .sizes)) }
 
 returns-3 : tie.Need-returns-3
 returns-3 c =
@@ -61,7 +44,7 @@ returns-3 c =
     core-room (keptOf (i .args .r) (i .args .source .now) (i .args .weights .now) (i .args .chain .now) (i .args .carries .now) (i .args .sums .now))
     (i .args .z) (i .args .part .now) (i .args .scratch) _ (c .before .before .before .before .before .before .found-ok .ensures)
     (c .before .before .before .before .enum-told .given .1) _ (c .before .before .before .core-size .ensures) (c .before .before .if1 .left) _
-    (c .before .entries .ensures) (c .if2 .taken)
+    (c .before .scratch-of .ensures) (c .if2 .taken)
 
 numbers-found-requires : tie.Need-numbers-found-requires
 numbers-found-requires c κs =
@@ -79,7 +62,7 @@ returns-4 c =
     (c .before .before .before .before .before .before .before .before .before .before .before .found-ok .ensures)
     (c .before .before .before .before .before .before .before .before .before .enum-told .given .1) _
     (c .before .before .before .before .before .before .before .before .core-size .ensures)
-    (c .before .before .before .before .before .before .before .if1 .left) _ (c .before .before .before .before .before .before .entries .ensures)
+    (c .before .before .before .before .before .before .before .if1 .left) _ (c .before .before .before .before .before .before .scratch-of .ensures)
     (c .before .before .before .before .before .if2 .left) _ (c .before .before .before .before .all-finite .ensures) _
     (c .before .before .before .numbers-found .ensures) _ (c .before .numbers .given .1)
 
@@ -100,7 +83,7 @@ returns-5 c =
     (c .before .before .before .before .before .before .before .before .before .before .before .enum-told .given .1) _
     (c .before .before .before .before .before .before .before .before .before .before .core-size .ensures)
     (c .before .before .before .before .before .before .before .before .before .if1 .left) _
-    (c .before .before .before .before .before .before .before .before .entries .ensures) (c .before .before .before .before .before .before .before .if2 .left)
+    (c .before .before .before .before .before .before .before .before .scratch-of .ensures) (c .before .before .before .before .before .before .before .if2 .left)
     _ (c .before .before .before .before .before .before .all-finite .ensures) _ (c .before .before .before .before .before .numbers-found .ensures)
     (c .before .before .before .enum-told2 .given .1) _ (c .reaches-ok .ensures)
 
@@ -112,9 +95,7 @@ core-ok-spec = tie.close (tie.spec
     (λ c. search needs)
     core-size-requires
     returns-2
-    entries-requires
-    mul-if2
-    add-if2
+    scratch-of-requires
     returns-3
     (λ c κs. search needs)
     numbers-found-requires

@@ -1,9 +1,7 @@
 -- `run_checks::calls::fresh_ok`: check after check, one law for each return (shape-stops, lent-stops, scratch-stops, numbers-stop, fresh-fits).
 use borrow.Author.Needs.{needs}
-use native.Mathlib.Omega.{arith}
 use Rattle.answers.proofs.Checks.{verdict-passed}
 use Rattle.shape.proofs.Shaped.{fits-shaped}
-use Rattle.shape.proofs.Offsets.{entries-most}
 use Rattle.run_checks.proofs.Asks.{lent-says}
 use Rattle.run_checks.proofs.Afresh.{shape-stops, lent-stops, scratch-stops, numbers-stop, fresh-fits}
 use Rattle.run_checks.proofs.calls.fresh_ok.Statement.{statement}
@@ -25,14 +23,8 @@ returns-2 c =
     (i .args .chain) (i .args .carries) (i .args .sums) (i .args .scratch) _ (c .before .before .before .before .before .before .check .ensures)
     (c .before .before .before .before .enum-told .given .1) _ (c .before .before .before .lent .ensures) _ (c .before .lent2 .given .1)
 
-entries-requires : tie.Need-entries-requires
-entries-requires c κs = fits-shaped _ _ _ (c .before .before .before .before .before .check .ensures) (c .before .before .before .enum-told .given .1) .sizes
-
-mul-if1 : tie.Need-mul-if1
-mul-if1 c = record { fits = omega (arith, c .entries .ensures, entries-most _ (fits-shaped _ _ _ (c .before .before .before .before .before .before .check .ensures) (c .before .before .before .before .enum-told .given .1) .sizes)) }
-
-add-if1 : tie.Need-add-if1
-add-if1 c = record { fits = omega (arith, c .entries .ensures, entries-most _ (fits-shaped _ _ _ (c .before .before .before .before .before .before .check .ensures) (c .before .before .before .before .enum-told .given .1) .sizes)) }
+scratch-of-requires : tie.Need-scratch-of-requires
+scratch-of-requires c κs = fits-shaped _ _ _ (c .before .before .before .before .before .check .ensures) (c .before .before .before .enum-told .given .1) .sizes
 
 returns-3 : tie.Need-returns-3
 returns-3 c =
@@ -40,7 +32,7 @@ returns-3 c =
     scratch-stops (record { shape = i .args .s; axes = i .args .xs; set = i .args .set; source = i .args .source .now; weights = i .args .weights .now })
     (i .args .chain) (i .args .carries) (i .args .sums) (i .args .scratch) _ (c .before .before .before .before .before .before .before .check .ensures)
     (c .before .before .before .before .before .enum-told .given .1) _ (c .before .before .before .before .lent .ensures)
-    (c .before .before .enum-told2 .given .1) _ (c .before .entries .ensures) (c .if1 .taken)
+    (c .before .before .enum-told2 .given .1) _ (c .before .scratch-of .ensures) (c .if1 .taken)
 
 numbers-made-requires : tie.Need-numbers-made-requires
 numbers-made-requires c κs =
@@ -58,7 +50,7 @@ returns-4 c =
     (c .before .before .before .before .before .before .before .before .before .before .before .check .ensures)
     (c .before .before .before .before .before .before .before .before .before .enum-told .given .1) _
     (c .before .before .before .before .before .before .before .before .lent .ensures) (c .before .before .before .before .before .before .enum-told2 .given .1)
-    _ (c .before .before .before .before .before .entries .ensures) (c .before .before .before .before .if1 .left) _
+    _ (c .before .before .before .before .before .scratch-of .ensures) (c .before .before .before .before .if1 .left) _
     (c .before .before .before .numbers-made .ensures) _ (c .before .numbers .given .1)
 
 reaches-ok-requires : tie.Need-reaches-ok-requires
@@ -76,7 +68,7 @@ returns-5 c =
     (c .before .before .before .before .before .before .before .before .before .before .before .check .ensures)
     (c .before .before .before .before .before .before .before .before .before .enum-told .given .1) _
     (c .before .before .before .before .before .before .before .before .lent .ensures) (c .before .before .before .before .before .before .enum-told2 .given .1)
-    _ (c .before .before .before .before .before .entries .ensures) (c .before .before .before .before .if1 .left) _
+    _ (c .before .before .before .before .before .scratch-of .ensures) (c .before .before .before .before .if1 .left) _
     (c .before .before .before .numbers-made .ensures) (c .before .enum-told3 .given .1) _ (c .reaches-ok .ensures)
 
 pub fresh-ok-spec : {M : Type 1} → statement M
@@ -89,9 +81,7 @@ fresh-ok-spec = tie.close (tie.spec
     (λ c. search needs)
     returns-2
     (λ c. search needs)
-    entries-requires
-    mul-if1
-    add-if1
+    scratch-of-requires
     returns-3
     numbers-made-requires
     (λ c. search needs)

@@ -7,7 +7,6 @@ use Rattle.stepform.specs.Zones.{rules}
 use Rattle.runform.specs.Requests.{newWeights}
 use Rattle.runform.specs.Checks.{scratchLent}
 use native.Mathlib.Omega.{arith}
-use Rattle.shape.proofs.Offsets.{entries-most}
 use Rattle.run_checks.proofs.calls.weights_ok.Statement.{statement}
 use Rattle.run_checks.proofs.calls.weights_ok.Tie as tie
 
@@ -37,36 +36,20 @@ returns-2 c =
     (i .args .z) (i .args .part .now) (i .args .scratch) _ (c .before .before .before .before .found-ok .ensures) (c .before .before .enum-told .given .1)
     (c .if1 .taken)
 
-entries-requires : tie.Need-entries-requires
-entries-requires c κs =
+scratch-of-requires : tie.Need-scratch-of-requires
+scratch-of-requires c κs =
     let told = c .before .before in
     let i = told .before .before .before .before .before .before .before .before .before .before .before in
     let f = found-says (keptOf (i .args .r) (i .args .source .now) (i .args .weights .now) (i .args .chain .now) (i .args .carries .now) (i .args .sums .now))
     (i .args .z) _ (told .before .before .found-ok .ensures) (told .enum-told .given .1) in
     shaped _ _ (f .1) .sizes
 
-mul-if2 : tie.Need-mul-if2
-mul-if2 c =
-    let told = c .before .before .before in
-    let i = told .before .before .before .before .before .before .before .before .before .before .before in
-    let f = found-says (keptOf (i .args .r) (i .args .source .now) (i .args .weights .now) (i .args .chain .now) (i .args .carries .now) (i .args .sums .now))
-    (i .args .z) _ (told .before .before .found-ok .ensures) (told .enum-told .given .1) in
-    record { fits = omega (arith, c .entries .ensures, entries-most _ (shaped _ _ (f .1) .sizes)) }
-
-add-if2 : tie.Need-add-if2
-add-if2 c =
-    let told = c .before .before .before in
-    let i = told .before .before .before .before .before .before .before .before .before .before .before in
-    let f = found-says (keptOf (i .args .r) (i .args .source .now) (i .args .weights .now) (i .args .chain .now) (i .args .carries .now) (i .args .sums .now))
-    (i .args .z) _ (told .before .before .found-ok .ensures) (told .enum-told .given .1) in
-    record { fits = omega (arith, c .entries .ensures, entries-most _ (shaped _ _ (f .1) .sizes)) }
-
 returns-3 : tie.Need-returns-3
 returns-3 c =
     let i = c .before .before .before .before .before .before .before .before .before .before .before .before .before .before .before in
     weights-room rules (keptOf (i .args .r) (i .args .source .now) (i .args .weights .now) (i .args .chain .now) (i .args .carries .now) (i .args .sums .now))
     (i .args .z) (i .args .part .now) (i .args .scratch) _ (c .before .before .before .before .before .before .found-ok .ensures)
-    (c .before .before .before .before .enum-told .given .1) (c .before .before .if1 .left) _ (c .before .entries .ensures) (c .if2 .taken)
+    (c .before .before .before .before .enum-told .given .1) (c .before .before .if1 .left) _ (c .before .scratch-of .ensures) (c .if2 .taken)
 
 numbers-found-requires : tie.Need-numbers-found-requires
 numbers-found-requires c κs =
@@ -82,7 +65,7 @@ returns-4 c =
     weights-fit rules (keptOf (i .args .r) (i .args .source .now) (i .args .weights .now) (i .args .chain .now) (i .args .carries .now) (i .args .sums .now))
     (i .args .z) (i .args .part .now) (i .args .scratch) _ (c .before .before .before .before .before .before .before .before .found-ok .ensures)
     (c .before .before .before .before .before .before .enum-told .given .1) (c .before .before .before .before .if1 .left) _
-    (c .before .before .before .entries .ensures) (c .before .before .if2 .left) _ (c .before .all-finite .ensures) _ (c .numbers-found .ensures)
+    (c .before .before .before .scratch-of .ensures) (c .before .before .if2 .left) _ (c .before .all-finite .ensures) _ (c .numbers-found .ensures)
 
 pub weights-ok-spec : {M : Type 1} → statement M
 weights-ok-spec = tie.close (tie.spec
@@ -93,9 +76,7 @@ weights-ok-spec = tie.close (tie.spec
     mul-if1
     element-copy-out-if1
     returns-2
-    entries-requires
-    mul-if2
-    add-if2
+    scratch-of-requires
     returns-3
     (λ c κs. search needs)
     numbers-found-requires

@@ -7,7 +7,6 @@ use Rattle.stepform.specs.Zones.{rules}
 use Rattle.runform.specs.Requests.{newAxis}
 use Rattle.runform.specs.Checks.{scratchLent}
 use native.Mathlib.Omega.{arith}
-use Rattle.shape.proofs.Offsets.{entries-most}
 use Rattle.run_checks.proofs.new_axis.axis_ok.Statement.{statement}
 use Rattle.run_checks.proofs.new_axis.axis_ok.Tie as tie
 
@@ -18,34 +17,18 @@ returns c =
     (keptOf (i .args .r) (i .args .source .now) (i .args .weights .now) (i .args .chain .now) (i .args .carries .now) (i .args .sums .now))
     (newAxis (i .args .z) (i .args .a)) _ (c .before .before .before .found-ok .ensures) _ (c .before .found .given .1)
 
-entries-requires : tie.Need-entries-requires
-entries-requires c κs =
+scratch-of-requires : tie.Need-scratch-of-requires
+scratch-of-requires c κs =
     let i = c .before .before .before .before .before .before .before .before .before .before in
     let f = found-says (keptOf (i .args .r) (i .args .source .now) (i .args .weights .now) (i .args .chain .now) (i .args .carries .now) (i .args .sums .now)) (i .args .z) _ (c .before .before .found-ok .ensures) (c .enum-told .given .1) in
     shaped _ _ (f .1) .sizes
-
-mul-if1 : tie.Need-mul-if1
-mul-if1 c =
-    let told = c .before in
-    let i = told .before .before .before .before .before .before .before .before .before .before in
-    let f = found-says (keptOf (i .args .r) (i .args .source .now) (i .args .weights .now) (i .args .chain .now) (i .args .carries .now) (i .args .sums .now))
-    (i .args .z) _ (told .before .before .found-ok .ensures) (told .enum-told .given .1) in
-    record { fits = omega (arith, c .entries .ensures, entries-most _ (shaped _ _ (f .1) .sizes)) }
-
-add-if1 : tie.Need-add-if1
-add-if1 c =
-    let told = c .before in
-    let i = told .before .before .before .before .before .before .before .before .before .before in
-    let f = found-says (keptOf (i .args .r) (i .args .source .now) (i .args .weights .now) (i .args .chain .now) (i .args .carries .now) (i .args .sums .now))
-    (i .args .z) _ (told .before .before .found-ok .ensures) (told .enum-told .given .1) in
-    record { fits = omega (arith, c .entries .ensures, entries-most _ (shaped _ _ (f .1) .sizes)) }
 
 returns-2 : tie.Need-returns-2
 returns-2 c =
     let i = c .before .before .before .before .before .before .before .before .before .before .before .before in
     axis-room (keptOf (i .args .r) (i .args .source .now) (i .args .weights .now) (i .args .chain .now) (i .args .carries .now) (i .args .sums .now))
     (i .args .z) (i .args .a) (i .args .scratch) _ (c .before .before .before .before .found-ok .ensures) (c .before .before .enum-told .given .1) _
-    (c .before .entries .ensures) (c .if1 .taken)
+    (c .before .scratch-of .ensures) (c .if1 .taken)
 
 numbers-found-requires : tie.Need-numbers-found-requires
 numbers-found-requires c κs =
@@ -61,7 +44,7 @@ returns-3 c =
     axis-stops (keptOf (i .args .r) (i .args .source .now) (i .args .weights .now) (i .args .chain .now) (i .args .carries .now) (i .args .sums .now))
     (i .args .z) (i .args .a) (i .args .scratch) _ (c .before .before .before .before .before .before .before .before .before .before .found-ok .ensures)
     (c .before .before .before .before .before .before .before .before .enum-told .given .1) _
-    (c .before .before .before .before .before .before .before .entries .ensures) (c .before .before .before .before .before .before .if1 .left) _ _
+    (c .before .before .before .before .before .before .before .scratch-of .ensures) (c .before .before .before .before .before .before .if1 .left) _ _
     (c .before .before .before .before .before .axis-finite .ensures) (c .before .before .before .before .axis-ok .ensures) _
     (c .before .before .before .numbers-found .ensures) _ (c .before .numbers .given .1)
 
@@ -96,7 +79,7 @@ returns-4 c =
     (i .args .z) (i .args .a) (i .args .scratch) _
     (c .before .before .before .before .before .before .before .before .before .before .before .before .found-ok .ensures)
     (c .before .before .before .before .before .before .before .before .before .before .enum-told .given .1) _
-    (c .before .before .before .before .before .before .before .before .before .entries .ensures)
+    (c .before .before .before .before .before .before .before .before .before .scratch-of .ensures)
     (c .before .before .before .before .before .before .before .before .if1 .left) _ _
     (c .before .before .before .before .before .before .before .axis-finite .ensures) (c .before .before .before .before .before .before .axis-ok .ensures) _
     (c .before .before .before .before .before .numbers-found .ensures) (c .before .before .before .enum-told2 .given .1) _ (c .reaches-ok .ensures)
@@ -107,9 +90,7 @@ axis-ok-spec = tie.close (tie.spec
     (λ c. search needs)
     returns
     (λ c. search needs)
-    entries-requires
-    mul-if1
-    add-if1
+    scratch-of-requires
     returns-2
     (λ c κs. search needs)
     (λ c κs. search needs)
