@@ -51,8 +51,11 @@ finished-as s w l v e p = go (w .verdict) refl p
     go : (x : Verdict) → w .verdict ≡ x → e ≡ finishedBy x s w l v → Finished s w l v (e .result) (e .chain) (e .scratch)
     go Fits h p = record { cleared = ap (λ (y : Ended). y .scratch) p; refused = λ q g. absurd (not-fits (w .verdict) q g h); made = λ g. (ap (λ (y : Ended). y .result) p, ap (λ (y : Ended). y .chain) p) }
     go (Refused q) h p =
-        record
-        { cleared = ap (λ (y : Ended). y .scratch) p; refused = λ r g. let z : q ≡ r = cc in (ap (λ (y : Ended). y .result) p ∙ ap (λ (y : Refusal). record { verdict = Refused y; shape = s; bonds = replicate mostAxes noBond }) z, ap (λ (y : Ended). y .chain) p); made = λ g. absurd (not-fits (w .verdict) q h g) }
+        record {
+          cleared = ap (λ (y : Ended). y .scratch) p;
+          refused = λ r g. let z : q ≡ r = cc in (ap (λ (y : Ended). y .result) p ∙ ap (λ (y : Refusal). record { verdict = Refused y; shape = s; bonds = replicate mostAxes noBond }) z, ap (λ (y : Ended). y .chain) p);
+          made = λ g. absurd (not-fits (w .verdict) q h g);
+        }
 
 pub work-done : (m : ℕ) (set : Settings) (s : Shape) (xs : List Axis) (w : Walked) (l u x : List Float) (r : Rounded) (l' v' : List Float) → length u ≡ length x
     → Came (stepsAndOne m set xs (coresOf s l)) s s (w .verdict) (w .shape) (w .bonds) u → Finished s w l u r l' v' → Answers (endedBy s l x (stepsAndOne m set xs (coresOf s l))) r l' v'

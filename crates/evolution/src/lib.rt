@@ -139,7 +139,8 @@ pub fn evolve(
 ) -> cutform::Rounded
     ensures { λ r. ⌜ (r ≡ evolveCall (p .«t_final») (p .steps) (p .c) (p .cutting) s (now (xs .entry)) (now (chain .entry)) (now (scratch .entry)) .result)
         × (now (chain .exit) ≡ evolveCall (p .«t_final») (p .steps) (p .c) (p .cutting) s (now (xs .entry)) (now (chain .entry)) (now (scratch .entry)) .chain)
-        × (now (scratch .exit) ≡ evolveCall (p .«t_final») (p .steps) (p .c) (p .cutting) s (now (xs .entry)) (now (chain .entry)) (now (scratch .entry)) .scratch) ⌝ }
+        × (now (scratch .exit)
+        ≡ evolveCall (p .«t_final») (p .steps) (p .c) (p .cutting) s (now (xs .entry)) (now (chain .entry)) (now (scratch .entry)) .scratch) ⌝ }
 {
     evolve_over(s, p, axes::gather(xs), xs.len(), chain, scratch)
 }

@@ -28,7 +28,9 @@ unfolding writeCall writeExit writing writeOk writeLent shapeOk demand demandEac
 writes s chain room = writeCall s chain (replicate room 7)
 
 reads : List ℕ → ℕ → Exit Read Float
-unfolding readCall readExit reading readContents readHeader readTable tableOk shapeWith shapeIn entryOk turning shapeOk demand demandEach sizeOk bondOk coreSize offset fileLength bodyStart lengthsOk readNumbers numbersIn numbersFrom numberAt ofBits numbersOk slot allFinite listed fit
+unfolding readCall readExit reading readContents readHeader readTable tableOk shapeWith shapeIn entryOk turning
+    shapeOk demand demandEach sizeOk bondOk coreSize offset fileLength bodyStart lengthsOk
+    readNumbers numbersIn numbersFrom numberAt ofBits numbersOk slot allFinite listed fit
 reads bytes room = readCall bytes (replicate room nan)
 
 abbrev shaped : ℕ → List ℕ → List ℕ → List ℕ → Shape

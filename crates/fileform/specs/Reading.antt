@@ -1,5 +1,6 @@
 -- Reading a chain file. The call is lent the file's bytes (position 0) and an output with room for at least N numbers (position 1).
--- A read beyond the end counts as 0, but none decides anything: a header, a table and bodies are looked into only behind the check that they are there. Definitions only.
+-- A read beyond the end counts as 0, but none decides anything: a header, a table and bodies are looked into only behind
+-- the check that they are there. Definitions only.
 use Prim.Native.Nat.{ℕ, _+_}
 use mathlib.Core.List.{List}
 use lib.Dec.{leb, eqb}

@@ -55,7 +55,9 @@ at-again s z k t h v A e = record {
 }
 
 -- a step whose moves are refused, with the verdict v
-pub step-stops : (set : Settings) (s t : Shape) (z : ℕ) (xs : List Axis) (h : Stepped) (u : List Float) (r : Verdict) → moves set s t z xs (h .chain) ≡ answered r (standFrom s t z u) → (q : Refusal) → r ≡ Refused q → (v : Verdict) → v ≡ Refused q → (x : Shape × Stepped)
+pub step-stops : (set : Settings) (s t : Shape) (z : ℕ) (xs : List Axis) (h : Stepped) (u : List Float) (r : Verdict)
+    → moves set s t z xs (h .chain) ≡ answered r (standFrom s t z u)
+    → (q : Refusal) → r ≡ Refused q → (v : Verdict) → v ≡ Refused q → (x : Shape × Stepped)
     → (stepHeld set s z xs t h ≡ answered v x) × (z ≡ 0 → v ≡ Fits → Inside s (x .0))
 step-stops set s t z xs h u r m q e v f x = (held-stops set s t z xs h u r m q e x ∙ ap (λ (y : Verdict). answered y x) (sym f), λ _ g. absurd (not-fits v q f g))
 

@@ -1,4 +1,4 @@
--- `evolution::course_finite` meets its contract. Assumes nothing.
+-- `evolution::course_finite`: three tests, each as its call answers it: the definition, unfolded.
 use borrow.Author.Needs.{needs}
 use Rattle.stepform.specs.Lone.{courseFinite}
 use Rattle.evolution.proofs.course_finite.Statement.{statement}

@@ -1,4 +1,4 @@
--- `evolution::course_mild` meets its contract. Assumes nothing.
+-- `evolution::course_mild`: three tests, each as its call answers it: the definition, unfolded.
 use borrow.Author.Needs.{needs}
 use Rattle.stepform.specs.Lone.{courseOk}
 use Rattle.evolution.proofs.course_mild.Statement.{statement}

@@ -1,4 +1,4 @@
--- `evolution::course_settings` meets its contract. Assumes nothing.
+-- `evolution::course_settings`: too many steps are outside the promise; any other number is exact as a float.
 use mathlib.Core.Path.{refl}
 use Prim.Native.Nat.{_^_}
 use native.Mathlib.Omega.{arith}

@@ -1,4 +1,4 @@
--- `evolution::evolve` meets its contract: a walk of its MIR by hand, since the borrow checker covers no slice of records. The records are gathered, and `evolve_over` is called with the slices passed on for good.
+-- `evolution::evolve`: a walk of its MIR by hand, since the borrow checker covers no slice of records. The records are gathered, and `evolve_over` is called with the slices passed on for good.
 -- Assumes nothing.
 use mathlib.Core.Path.{_≡_, refl, ap, _∙_}
 use Prim.Native.Nat.{_<_, _^_}
@@ -146,16 +146,30 @@ module _ {M : Type 1} (𝓤 : URA M) (H : Heap 𝓤) (A : Atoms 𝓤) (W : Given
       owned ! P.the-row (Is P.the-row) (LL.makes P.the-type P′.the-plain 𝓤 H A) x _ px $ fjoin ! $ owned ! S.the-row (Is S.the-row) (LL.makes S.the-type S′.the-plain 𝓤 H A) h _ ph $ fjoin ! $ move ! (1 ∷ 0 ∷ []) $ join ! $ frame ! $ done !
 
   -- what `evolve_over` says is what the call promises
-  said : (l : List Axis) (r : Rounded) (zs ws : List Float) → l ≡ gathered (now s) → Answers (evolveOver (x .«t_final») (x .steps) (x .c) (x .cutting) h (length (s .now)) l (now c) (now w)) r (zs) (ws) → (r ≡ evolveCall (x .«t_final») (x .steps) (x .c) (x .cutting) h (now s) (now c) (now w) .result) × (zs ≡ evolveCall (x .«t_final») (x .steps) (x .c) (x .cutting) h (now s) (now c) (now w) .chain) × (ws ≡ evolveCall (x .«t_final») (x .steps) (x .c) (x .cutting) h (now s) (now c) (now w) .scratch)
+  said : (l : List Axis) (r : Rounded) (zs ws : List Float)
+      → l ≡ gathered (now s)
+      → Answers (evolveOver (x .«t_final») (x .steps) (x .c) (x .cutting) h (length (s .now)) l (now c) (now w)) r (zs) (ws)
+      → (r ≡ evolveCall (x .«t_final») (x .steps) (x .c) (x .cutting) h (now s) (now c) (now w) .result)
+      × (zs ≡ evolveCall (x .«t_final») (x .steps) (x .c) (x .cutting) h (now s) (now c) (now w) .chain)
+      × (ws ≡ evolveCall (x .«t_final») (x .steps) (x .c) (x .cutting) h (now s) (now c) (now w) .scratch)
   said l r zs ws e f =
-      let same : evolveOver (x .«t_final») (x .steps) (x .c) (x .cutting) h (length (s .now)) l (now c) (now w) ≡ evolveCall (x .«t_final») (x .steps) (x .c) (x .cutting) h (now s) (now c) (now w) = ap (λ (y : List Axis). evolveOver (x .«t_final») (x .steps) (x .c) (x .cutting) h (length (s .now)) y (now c) (now w)) e ∙ evolve-over (x .«t_final») (x .steps) (x .c) (x .cutting) h (now s) (now c) (now w) in
+      let same : evolveOver (x .«t_final») (x .steps) (x .c) (x .cutting) h (length (s .now)) l (now c) (now w)
+      ≡ evolveCall (x .«t_final») (x .steps) (x .c) (x .cutting) h (now s) (now c) (now w)
+      = ap (λ (y : List Axis). evolveOver (x .«t_final») (x .steps) (x .c) (x .cutting) h (length (s .now)) y (now c) (now w)) e
+      ∙ evolve-over (x .«t_final») (x .steps) (x .c) (x .cutting) h (now s) (now c) (now w) in
       (f .result ∙ ap (λ (y : Ended). y .result) same, f .chain ∙ ap (λ (y : Ended). y .chain) same, f .scratch ∙ ap (λ (y : Ended). y .scratch) same)
 
-  exits : (r : Rounded) (v : Val) (zs ws : List Float) → (r ≡ evolveCall (x .«t_final») (x .steps) (x .c) (x .cutting) h (now s) (now c) (now w) .result) × (zs ≡ evolveCall (x .«t_final») (x .steps) (x .c) (x .cutting) h (now s) (now c) (now w) .chain) × (ws ≡ evolveCall (x .«t_final») (x .steps) (x .c) (x .cutting) h (now s) (now c) (now w) .scratch) → length zs ≡ length (now c) → length ws ≡ length (now w)
+  exits : (r : Rounded) (v : Val) (zs ws : List Float)
+      → (r ≡ evolveCall (x .«t_final») (x .steps) (x .c) (x .cutting) h (now s) (now c) (now w) .result)
+      × (zs ≡ evolveCall (x .«t_final») (x .steps) (x .c) (x .cutting) h (now s) (now c) (now w) .chain)
+      × (ws ≡ evolveCall (x .«t_final») (x .steps) (x .c) (x .cutting) h (now s) (now c) (now w) .scratch)
+      → length zs ≡ length (now c) → length ws ≡ length (now w)
       → ent 𝓤 (⋆ 𝓤 H A (‵ (O.the-row .own r (v ∷ [])) ∷ ‵ (flft κ₀ q₀) ∷ ‵ (flft κ₁ q₁) ∷ ‵ (flft κ₂ q₂) ∷ ‵ (finally f64 (c .name) zs) ∷ ‵ OwnS ∷ ‵ (finally f64 (w .name) ws) ∷ ‵ OwnX ∷ ‵ OwnH ∷ [])) (Post v)
   exits r v zs ws e lz lw =
       qed W (‵ (O.the-row .own r (v ∷ [])) ∷ ‵ (flft κ₀ q₀) ∷ ‵ (flft κ₁ q₁) ∷ ‵ (flft κ₂ q₂) ∷ ‵ (finally f64 (c .name) zs) ∷ ‵ OwnS ∷ ‵ (finally f64 (w .name) ws) ∷ ‵ OwnX ∷ ‵ OwnH ∷ []) ∵
-      suffices ! _ (ends-at 𝓤 H A evolve.ended stayed (evolve.clauses 𝓤 H A mem run) W (((κ₀, (κ₁, (κ₂, tt))), (q₀, (q₁, (q₂, tt))), tt, (h, (x, (s, (c, (w, tt))))), vals), tt) v r (tt, (tt, (tt, (zs, (ws, tt))))) (tt, (tt, (tt, (lz, (lw, tt)))))) $ says ! e $
+      suffices ! _ (ends-at 𝓤 H A evolve.ended stayed (evolve.clauses 𝓤 H A mem run) W
+      (((κ₀, (κ₁, (κ₂, tt))), (q₀, (q₁, (q₂, tt))), tt, (h, (x, (s, (c, (w, tt))))), vals), tt) v r (tt, (tt, (tt, (zs, (ws, tt))))) (tt, (tt, (tt, (lz, (lw, tt))))))
+      $ says ! e $
       nothing ! $ move ! (2 ∷ 3 ∷ 4 ∷ 0 ∷ []) $ group ! 4 $ frame ! $
       -- [the result; chain's last list; OwnS; scratch's last list; OwnX; OwnH]
       nothing ! $ move ! (4 ∷ 0 ∷ []) $ fjoin ! $ move ! (2 ∷ 0 ∷ []) $ fjoin ! $ move ! (2 ∷ 0 ∷ []) $ fjoin ! $ move ! (2 ∷ 0 ∷ []) $ fjoin ! $ move ! (2 ∷ 0 ∷ []) $ fjoin ! $ frame ! $ done !
@@ -164,7 +178,9 @@ module _ {M : Type 1} (𝓤 : URA M) (H : Heap 𝓤) (A : Atoms 𝓤) (W : Given
     walk : Is S.the-row h (hv ∷ []) → Is P.the-row x (xv ∷ []) → Is (ShrSlice (named 0) κ₀ R) s (sv ∷ []) → Is (MutSlice (named 1) κ₁ f64) c (cv ∷ []) → Is (MutSlice (named 2) κ₂ f64) w (wv ∷ [])
         → ent 𝓤 (onEntry 𝓤 H A evolve.signature (κ₀, (κ₁, (κ₂, tt))) (q₀, (q₁, (q₂, tt))) (h, (x, (s, (c, (w, tt))))) vals) (WpFn 𝓤 H C Λ code.function (hv ∷ xv ∷ sv ∷ cv ∷ wv ∷ []) Post)
     walk ph px ps pc pw =
-        qed W ((‵ (flft κ₀ q₀) ⊛ (‵ (flft κ₁ q₁) ⊛ (‵ (flft κ₂ q₂) ⊛ ‵ ftrue))) ∷ ‵ (owns (S.the-row ∷ P.the-row ∷ ShrSlice (named 0) κ₀ R ∷ MutSlice (named 1) κ₁ f64 ∷ MutSlice (named 2) κ₂ f64 ∷ []) (h, (x, (s, (c, (w, tt))))) vals) ∷ []) ∵ enter ! C Λ code.function (hv ∷ xv ∷ sv ∷ cv ∷ wv ∷ []) _ $
+        qed W ((‵ (flft κ₀ q₀) ⊛ (‵ (flft κ₁ q₁) ⊛ (‵ (flft κ₂ q₂) ⊛ ‵ ftrue)))
+        ∷ ‵ (owns (S.the-row ∷ P.the-row ∷ ShrSlice (named 0) κ₀ R ∷ MutSlice (named 1) κ₁ f64 ∷ MutSlice (named 2) κ₂ f64 ∷ []) (h, (x, (s, (c, (w, tt))))) vals) ∷ [])
+        ∵ enter ! C Λ code.function (hv ∷ xv ∷ sv ∷ cv ∷ wv ∷ []) _ $
         alloc1 ! (λ l0. alloc1 ! (λ l1. alloc1 ! (λ l2. alloc1 ! (λ l3. alloc1 ! (λ l4. alloc1 ! (λ l5. alloc1 ! (λ l6. alloc1 ! (λ l7. alloc1 ! (λ l8. alloc1 ! (λ l9. alloc1 ! (λ l10. alloc1 ! (λ l11. alloc0 ! $ params1 ! $
         pass1 ! (init ! 20 refl (LL.lawful S.the-type S′.the-laws 𝓤 H A W .typed h _ ph .0)) $ pass1 ! (init ! 18 refl (LL.lawful P.the-type P′.the-laws 𝓤 H A W .typed x _ px .0)) $ pass1 ! (init ! 16 refl (
           tt,
@@ -237,17 +253,30 @@ module _ {M : Type 1} (𝓤 : URA M) (H : Heap 𝓤) (A : Atoms 𝓤) (W : Given
         )) $
         move ! (9 ∷ 8 ∷ 0 ∷ 5 ∷ 4 ∷ []) $ group ! 5 $ use1 W (raw (Work 𝓤 H A mem run .pre (to-work l u))) (goes-work ph px (ps .0 .1 .0) l u) $
         -- [pre; κ₀; true; OwnS; OwnX; OwnH; the locals]
-        calls-at ! fm (Work 𝓤 H A mem run) known-work (to-work l u) (and-then ! (load ! (from ! (stop !)) (look ! 26 refl)) (and-then ! (load ! (from ! (stop !)) (look ! 24 refl)) (and-then ! (load ! (from ! (stop !)) (look ! 16 refl)) (and-then ! (load ! (from ! (stop !)) (look ! 14 refl)) (and-then ! (load ! (from ! (stop !)) (look ! 10 refl)) (and-then ! (load ! (from ! (stop !)) (look ! 6 refl)) (no-more !))))))) (λ v.
-        use1 W (later (some (λ (r : Rounded). ((‵ (flft κ₁ q₁) ⊛ (‵ (flft κ₂ q₂) ⊛ ‵ ftrue)) ⊛ ‵ (O.the-row .own r (v ∷ []))) ⊛ raw (ensured 𝓤 H A work.ended (work.clauses 𝓤 H A mem run) (κ₁, (κ₂, tt)) (h, (x, (l, (length (s .now), (c, (w, tt)))))) tt r)))) (id⊢ 𝓤 _) $ await ! tt $ pick ! (λ r.
-        split ! $ move ! (1 ∷ []) $ use1 W (some (λ (zs : Unit {0} × (Unit {0} × (Unit {0} × (Unit {0} × (List Float × (List Float × Unit {0})))))). ‵ (lasts work.ended (κ₁, (κ₂, tt)) (h, (x, (l, (length (s .now), (c, (w, tt)))))) zs) ⊛ raw (fact 𝓤 (Answers (evolveOver (x .«t_final») (x .steps) (x .c) (x .cutting) h (length (s .now)) l (now c) (now w)) r (zs .1 .1 .1 .1 .0) (zs .1 .1 .1 .1 .1 .0))))) (id⊢ 𝓤 _) $ pick ! (λ zs.
+        calls-at ! fm (Work 𝓤 H A mem run) known-work (to-work l u)
+        (and-then ! (load ! (from ! (stop !)) (look ! 26 refl)) (and-then ! (load ! (from ! (stop !)) (look ! 24 refl))
+        (and-then ! (load ! (from ! (stop !)) (look ! 16 refl)) (and-then ! (load ! (from ! (stop !)) (look ! 14 refl))
+        (and-then ! (load ! (from ! (stop !)) (look ! 10 refl)) (and-then ! (load ! (from ! (stop !)) (look ! 6 refl)) (no-more !)))))))
+        (λ v.
+        use1 W (later (some (λ (r : Rounded). ((‵ (flft κ₁ q₁) ⊛ (‵ (flft κ₂ q₂) ⊛ ‵ ftrue)) ⊛ ‵ (O.the-row .own r (v ∷ [])))
+        ⊛ raw (ensured 𝓤 H A work.ended (work.clauses 𝓤 H A mem run) (κ₁, (κ₂, tt)) (h, (x, (l, (length (s .now), (c, (w, tt)))))) tt r))))
+        (id⊢ 𝓤 _) $ await ! tt $ pick ! (λ r.
+        split ! $ move ! (1 ∷ []) $ use1 W (some (λ (zs : Unit {0} × (Unit {0} × (Unit {0} × (Unit {0} × (List Float × (List Float × Unit {0})))))).
+        ‵ (lasts work.ended (κ₁, (κ₂, tt)) (h, (x, (l, (length (s .now), (c, (w, tt)))))) zs)
+        ⊛ raw (fact 𝓤 (Answers (evolveOver (x .«t_final») (x .steps) (x .c) (x .cutting) h (length (s .now)) l (now c) (now w)) r (zs .1 .1 .1 .1 .0) (zs .1 .1 .1 .1 .1 .0)))))
+        (id⊢ 𝓤 _) $ pick ! (λ zs.
         split ! $ move ! (1 ∷ []) $ heard ! (Answers (evolveOver (x .«t_final») (x .steps) (x .c) (x .cutting) h (length (s .now)) l (now c) (now w)) r (zs .1 .1 .1 .1 .0) (zs .1 .1 .1 .1 .1 .0)) (λ f.
         fsplit ! $ drop ! $ fsplit ! $ drop ! $ fsplit ! $ drop ! $ fsplit ! $ drop ! $ fsplit ! $ fsplit ! $ move ! (1 ∷ []) $ feqL ! (λ lz. move ! (1 ∷ []) $ fsplit ! $ fsplit ! $ move ! (1 ∷ []) $ feqL ! (λ lw. move ! (1 ∷ []) $ drop ! $
         -- [scratch's last list; chain's; the tokens and the result; κ₀; true; OwnS; OwnX; OwnH; the locals]
         move ! (2 ∷ []) $ split ! $ move ! (1 ∷ []) $ peeks ! O.the-row (Is O.the-row) (shows 𝓤 H A O.the-row) r (v ∷ []) (λ is′.
         -- [the result; the tokens; scratch's last list; chain's; κ₀; true; OwnS; OwnX; OwnH; the locals]
         land ! (from ! (stop !)) (init ! 31 refl (LL.lawful O.the-type O′.the-laws 𝓤 H A W .typed r _ is′ .0)) $
-        returns ! (look ! 31 refl) $ forget ! 9 refl $ forget ! 11 refl $ forget ! 13 refl $ forget ! 15 refl $ forget ! 17 refl $ forget ! 19 refl $ forget ! 21 refl $ forget ! 23 refl $ forget ! 25 refl $ forget ! 27 refl $ forget ! 29 refl $ forget ! 31 refl $
-        move ! (31 ∷ 32 ∷ []) $ free1 ! $ move ! (29 ∷ 30 ∷ []) $ free1 ! $ move ! (27 ∷ 28 ∷ []) $ free1 ! $ move ! (25 ∷ 26 ∷ []) $ free1 ! $ move ! (23 ∷ 24 ∷ []) $ free1 ! $ move ! (21 ∷ 22 ∷ []) $ free1 ! $ move ! (19 ∷ 20 ∷ []) $ free1 ! $ move ! (17 ∷ 18 ∷ []) $ free1 ! $ move ! (15 ∷ 16 ∷ []) $ free1 ! $ move ! (13 ∷ 14 ∷ []) $ free1 ! $ move ! (11 ∷ 12 ∷ []) $ free1 ! $ move ! (9 ∷ 10 ∷ []) $ free1 ! $ free0 ! $
+        returns ! (look ! 31 refl) $
+        forget ! 9 refl $ forget ! 11 refl $ forget ! 13 refl $ forget ! 15 refl $ forget ! 17 refl $ forget ! 19 refl $
+        forget ! 21 refl $ forget ! 23 refl $ forget ! 25 refl $ forget ! 27 refl $ forget ! 29 refl $ forget ! 31 refl $
+        move ! (31 ∷ 32 ∷ []) $ free1 ! $ move ! (29 ∷ 30 ∷ []) $ free1 ! $ move ! (27 ∷ 28 ∷ []) $ free1 ! $ move ! (25 ∷ 26 ∷ []) $ free1 ! $
+        move ! (23 ∷ 24 ∷ []) $ free1 ! $ move ! (21 ∷ 22 ∷ []) $ free1 ! $ move ! (19 ∷ 20 ∷ []) $ free1 ! $ move ! (17 ∷ 18 ∷ []) $ free1 ! $
+        move ! (15 ∷ 16 ∷ []) $ free1 ! $ move ! (13 ∷ 14 ∷ []) $ free1 ! $ move ! (11 ∷ 12 ∷ []) $ free1 ! $ move ! (9 ∷ 10 ∷ []) $ free1 ! $ free0 ! $
         move ! (1 ∷ []) $ split ! $ move ! (1 ∷ []) $ split ! $
         -- [κ₂; true; κ₁; the result; scratch's last list; chain's; κ₀; true; OwnS; OwnX; OwnH]
         keep ! (3 ∷ 6 ∷ 2 ∷ 0 ∷ 5 ∷ 8 ∷ 4 ∷ 9 ∷ 10 ∷ []) $ by ! (exits r v (zs .1 .1 .1 .1 .0) (zs .1 .1 .1 .1 .1 .0) (said l r (zs .1 .1 .1 .1 .0) (zs .1 .1 .1 .1 .1 .0) e f) lz lw))))))))))))))))))))))))
@@ -259,13 +288,25 @@ module _ {M : Type 1} (𝓤 : URA M) (H : Heap 𝓤) (A : Atoms 𝓤) (W : Given
       (λ κs. (LL.vals S.the-type S′.the-laws, (LL.vals P.the-type P′.the-laws, (slice-vals, (slice-vals, (slice-vals, tt))))))
       (λ κs. (LL.tells S.the-type S′.the-laws, (LL.tells P.the-type P′.the-laws, (shr-slice-tells (named 0) (κs .0) R, (mut-slice-tells (named 1) (κs .1 .0) f64, (mut-slice-tells (named 2) (κs .1 .1 .0) f64, tt))))))
       (λ κs qs bounds a g are. via 𝓤 _ (fst∗ 𝓤 _ (emp 𝓤))
-      (walk 𝓤 H A W mem run (κs .0) (κs .1 .0) (κs .1 .1 .0) (qs .0) (qs .1 .0) (qs .1 .1 .0) (a .0) (a .1 .0) (a .1 .1 .0) (a .1 .1 .1 .0) (a .1 .1 .1 .1 .0) C Λ fm known-gather known-work (are .0) (are .1 .0) (are .1 .1 .0) (are .1 .1 .1 .0) (are .1 .1 .1 .1 .0)))
+      (walk 𝓤 H A W mem run (κs .0) (κs .1 .0) (κs .1 .1 .0) (qs .0) (qs .1 .0) (qs .1 .1 .0)
+      (a .0) (a .1 .0) (a .1 .1 .0) (a .1 .1 .1 .0) (a .1 .1 .1 .1 .0)
+      C Λ fm known-gather known-work
+      (are .0) (are .1 .0) (are .1 .1 .0) (are .1 .1 .1 .0) (are .1 .1 .1 .1 .0)))
 
 evolve-meets : {M : Type 1} (𝓤 : URA M) (H : Heap 𝓤) (A : Atoms 𝓤) (W : Given 𝓤 H A) (mem : Memory → SProp 𝓤) (run : Routine → Fun 𝓤) (𝓣 : Tables 𝓤 H)
     → Triple 𝓤 (𝓣 .C #axes·gather) (Gather 𝓤 H A mem run) → Triple 𝓤 (𝓣 .C #evolving·evolve-over) (Work 𝓤 H A mem run)
     → Meets 𝓤 H A evolve.signature (WpFn 𝓤 H (𝓣 .C) (𝓣 .Λ) code.function) (evolve.spec 𝓤 H A mem run)
-evolve-meets 𝓤 H A W mem run 𝓣 known-gather known-work = walk-meets 𝓤 H A evolve.ended stayed W
-    (goes-none 𝓤 H A W 3 (λ _. S.the-row) yes (λ κs x f. refl), (goes-none 𝓤 H A W 3 (λ _. P.the-row) yes (λ κs x f. refl), (goes-none-slice 𝓤 H A W 3 (0 ∷ []) tt (plain (λ _. R)) yes, (goes-gave-slice 𝓤 H A W 3 1 tt (plain (λ _. f64)), (goes-gave-slice 𝓤 H A W 3 2 tt (plain (λ _. f64)), tt)))))
+evolve-meets 𝓤 H A W mem run 𝓣 known-gather known-work =
+    walk-meets 𝓤 H A evolve.ended stayed W (
+      goes-none 𝓤 H A W 3 (λ _. S.the-row) yes (λ κs x f. refl),
+      (
+        goes-none 𝓤 H A W 3 (λ _. P.the-row) yes (λ κs x f. refl),
+        (
+          goes-none-slice 𝓤 H A W 3 (0 ∷ []) tt (plain (λ _. R)) yes,
+          (goes-gave-slice 𝓤 H A W 3 1 tt (plain (λ _. f64)), (goes-gave-slice 𝓤 H A W 3 2 tt (plain (λ _. f64)), tt)),
+        ),
+      ),
+    )
     (evolve.clauses 𝓤 H A mem run) (WpFn 𝓤 H (𝓣 .C) (𝓣 .Λ) code.function) (WpFn-mono 𝓤 H (W .laws) 𝓣 code.function)
     (evolve-walks 𝓤 H A W mem run (𝓣 .C) (𝓣 .Λ) (fmOf 𝓤 H (W .laws) 𝓣) known-gather known-work)
 

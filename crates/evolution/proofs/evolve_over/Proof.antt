@@ -1,4 +1,4 @@
--- `evolution::evolve_over` meets its contract. Assumes nothing.
+-- `evolution::evolve_over`: by the verdict of the checks (evolve-stops, evolve-goes); passed, there is at least one step (accepted), and the work gets what it asks (over-passed).
 use borrow.Author.Needs.{needs}
 use Rattle.evolution.proofs.Calls.{evolve-stops, evolve-goes, accepted}
 use Rattle.evolution.proofs.Ends.{over-passed}

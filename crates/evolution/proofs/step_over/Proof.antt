@@ -1,4 +1,4 @@
--- `evolution::step_over` meets its contract. Assumes nothing.
+-- `evolution::step_over`: by the verdict of the checks (step-stops, step-goes); passed, they give what the work asks (over-passed).
 use borrow.Author.Needs.{needs}
 use Rattle.evolution.proofs.Calls.{step-stops, step-goes}
 use Rattle.evolution.proofs.Ends.{over-passed}

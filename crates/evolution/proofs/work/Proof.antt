@@ -1,4 +1,4 @@
--- `evolution::work` meets its contract. Assumes nothing.
+-- `evolution::work`: what the steps came to lies inside the source's room (came-inside), and `finish` makes the call's end of it (work-done).
 use borrow.Author.Needs.{needs}
 use Rattle.evolution.proofs.Calls.{came-inside, ok-sizes, finished-as, work-done}
 use native.Mathlib.Omega.{arith}

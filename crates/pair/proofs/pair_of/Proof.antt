@@ -33,7 +33,9 @@ split-requires c κs =
 returns-2 : tie.Need-returns-2
 returns-2 c =
     let told = c .before .before .before .before .before .before .before .before .before .before .before .before in
-    pair-end _ _ _ _ _ (told .before .before .before .columns .ensures) _ (told .stored-in .ensures) (c .before .before .before .before .before .before .before .before .before .before .enum-told .given .1) _ _ (c .before .before .before .before .before .before .split .ensures)
+    pair-end _ _ _ _ _ (told .before .before .before .columns .ensures) _ (told .stored-in .ensures)
+    (c .before .before .before .before .before .before .before .before .before .before .enum-told .given .1) _ _
+    (c .before .before .before .before .before .before .split .ensures)
 
 pub pair-of-spec : {M : Type 1} → statement M
 pair-of-spec = tie.close (tie.spec

@@ -1,4 +1,4 @@
--- `steps::one_step` meets its contract. Assumes nothing.
+-- `steps::one_step`: from zone 0 on nothing is held on the left (one-asks), and what a step from there leaves is the step of the whole chain (one-came).
 use borrow.Author.Needs.{needs}
 use Rattle.steps.proofs.Asked.{one-asks, one-came}
 use Rattle.steps.proofs.one_step.Statement.{statement}

@@ -1,4 +1,4 @@
--- `steps::step_from` meets its contract. Assumes nothing.
+-- `steps::step_from`: moves that are refused stop it (step-stops); else the rounding of what they left is the step (held-goes), with memory still at its zone (at-again).
 use borrow.Author.Needs.{needs}
 use Rattle.steps.proofs.Asked.{at-again, step-stops}
 use Rattle.steps.proofs.Steps.{held-goes}

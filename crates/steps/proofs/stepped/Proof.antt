@@ -1,4 +1,4 @@
--- `steps::stepped` meets its contract. Assumes nothing.
+-- `steps::stepped`: the chain copied to scratch stands there in its own room (came-own).
 use borrow.Author.Needs.{needs}
 use Rattle.steps.proofs.Taken.{placed-own, came-own}
 use Rattle.steps.proofs.stepped.Statement.{statement}

@@ -1,4 +1,4 @@
--- `steps::steps_in` meets its contract. Assumes nothing.
+-- `steps::steps_in`: the invariant (Going): what is left of all steps is those to come, from the chain that stands now; a step on the way or the last one ends it (going-stops, going-ends).
 use borrow.Author.Needs.{needs}
 use mathlib.Core.Path.{_≡_, refl, _∙_}
 use Rattle.steps.proofs.Evolves.{Going, going-first, going-more, going-stops, going-ends, going-placed, ready-on}

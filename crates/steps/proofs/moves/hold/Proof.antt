@@ -1,4 +1,4 @@
--- `steps::moves::hold` meets its contract. Assumes nothing.
+-- `steps::moves::hold`: a part copied to the front, the rest as it was (held-front).
 use borrow.Author.Needs.{needs}
 use Rattle.steps.proofs.Fronts.{held-front}
 use Rattle.steps.proofs.moves.hold.Statement.{statement}

@@ -1,4 +1,4 @@
--- `steps::moves::scale_from` meets its contract. Assumes nothing.
+-- `steps::moves::scale_from`: from a later zone on nothing is scaled (none-scaled); from core 0 on it alone is (first-scaled), and the rest stays (stand-others).
 use borrow.Author.Needs.{needs}
 use Rattle.steps.proofs.Standings.{stand-end, stand-others, stand-scaled}
 use Rattle.steps.proofs.Scalings.{onward-none, none-scaled, first-scaled}

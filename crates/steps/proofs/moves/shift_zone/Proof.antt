@@ -1,4 +1,4 @@
--- `steps::moves::shift_zone` meets its contract. Assumes nothing.
+-- `steps::moves::shift_zone`: room holds the core (stand-held), its shift goes back to its place (stand-shifted), and no other zone is touched (stand-others).
 use borrow.Author.Needs.{needs}
 use Rattle.steps.proofs.Standings.{stands-below, stand-end, stand-small, stand-held, stand-lent, stand-reaches, stand-others, stand-shifted}
 use native.Mathlib.Omega.{arith}
@@ -31,7 +31,10 @@ move-back-requires c κs =
     let at-11 = at-8 .before .before .before in
     let at-12 = at-11 .before in
     let at-17 = at-12 .before .before .before .before .before in (
-      (omega (arith, stand-small _ _ _ (at-17 .pre .0 .0) _ (at-17 .pre .1 .0) _ _ (at-12 .core-size .ensures) (at-11 .offset .ensures), at-17 .pre .0 .1 .core, at-8 .hold .kept .1 .1 .1 .0), stand-end _ _ _ (at-17 .pre .0 .0) _ (at-17 .pre .1 .0) _ _ (at-12 .core-size .ensures) (at-11 .offset .ensures)),
+      (
+        omega (arith, stand-small _ _ _ (at-17 .pre .0 .0) _ (at-17 .pre .1 .0) _ _ (at-12 .core-size .ensures) (at-11 .offset .ensures), at-17 .pre .0 .1 .core, at-8 .hold .kept .1 .1 .1 .0),
+        stand-end _ _ _ (at-17 .pre .0 .0) _ (at-17 .pre .1 .0) _ _ (at-12 .core-size .ensures) (at-11 .offset .ensures),
+      ),
       (
         stand-lent _ _ _ (at-17 .pre .0 .0) _ (at-17 .pre .1 .0) _ _ (at-12 .core-size .ensures) (at-11 .offset .ensures) _ _ (at-8 .hold .ensures) _ _
             (at-17 .pre .0 .1),
