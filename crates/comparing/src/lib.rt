@@ -32,10 +32,7 @@ fn same_bond(a: cutform::Bond, b: cutform::Bond) -> bool
     (a.rank == b.rank) & (a.sweeps == b.sweeps) & (a.settled == b.settled)
 }
 
-fn same_bonds(
-    a: [cutform::Bond; shape::MOST_AXES],
-    b: [cutform::Bond; shape::MOST_AXES],
-) -> bool
+fn same_bonds(a: [cutform::Bond; shape::MOST_AXES], b: [cutform::Bond; shape::MOST_AXES]) -> bool
     ensures { λ r. ⌜ Tells r (a ≡ b) ⌝ }
 {
     let mut k = 0;
