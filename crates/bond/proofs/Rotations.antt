@@ -49,6 +49,9 @@ module _ (n p q : ℕ) (g v : List Float) (b : Bool) (eb : b ≡ skipped n g p q
   unfolding rotate pick staged
   rotate-skip h = let t : skipped n g p q ≡ true = sym eb ∙ h in rw t
 
-  pub rotate-go : b ≡ false → (x t c : Float) → x ≡ slopeOf (cell n g p p) (cell n g q q) (cell n g p q) → t ≡ tangentOf x → c ≡ cosineOf t → (r : Stage) (e : Eig) → turned n p q c (times t c) (eig g v) ≡ staged r e → rotate n p q (eig g v) ≡ staged r e
+  pub rotate-go : b ≡ false → (x t c : Float)
+      → x ≡ slopeOf (cell n g p p) (cell n g q q) (cell n g p q) → t ≡ tangentOf x → c ≡ cosineOf t
+      → (r : Stage) (e : Eig) → turned n p q c (times t c) (eig g v) ≡ staged r e
+      → rotate n p q (eig g v) ≡ staged r e
   unfolding rotate pick
   rotate-go h x t c ex et ec r e d = let f : skipped n g p q ≡ false = sym eb ∙ h in rw (f, ← ex, ← et, ← ec) d

@@ -176,7 +176,9 @@ pub fn factor(
 ) -> answers::Stage
     requires { ⌜ (length (now core) ≡ rl * n * rr) × (1 ≤ rr) × (rr * rr ≤ length (now v)) × (rr ≤ length (now js)) × Columns rr (take rr (now js)) r
         × (rr ≤ length (now ss)) × (r ≤ rr) × (rr * rr ≤ length (now g)) × (rr * rr ≤ length (now carry)) × (length (now core) ≤ length (now room)) ⌝ }
-    ensures { λ s. ⌜ factorsOf (coreWith rl n rr (now (core .entry))) r (take rr (now (ss .entry))) (take rr (now (js .entry))) (take (rr * rr) (now (v .entry))) ≡ staged s (record { left = take (rl * n * r) (now (core .exit)); carry = take (r * rr) (now (carry .exit)) }) ⌝ }
+    ensures { λ s. ⌜ factorsOf (coreWith rl n rr (now (core .entry))) r (take rr (now (ss .entry))) (take rr (now (js .entry)))
+        (take (rr * rr) (now (v .entry)))
+        ≡ staged s (record { left = take (rl * n * r) (now (core .exit)); carry = take (r * rr) (now (carry .exit)) }) ⌝ }
 {
     let e = rr * rr;
     let m = rr * r;

@@ -46,7 +46,11 @@ module _ (n : ℕ) (f : ℕ → ℕ) where
       let j : n - length (tab (suc k) f) ≡ n - suc k = omega arith in
       ap (λ (l : List ℕ). set l k x) (e ∙ fit-whole 0 n (tab k f) (omega arith) ∙ ap (λ (i : ℕ). tab k f ++ replicate i 0) m)
       ∙ set-at (tab k f) 0 (replicate (n - suc k) 0) x k a
-      ∙ rw (g, add-one) (sym (fit-whole 0 n (tab (suc k) f) (omega arith) ∙ ap (λ (i : ℕ). tab (suc k) f ++ replicate i 0) j ∙ ap (λ (l : List ℕ). l ++ replicate (n - suc k) 0) (tab-more k f) ∙ append-assoc (tab k f) (f k ∷ []) (replicate (n - suc k) 0)))
+      ∙ rw (g, add-one)
+      (sym (fit-whole 0 n (tab (suc k) f) (omega arith)
+      ∙ ap (λ (i : ℕ). tab (suc k) f ++ replicate i 0) j
+      ∙ ap (λ (l : List ℕ). l ++ replicate (n - suc k) 0) (tab-more k f)
+      ∙ append-assoc (tab k f) (f k ∷ []) (replicate (n - suc k) 0)))
 
   pub fit-done : (k d : ℕ) (u : List ℕ) → u ≡ fit 0 n (tab k f) → k ≤ d → d ≤ k → u ≡ fit 0 n (tab d f)
   fit-done k d u e a b = let z : k ≡ d = omega arith in e ∙ ap (λ (i : ℕ). fit 0 n (tab i f)) z

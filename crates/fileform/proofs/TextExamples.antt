@@ -17,7 +17,9 @@ use Rattle.fileform.specs.Reading.{readCall, readExit, reading, readCont
 use Rattle.fileform.specs.Text.{digitsIn, digitsOf, field, headline, axisLine, chainText, refusedText, readText, listingOf}
 
 listed-as : List ℕ → List ℕ
-unfolding listingOf readText chainText refusedText headline axisLine field digitsOf digitsIn pick listed flat readCall readExit reading readContents readHeader readTable tableOk shapeWith shapeIn entryOk turning shapeOk demand demandEach sizeOk bondOk coreSize offset fileLength bodyStart lengthsOk readNumbers numbersIn numbersFrom numberAt ofBits numbersOk slot allFinite fit
+unfolding listingOf readText chainText refusedText headline axisLine field digitsOf digitsIn pick listed flat readCall readExit reading readContents readHeader
+    readTable tableOk shapeWith shapeIn entryOk turning shapeOk demand demandEach sizeOk bondOk coreSize offset fileLength bodyStart lengthsOk readNumbers
+    numbersIn numbersFrom numberAt ofBits numbersOk slot allFinite fit
 listed-as bytes = listingOf bytes
 
 -- (1, 4, 1) holding 4, 8, 16, 0: "axes 1 entries 4", then "0 1 4 1 20"

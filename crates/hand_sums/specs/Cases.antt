@@ -108,12 +108,16 @@ cases =
     -- the floor, the integer s0 that the shift takes for it, and t
     ∷ case 5 (bits (floorOf P5-ratio ∷ []) ++ (integer (wholeParts P5-ratio) ++ bits (fractionOf P5-ratio ∷ [])))
     (bits (fin true 1 (pos 0) ∷ []) ++ (1 ∷ 1 ∷ bits (one64 ∷ [])))
-    ∷ case 7 (endedBits 1 (stepCall P7-settings P7-shape (P7-axis ∷ []) (power 1 (pos 2) ∷ power 1 (pos 3) ∷ power 1 (pos 4) ∷ zero64 ∷ []) (zeros (scratchFor 4)))) (1 ∷ 0 ∷ bits (power 1 (pos 2) ∷ whole 9 ∷ power 5 (pos 1) ∷ whole 5 ∷ []))
+    ∷ case 7 (endedBits 1 (stepCall P7-settings P7-shape (P7-axis ∷ [])
+    (power 1 (pos 2) ∷ power 1 (pos 3) ∷ power 1 (pos 4) ∷ zero64 ∷ [])
+    (zeros (scratchFor 4))))
+    (1 ∷ 0 ∷ bits (power 1 (pos 2) ∷ whole 9 ∷ power 5 (pos 1) ∷ whole 5 ∷ []))
     ∷ case 8 (rounded D-shape zero64 D) (2 ∷ 1 ∷ 0 ∷ 0 ∷ bits (zero64 ∷ one64 ∷ one64 ∷ zero64 ∷ power 1 (pos 2) ∷ whole 3 ∷ []))
     -- the shape stays, of rank 2
     ∷ case 9 (shapeRounded D-shape half64 D) (2 ∷ 1 ∷ 2 ∷ 2 ∷ 1 ∷ 2 ∷ 1 ∷ [])
     ∷ case 10 (rounded D-shape (power 3 (negsuc 1)) D) (1 ∷ 1 ∷ 0 ∷ 0 ∷ bits (zero64 ∷ one64 ∷ power 1 (pos 2) ∷ zero64 ∷ zero64 ∷ zero64 ∷ []))
-    ∷ case 12 (take 6 (rounded (two-cores 1 2 1) zero64 (power 1 (negsuc 26) ∷ power 1 (negsuc 26) ∷ one64 ∷ one64 ∷ []))) (2 ∷ 1 ∷ 0 ∷ 0 ∷ bits (one64 ∷ one64 ∷ []))
+    ∷ case 12 (take 6 (rounded (two-cores 1 2 1) zero64 (power 1 (negsuc 26) ∷ power 1 (negsuc 26) ∷ one64 ∷ one64 ∷ [])))
+    (2 ∷ 1 ∷ 0 ∷ 0 ∷ bits (one64 ∷ one64 ∷ []))
     ∷ case 13 (rounded (two-cores 1 1 1) zero64 (power 1 (negsuc 103) ∷ one64 ∷ [])) (1 ∷ 1 ∷ 0 ∷ 0 ∷ bits (zero64 ∷ power 1 (negsuc 103) ∷ []))
     ∷ case 14 (figureBits (innerCall D-shape D weights) ++ figureBits (innerCall D-shape D-rounded weights)) (bits (whole 11 ∷ whole 11 ∷ []))
     ∷ []

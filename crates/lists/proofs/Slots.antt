@@ -147,7 +147,10 @@ module _ {A : Type 0} where
         let t : length (take z p) ≡ z = length-take-le z p (omega arith) in
         let H : length (laid size o 0 (take z p)) ≡ offset size z = let a = laid-length size o 0 (take z p) in let b : offset size (0 + length (take z p)) ≡ offset size z = ap (offset size) (zero-add (length (take z p)) ∙ t) in omega arith in
         let S : P ≡ laid size o 0 (take z p) ++ laid size o (0 + length (take z p)) (drop z p) = ap (laid size o 0) (sym (take-append-drop z p)) ∙ laid-append size o 0 (take z p) (drop z p) in
-        let a : take (offset size z) (P ++ X) ≡ laid size o 0 (take z p) = take-append-le (offset size z) P X (omega arith) ∙ ap (take (offset size z)) S ∙ take-at (laid size o 0 (take z p)) (laid size o (0 + length (take z p)) (drop z p)) (offset size z) H in
+        let a : take (offset size z) (P ++ X) ≡ laid size o 0 (take z p) =
+        take-append-le (offset size z) P X (omega arith)
+        ∙ ap (take (offset size z)) S
+        ∙ take-at (laid size o 0 (take z p)) (laid size o (0 + length (take z p)) (drop z p)) (offset size z) H in
         let b : drop (offset size d) (P ++ X) ≡ X = drop-at P X (offset size d) L in
         let c : laid size o 0 (take z p ++ q) ≡ laid size o 0 (take z p) ++ laid size o z q = laid-append size o 0 (take z p) q ∙ ap (λ (j : ℕ). laid size o 0 (take z p) ++ laid size o j q) (zero-add (length (take z p)) ∙ t) in
         ap (λ (y : List A). y ++ (laid size o z q ++ drop (offset size d) (P ++ X))) a

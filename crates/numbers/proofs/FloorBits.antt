@@ -1,7 +1,9 @@
 -- `whole_bits` and `floor`, case by case. Assumes nothing.
 use mathlib.Core.Path.{_≡_, refl, sym, ap, _∙_, subst}
 use Prim.Native.Nat.{ℕ, zero, suc, _+_, _-_, _*_, _/_, _%_, _^_, _≤_, _<_, zero-le}
-use native.Mathlib.Nat.{le-trans, le-of-eq, le-of-lt, lt-of-lt-of-le, lt-of-le-of-lt, lt-of-not-le, mul-one, mul-assoc, mul-comm, mul-right-comm, add-mul, add-comm, mul-le-mul-right, mul-lt-mul-of-pos-right, mod-eq-of-lt, mod-lt, div-add-mod', add-mul-div-right, eq-of-mul-eq-mul-right, one-mul, eq-or-lt-of-le, not-suc-le-zero, pow-suc, div-mul-le-self, suc-mul, add-assoc}
+use native.Mathlib.Nat.{le-trans, le-of-eq, le-of-lt, lt-of-lt-of-le, lt-of-le-of-lt, lt-of-not-le, mul-one, mul-assoc, mul-comm, mul-right-comm, add-mul}
+use native.Mathlib.Nat.{add-comm, mul-le-mul-right, mul-lt-mul-of-pos-right, mod-eq-of-lt, mod-lt, div-add-mod', add-mul-div-right, eq-of-mul-eq-mul-right}
+use native.Mathlib.Nat.{one-mul, eq-or-lt-of-le, not-suc-le-zero, pow-suc, div-mul-le-self, suc-mul, add-assoc}
 use native.Mathlib.Decide.{decLe}
 use native.Mathlib.Omega.{arith}
 use mathlib.Core.Logic.{_⊎_, inl, inr}

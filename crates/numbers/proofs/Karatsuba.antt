@@ -1,7 +1,8 @@
 -- One step of the whole root by a division: from the root of n, that of n with two more digits of k bits. Assumes nothing.
 use mathlib.Core.Path.{_≡_, sym, ap, _∙_}
 use Prim.Native.Nat.{ℕ, zero, suc, _+_, _-_, _*_, _/_, _%_, _^_, _≤_, _<_}
-use native.Mathlib.Nat.{le-trans, le-of-eq, le-of-suc-le-suc, lt-irrefl, lt-of-le-of-lt, mul-assoc, mul-comm, mul-left-comm, mul-mul-mul-comm, mul-add, add-mul, suc-mul, mul-le-mul, mul-le-mul-right, mod-lt, mod-eq-of-lt, div-add-mod', div-lt-iff-lt-mul}
+use native.Mathlib.Nat.{le-trans, le-of-eq, le-of-suc-le-suc, lt-irrefl, lt-of-le-of-lt, mul-assoc, mul-comm, mul-left-comm, mul-mul-mul-comm, mul-add, add-mul}
+use native.Mathlib.Nat.{suc-mul, mul-le-mul, mul-le-mul-right, mod-lt, mod-eq-of-lt, div-add-mod', div-lt-iff-lt-mul}
 use native.Mathlib.Omega.{arith}
 use lib.Bits.{bitOr}
 use lib.Pow.{pow-mono}

@@ -64,7 +64,9 @@ pub signed-value : (b : ℕ) → b % 2 ^ 63 < 0x7ff0_0000_0000_0000 → HasValue
 unfolding ofBits
 signed-value b h =
     let t : b % 2 ^ 52 ≡ b % 2 ^ 63 % 2 ^ 52 = omega arith in
-    subst (λ (v : Float). HasValue v (leb (2 ^ 63) b) (unitsOf (b % 2 ^ 63)) (2 ^ 1074)) (sym (ap (λ (y : ℕ). ofFields binary64 (leb (2 ^ 63) b) (b % 2 ^ 63 / 2 ^ 52) y) t)) (fields-value (leb (2 ^ 63) b) (b % 2 ^ 63 / 2 ^ 52) (b % 2 ^ 63 % 2 ^ 52) (omega arith))
+    subst (λ (v : Float). HasValue v (leb (2 ^ 63) b) (unitsOf (b % 2 ^ 63)) (2 ^ 1074))
+    (sym (ap (λ (y : ℕ). ofFields binary64 (leb (2 ^ 63) b) (b % 2 ^ 63 / 2 ^ 52) y) t))
+    (fields-value (leb (2 ^ 63) b) (b % 2 ^ 63 / 2 ^ 52) (b % 2 ^ 63 % 2 ^ 52) (omega arith))
 
 pub bits-value : (b : ℕ) → b < 0x7ff0_0000_0000_0000 → HasValue (ofBits binary64 b) false (unitsOf b) (2 ^ 1074)
 bits-value b h =

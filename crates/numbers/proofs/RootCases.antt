@@ -93,5 +93,8 @@ no-number : div binary64 (ofBits binary64 0) (ofBits binary64 0) ≡ nan
 unfolding div ofBits
 no-number = refl
 
-pub none-root : (x : Float) → T (fits binary64 x) → (toBits binary64 x ≡ 0x8000_0000_0000_0000 → ⊥) → (toBits binary64 x ≡ 0x7ff0_0000_0000_0000 → ⊥) → 0x7ff0_0000_0000_0000 ≤ toBits binary64 x → div binary64 (ofBits binary64 0) (ofBits binary64 0) ≡ rootOf x
+pub none-root : (x : Float) → T (fits binary64 x)
+    → (toBits binary64 x ≡ 0x8000_0000_0000_0000 → ⊥) → (toBits binary64 x ≡ 0x7ff0_0000_0000_0000 → ⊥)
+    → 0x7ff0_0000_0000_0000 ≤ toBits binary64 x
+    → div binary64 (ofBits binary64 0) (ofBits binary64 0) ≡ rootOf x
 none-root x h a b c = no-number ∙ sym (none-bits (toBits binary64 x) (toBits-lt binary64 x h) a b c) ∙ ap rootOf (by-bits x (toBits binary64 x) h refl)

@@ -1,7 +1,8 @@
 -- A value that fits its format is settled by its sign and its size, and `round` gives it back. Assumes nothing.
 use mathlib.Core.Path.{_≡_, refl, sym, ap, _∙_}
 use Prim.Native.Nat.{ℕ, zero, suc, _+_, _-_, _*_, _/_, _%_, _^_, _≤_, _<_}
-use native.Mathlib.Nat.{le-of-eq, le-of-suc-le-suc, lt-of-lt-of-le, lt-of-le-of-lt, lt-of-not-le, not-le-of-lt, zero-lt-suc, zero-mul, mul-one, one-mul, mul-comm, mul-assoc, mul-right-comm, pow-succ', mul-lt-mul-of-pos-right, lt-of-mul-lt-mul-right, eq-of-mul-eq-mul-right}
+use native.Mathlib.Nat.{le-of-eq, le-of-suc-le-suc, lt-of-lt-of-le, lt-of-le-of-lt, lt-of-not-le, not-le-of-lt, zero-lt-suc, zero-mul, mul-one, one-mul}
+use native.Mathlib.Nat.{mul-comm, mul-assoc, mul-right-comm, pow-succ', mul-lt-mul-of-pos-right, lt-of-mul-lt-mul-right, eq-of-mul-eq-mul-right}
 use native.Mathlib.Omega.{arith}
 use mathlib.Core.Bool.{Bool, true, false, not, cond, _&&_}
 use lib.IntN.{ℤ, pos, negsuc}
@@ -36,7 +37,9 @@ value-unique f (inf t) y s a c C p q v w = absurd v
 value-unique f (fin t m e) nan s a c C p q v w = absurd w
 value-unique f (fin t m e) (inf u) s a c C p q v w = absurd w
 value-unique f (fin t m e) (fin u n d) s a c C p q v w =
-    let k : m * up e * 2 ^ low f / down e ≡ n * up d * 2 ^ low f / down d = div-same (m * up e * 2 ^ low f) (down e) (n * up d * 2 ^ low f) (down d) (down-pos e) (down-pos d) (cross (m * up e) (n * up d) a c (down e) (down d) (2 ^ low f) C (v .1) (w .1)) in
+    let k : m * up e * 2 ^ low f / down e ≡ n * up d * 2 ^ low f / down d =
+    div-same (m * up e * 2 ^ low f) (down e) (n * up d * 2 ^ low f) (down d) (down-pos e) (down-pos d)
+    (cross (m * up e) (n * up d) a c (down e) (down d) (2 ^ low f) C (v .1) (w .1)) in
     sym (ofBits-toBits f (fin t m e) p)
     ∙ ap (ofBits f) (toBits-is f t m e ∙ ap (λ (b : Bool). bitsOf f b (m * up e * 2 ^ low f / down e)) (v .0 ∙ sym (w .0)) ∙ ap (bitsOf f u) k ∙ sym (toBits-is f u n d))
     ∙ ofBits-toBits f (fin u n d) q

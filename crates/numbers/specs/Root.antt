@@ -37,7 +37,8 @@ unfoldable pub wholeRoot : ℕ → ℕ
 unfolding rootIn size
 wholeRoot n = rootIn (size n) n
 
--- The root of n units, which in units is that of N = n * 2 ^ 1074. An even number of digits of N, 2 * j, is left away, so that the whole root of the rest has 54 digits,
+-- The root of n units, which in units is that of N = n * 2 ^ 1074. An even number of digits of N, 2 * j, is left away,
+-- so that the whole root of the rest has 54 digits,
 -- one more than an f64 keeps. That last digit says which way to round.
 unfoldable pub rootOfUnits : ℕ → Float
 unfolding size wholeRoot odd

@@ -95,6 +95,9 @@ module _ (l r : Core) (eps : Float) (leftOut rightOut scratch : List Float) wher
   unfolding pairCall pairBy
   accepted v = go (pairOk l r eps (length leftOut) (length rightOut) (length scratch) then pairOf eps l r) refl v
     where
-      go : (o : Answer Halves) → (pairOk l r eps (length leftOut) (length rightOut) (length scratch) then pairOf eps l r) ≡ o → pairBy leftOut rightOut scratch o .result .verdict ≡ Fits → Accepted l r eps leftOut rightOut scratch (pairBy leftOut rightOut scratch o)
+      go : (o : Answer Halves)
+          → (pairOk l r eps (length leftOut) (length rightOut) (length scratch) then pairOf eps l r) ≡ o
+          → pairBy leftOut rightOut scratch o .result .verdict ≡ Fits
+          → Accepted l r eps leftOut rightOut scratch (pairBy leftOut rightOut scratch o)
       go (done h) e v = by-accepted h e
       go (refused q) e v = let z : _≡_ {A = ℕ} 0 1 = cc in let n : ⊥ = omega arith in absurd n

@@ -71,7 +71,10 @@ module _ (lefts rights scratch : List Float) (T : Answer Halves) (v : Verdict) w
   unfolding pairBy answered
   ended-refused h e q f w g = let z : T ≡ refused q = e ∙ rw f in (rw z g, rw z, rw z)
 
-  pub ended-made : (a b c d k p : ℕ) (x y : List Float) → T ≡ answered v (record { left = coreWith a b k x; right = coreWith k c d y; passes = p }) → v ≡ Fits → (w : Paired) (x' y' : List Float) → w ≡ record { verdict = Fits; rank = k; passes = p } → x' ≡ fit zero64 (length lefts) x → y' ≡ fit zero64 (length rights) y → (w ≡ ends .result) × (x' ≡ ends .left) × (y' ≡ ends .right)
+  pub ended-made : (a b c d k p : ℕ) (x y : List Float)
+      → T ≡ answered v (record { left = coreWith a b k x; right = coreWith k c d y; passes = p })
+      → v ≡ Fits → (w : Paired) (x' y' : List Float) → w ≡ record { verdict = Fits; rank = k; passes = p } → x' ≡ fit zero64 (length lefts) x → y' ≡ fit zero64 (length rights) y
+      → (w ≡ ends .result) × (x' ≡ ends .left) × (y' ≡ ends .right)
   unfolding pairBy answered
   ended-made a b c d k p x y e f w x' y' g ex ey = let z : T ≡ done (record { left = coreWith a b k x; right = coreWith k c d y; passes = p }) = e ∙ rw f in (rw z g, rw z ex, rw z ey)
 
@@ -110,7 +113,10 @@ scratch-cleared eps l r scratch = go (pairOf eps l r) (work-late eps l r)
     go (done h) e = refl
     go (refused q) e = rw (e q refl)
 
-ended-cleared : (lefts rights scratch : List Float) (o : Answer Halves) → scratchAfter scratch o ≡ replicate (length scratch) zero64 → record { result = pairBy lefts rights scratch o .result; left = pairBy lefts rights scratch o .left; right = pairBy lefts rights scratch o .right; scratch = replicate (length scratch) zero64 } ≡ pairBy lefts rights scratch o
+ended-cleared : (lefts rights scratch : List Float) (o : Answer Halves)
+    → scratchAfter scratch o ≡ replicate (length scratch) zero64
+    → record { result = pairBy lefts rights scratch o .result; left = pairBy lefts rights scratch o .left; right = pairBy lefts rights scratch o .right; scratch = replicate (length scratch) zero64 }
+    ≡ pairBy lefts rights scratch o
 unfolding pairBy
 ended-cleared lefts rights scratch (done h) s = rw (← s)
 ended-cleared lefts rights scratch (refused q) s = rw (← s)
@@ -131,6 +137,9 @@ module _ (l r : Core) (eps : Float) (lefts rights scratch : List Float) (v : Ver
     pub call-ready : pairOk l r eps (length lefts) (length rights) (length scratch) ≡ done tt
     call-ready = verdict-passed (pairOk l r eps (length lefts) (length rights) (length scratch)) v e h
 
-    pub call-made : (w : Paired) (x y z : List Float) (k : ℕ) → (w ≡ pairBy lefts rights scratch (pairOf eps l r) .result) × (x ≡ pairBy lefts rights scratch (pairOf eps l r) .left) × (y ≡ pairBy lefts rights scratch (pairOf eps l r) .right) → k ≡ length scratch → z ≡ replicate k zero64 → record { result = w; left = x; right = y; scratch = z } ≡ call
+    pub call-made : (w : Paired) (x y z : List Float) (k : ℕ)
+        → (w ≡ pairBy lefts rights scratch (pairOf eps l r) .result) × (x ≡ pairBy lefts rights scratch (pairOf eps l r) .left) × (y ≡ pairBy lefts rights scratch (pairOf eps l r) .right)
+        → k ≡ length scratch → z ≡ replicate k zero64
+        → record { result = w; left = x; right = y; scratch = z } ≡ call
     unfolding pairCall
     call-made w x y z k (ew, ex, ey) ek ez = rw (call-ready, ew, ex, ey, ez, ek) (ended-cleared lefts rights scratch (pairOf eps l r) (scratch-cleared eps l r scratch))

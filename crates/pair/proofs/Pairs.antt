@@ -53,7 +53,9 @@ unfolding rightNumbers rightRows
 right-rows r nk rr js v = block-lines r nk rr _ (λ (k i : ℕ). cell (nk * rr) v (getD js k 0) i) (λ il im ir i j k. refl)
 
 -- two stages that make one part are one stage
-two-stages : {Y Z D R : Type 0} (part : Part) (k : ℕ) (b : Made Y) (f : Y → Made Z) (both : Y → Z → D) (K : D → Answer R) → bind (making part k b) (λ y. bind (making part k (f y)) (λ z. K (both y z))) ≡ bind (making part k (bind b (λ y. bind (f y) (λ z. done (both y z))))) K
+two-stages : {Y Z D R : Type 0} (part : Part) (k : ℕ) (b : Made Y) (f : Y → Made Z) (both : Y → Z → D) (K : D → Answer R)
+    → bind (making part k b) (λ y. bind (making part k (f y)) (λ z. K (both y z)))
+    ≡ bind (making part k (bind b (λ y. bind (f y) (λ z. done (both y z))))) K
 two-stages {Y} {Z} {D} {R} part k (done y) f both K = last (f y)
   where
     last : (o : Made Z) → bind (making part k o) (λ z. K (both y z)) ≡ bind (making part k (bind o (λ z. done (both y z)))) K
@@ -70,7 +72,9 @@ module _ (rl nj nk rr : ℕ) where
   unfolding formed formedFrom
   formed-flat r ss js w = rw (left-rows rl nj r ss js (w .svd .columns), right-rows r nk rr js (w .svd .basis)) (go (stored (leftRows (rl * nj) r ss js (w .svd .columns))) (stored (rightRows (nk * rr) r js (w .svd .basis))))
     where
-      go : (x y : Made (List Float)) → bind (making Factor 0 x) (λ l. bind (making Factor 1 y) (λ z. done (cored (parted r (w .count) (record { left = l; right = z }))))) ≡ bind (bind (making Factor 0 x) (λ l. bind (making Factor 1 y) (λ z. done (record { left = l; right = z })))) (λ h. done (cored (parted r (w .count) h)))
+      go : (x y : Made (List Float))
+          → bind (making Factor 0 x) (λ l. bind (making Factor 1 y) (λ z. done (cored (parted r (w .count) (record { left = l; right = z })))))
+          ≡ bind (bind (making Factor 0 x) (λ l. bind (making Factor 1 y) (λ z. done (record { left = l; right = z })))) (λ h. done (cored (parted r (w .count) h)))
       go (done l) (done z) = refl
       go (done l) (refused i) = refl
       go (refused i) y = refl
@@ -83,7 +87,9 @@ module _ (rl nj nk rr : ℕ) where
       told r (done h) = refl
       told r (refused q) = refl
 
-      go : (r : ℕ) (ss : List Float) (js : List ℕ) (d : Check) → d then formed rl nj nk rr r ss js w ≡ bind (d then bind (formedFrom (rl * nj) (nk * rr) r ss js (w .svd .columns) (w .svd .basis)) (λ h. done (parted r (w .count) h))) (λ p. done (cored p))
+      go : (r : ℕ) (ss : List Float) (js : List ℕ) (d : Check)
+          → d then formed rl nj nk rr r ss js w
+          ≡ bind (d then bind (formedFrom (rl * nj) (nk * rr) r ss js (w .svd .columns) (w .svd .basis)) (λ h. done (parted r (w .count) h))) (λ p. done (cored p))
       go r ss js (done u) = formed-flat r ss js w ∙ told r (formedFrom (rl * nj) (nk * rr) r ss js (w .svd .columns) (w .svd .basis))
       go r ss js (refused q) = refl
 
@@ -111,7 +117,9 @@ module _ (eps : Float) (l r : Core) where
   unfolding pairOf slabColumns slabAt
   pair-stages = rw (slab-flat l r) (go (stored _))
     where
-      go : (o : Made (List Float)) → bind (making Entry 0 o) (λ s. split eps (l .rl) (l .n) (r .n) (r .rr) s) ≡ bind (making Entry 0 (bind o (λ s. done (columnsOf (l .rl * l .n) (r .n * r .rr) s)))) (λ a. bind (splitFrom eps (l .rl * l .n) (r .n * r .rr) a) (λ p. done (halved p)))
+      go : (o : Made (List Float))
+          → bind (making Entry 0 o) (λ s. split eps (l .rl) (l .n) (r .n) (r .rr) s)
+          ≡ bind (making Entry 0 (bind o (λ s. done (columnsOf (l .rl * l .n) (r .n * r .rr) s)))) (λ a. bind (splitFrom eps (l .rl * l .n) (r .n * r .rr) a) (λ p. done (halved p)))
       go (done s) = split-flat (l .rl) (l .n) (r .n) (r .rr) eps s
       go (refused i) = refl
 

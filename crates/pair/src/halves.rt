@@ -23,7 +23,8 @@ fn left_row(
 )
     requires { ⌜ (length (now a) ≡ n * m) × (r ≤ length (now js)) × Columns n (now js) r × (r ≤ length (now ss)) × (row < m) × (m * r ≤ length (now out)) ⌝ }
     ensures { λ _. ⌜ now (out .exit)
-        ≡ storedFrom (row * r) r (λ (k : ℕ). times (times (cell m (now (a .entry)) (getD (now (js .entry)) k 0) row) (inverse (at (now (ss .entry)) k))) (at (now (ss .entry)) k)) (now (out .entry)) ⌝ }
+        ≡ storedFrom (row * r) r (λ (k : ℕ). times
+        (times (cell m (now (a .entry)) (getD (now (js .entry)) k 0) row) (inverse (at (now (ss .entry)) k))) (at (now (ss .entry)) k)) (now (out .entry)) ⌝ }
 {
     for k in 0..r {
         let col = js[k];

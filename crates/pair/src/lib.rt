@@ -33,7 +33,11 @@ fn pair_of(
     requires { ⌜ Lines (l .rl * l .n) (r .n * r .rr) × (length (now left) ≡ l .rl * l .n * l .rr) × (length (now right) ≡ l .rr * (r .n * r .rr))
         × (length (now a) ≡ r .n * r .rr * (l .rl * l .n)) × (mostLines * mostRank ≤ length (now x)) × (mostRank * mostLines ≤ length (now y)) ⌝ }
     ensures { λ w. ⌜ pairOf eps (coreOf l (now (left .entry))) (coreOf r (now (right .entry)))
-        ≡ answered (w .verdict) (record { left = coreWith (l .rl) (l .n) (w .rank) (take (l .rl * l .n * w .rank) (now (x .exit))); right = coreWith (w .rank) (r .n) (r .rr) (take (w .rank * (r .n * r .rr)) (now (y .exit))); passes = w .passes }) ⌝ }
+        ≡ answered (w .verdict) (record {
+          left = coreWith (l .rl) (l .n) (w .rank) (take (l .rl * l .n * w .rank) (now (x .exit)));
+          right = coreWith (w .rank) (r .n) (r .rr) (take (w .rank * (r .n * r .rr)) (now (y .exit)));
+          passes = w .passes;
+        }) ⌝ }
 {
     let m = l.rl * l.n;
     let n = r.n * r.rr;
@@ -66,7 +70,12 @@ fn pair_within(
     scratch: &mut [f64],
 ) -> pairform::Paired
     requires { ⌜ pairOk (coreOf l (now left)) (coreOf r (now right)) eps (length (now lefts)) (length (now rights)) (length (now scratch)) ≡ done tt ⌝ }
-    ensures { λ w. ⌜ (w ≡ pairBy (now (lefts .entry)) (now (rights .entry)) (now (scratch .entry)) (pairOf eps (coreOf l (now (left .entry))) (coreOf r (now (right .entry)))) .result) × (now (lefts .exit) ≡ pairBy (now (lefts .entry)) (now (rights .entry)) (now (scratch .entry)) (pairOf eps (coreOf l (now (left .entry))) (coreOf r (now (right .entry)))) .left) × (now (rights .exit) ≡ pairBy (now (lefts .entry)) (now (rights .entry)) (now (scratch .entry)) (pairOf eps (coreOf l (now (left .entry))) (coreOf r (now (right .entry)))) .right) ⌝ }
+    ensures { λ w. ⌜ (w ≡ pairBy (now (lefts .entry)) (now (rights .entry)) (now (scratch .entry))
+        (pairOf eps (coreOf l (now (left .entry))) (coreOf r (now (right .entry)))) .result)
+        × (now (lefts .exit) ≡ pairBy (now (lefts .entry)) (now (rights .entry)) (now (scratch .entry))
+        (pairOf eps (coreOf l (now (left .entry))) (coreOf r (now (right .entry)))) .left)
+        × (now (rights .exit) ≡ pairBy (now (lefts .entry)) (now (rights .entry)) (now (scratch .entry))
+        (pairOf eps (coreOf l (now (left .entry))) (coreOf r (now (right .entry)))) .right) ⌝ }
 {
     let mut x = [0.0; shape::MOST_LINES * shape::MOST_RANK];
     let mut y = [0.0; shape::MOST_RANK * shape::MOST_LINES];

@@ -73,7 +73,8 @@ fn cut(
     requires { ⌜ Lines m n × (length (now a) ≡ n * m) × (length (now v) ≡ n * n) × (length (now sv) ≡ n) × (allFinite (now sv) ≡ true)
         × (mostLines * mostRank ≤ length (now x)) × (mostRank * mostLines ≤ length (now y)) ⌝ }
     ensures { λ w. ⌜ cutFrom eps m n (made count (svd (now (a .entry)) (now (v .entry)))) (now (sv .entry))
-        ≡ answered (w .verdict) (record { rank = w .rank; left = take (m * w .rank) (now (x .exit)); right = take (w .rank * n) (now (y .exit)); passes = w .passes }) ⌝ }
+        ≡ answered (w .verdict)
+        (record { rank = w .rank; left = take (m * w .rank) (now (x .exit)); right = take (w .rank * n) (now (y .exit)); passes = w .passes }) ⌝ }
 {
     let mut js = [0; shape::MOST_LINES];
     let mut ss = [0.0; shape::MOST_LINES];
@@ -97,7 +98,8 @@ pub fn split(
     requires { ⌜ Lines m n × (length (now a) ≡ n * m) × (allFinite (now a) ≡ true) × (mostLines * mostRank ≤ length (now x))
         × (mostRank * mostLines ≤ length (now y)) ⌝ }
     ensures { λ w. ⌜ splitFrom eps m n (now (a .entry))
-        ≡ answered (w .verdict) (record { rank = w .rank; left = take (m * w .rank) (now (x .exit)); right = take (w .rank * n) (now (y .exit)); passes = w .passes }) ⌝ }
+        ≡ answered (w .verdict)
+        (record { rank = w .rank; left = take (m * w .rank) (now (x .exit)); right = take (w .rank * n) (now (y .exit)); passes = w .passes }) ⌝ }
 {
     let mut v = [0.0; shape::MOST_LINES * shape::MOST_LINES];
     let mut sv = [0.0; shape::MOST_LINES];

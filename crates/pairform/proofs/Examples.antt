@@ -96,5 +96,8 @@ AllRight [] = Unit {0}
 AllRight (c ∷ cs) = (c .0 ≡ c .1) × AllRight cs
 
 by-hand : AllRight cases
-unfolding cases add sub mul div lt le eq ofBits toBits magnitudeOf rootIn wholeRoot rootOfUnits rootOf demand pick listed flat first count pairs fit along sumOn sumTo allFinite firstNotFinite stored place entry block tangentOf slopeOf cosineOf turnedAt eye placeIn indexAt order sorted thresholdOf keptRank notBelowZero scratchAfter plusProduct slabEntry slab turnStored turnedSvd dot skipped rotate pass passesFrom orthogonalized start values inverse leftNumbers rightNumbers formed cut split pairOf sizesOk coreNumbers leftRoom rightRoom pairSized pairLent pairFinite pairOk pairBy pairCall
+unfolding cases add sub mul div lt le eq ofBits toBits magnitudeOf rootIn wholeRoot rootOfUnits rootOf demand pick listed flat first count pairs fit along sumOn
+    sumTo allFinite firstNotFinite stored place entry block tangentOf slopeOf cosineOf turnedAt eye placeIn indexAt order sorted thresholdOf keptRank
+    notBelowZero scratchAfter plusProduct slabEntry slab turnStored turnedSvd dot skipped rotate pass passesFrom orthogonalized start values inverse leftNumbers
+    rightNumbers formed cut split pairOf sizesOk coreNumbers leftRoom rightRoom pairSized pairLent pairFinite pairOk pairBy pairCall
 by-hand = (refl, (refl, (refl, (refl, (refl, (refl, (refl, (refl, (refl, (refl, (refl, (refl, (refl, (refl, tt))))))))))))))

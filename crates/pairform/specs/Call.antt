@@ -85,4 +85,5 @@ pairBy leftOut rightOut scratch (refused r) = record {
 }
 
 unfoldable pub pairCall : Core → Core → Float → List Float → List Float → List Float → PairEnded
-pairCall l r eps leftOut rightOut scratch = pairBy leftOut rightOut scratch (pairOk l r eps (length leftOut) (length rightOut) (length scratch) then pairOf eps l r)
+pairCall l r eps leftOut rightOut scratch =
+    pairBy leftOut rightOut scratch (pairOk l r eps (length leftOut) (length rightOut) (length scratch) then pairOf eps l r)

@@ -55,7 +55,10 @@ module _ (m n p q : ℕ) (a v ss : List Float) (quiet : Bool) (es : ss ≡ squar
   unfolding rotate pick staged
   rotate-skip t = rw (test, t)
 
-  pub rotate-go : b ≡ false → (x t c : Float) → x ≡ slopeOf (at ss p) (at ss q) alpha → t ≡ tangentOf x → c ≡ cosineOf t → (r : Stage) (e : Svd) → turnedSvd m n p q c (times c t) (svd a v) ≡ staged r e → rotate m n p q (passed (svd a v) quiet) ≡ staged r (passed e false)
+  pub rotate-go : b ≡ false → (x t c : Float)
+      → x ≡ slopeOf (at ss p) (at ss q) alpha → t ≡ tangentOf x → c ≡ cosineOf t
+      → (r : Stage) (e : Svd) → turnedSvd m n p q c (times c t) (svd a v) ≡ staged r e
+      → rotate m n p q (passed (svd a v) quiet) ≡ staged r (passed e false)
   unfolding rotate pick
   rotate-go f x t c ex et ec r e d =
       let y : slopeOf (dot m a p p) (dot m a q q) (dot m a p q) ≡ x = sym (ex ∙ rw (el, low, high)) in

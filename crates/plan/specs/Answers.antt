@@ -20,10 +20,18 @@ freshEnd p = freshCall (p .run .shape) (p .run .axes) (p .run .set) (p .source) 
 
 -- a fresh run writes neither source nor weights
 unfoldable pub freshAnswer : Plan → FreshEnd → Answer
-freshAnswer p e = record { verdict = e .result .verdict; plan = record { run = e .result .run; source = p .source; weights = p .weights; chain = e .chain; carries = e .carries; sums = e .sums } }
+freshAnswer p e =
+    record {
+      verdict = e .result .verdict;
+      plan = record { run = e .result .run; source = p .source; weights = p .weights; chain = e .chain; carries = e .carries; sums = e .sums };
+    }
 
 unfoldable pub replaceAnswer : ReplaceEnd → Answer
-replaceAnswer e = record { verdict = e .result .verdict; plan = record { run = e .result .run; source = e .source; weights = e .weights; chain = e .chain; carries = e .carries; sums = e .sums } }
+replaceAnswer e =
+    record {
+      verdict = e .result .verdict;
+      plan = record { run = e .result .run; source = e .source; weights = e .weights; chain = e .chain; carries = e .carries; sums = e .sums };
+    }
 
 abbrev pub coreEnd : Plan → ℕ → List Float → ReplaceEnd
 coreEnd p z part = replaceCoreCall (p .run) z (p .source) (p .weights) (p .chain) (p .carries) (p .sums) part scratch

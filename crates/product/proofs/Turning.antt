@@ -90,7 +90,10 @@ module _ (s t : Shape) (I : Inside s t) (work weights : List Float) where
       opened o k m F =
           bind-assoc (bind o (λ e. done (e, tt))) (λ r. bind (walk sumAxis (suc k) (r .0) (listed m (suc k) pair)) (λ rs. done (r ∷ rs))) F
           ∙ bind-assoc o (λ e. done (e, tt)) (λ r. bind (bind (walk sumAxis (suc k) (r .0) (listed m (suc k) pair)) (λ rs. done (r ∷ rs))) F)
-          ∙ bind-cong o (λ e. bind (bind (walk sumAxis (suc k) e (listed m (suc k) pair)) (λ rs. done ((e, tt) ∷ rs))) F) (λ e. bind (walk sumAxis (suc k) e (listed m (suc k) pair)) (λ rs. F ((e, tt) ∷ rs))) (λ e _. bind-assoc (walk sumAxis (suc k) e (listed m (suc k) pair)) (λ rs. done ((e, tt) ∷ rs)) F)
+          ∙ bind-cong o
+          (λ e. bind (bind (walk sumAxis (suc k) e (listed m (suc k) pair)) (λ rs. done ((e, tt) ∷ rs))) F)
+          (λ e. bind (walk sumAxis (suc k) e (listed m (suc k) pair)) (λ rs. F ((e, tt) ∷ rs)))
+          (λ e _. bind-assoc (walk sumAxis (suc k) e (listed m (suc k) pair)) (λ rs. done ((e, tt) ∷ rs)) F)
 
   pub sums-turn : (z : ℕ) (sums : List Float) → z ≤ s .d → offset (sumSize s) (s .d) ≤ length sums → sumsFrom s t work weights z sums ≡ turning (s .d - z) z (sumTurn s t work weights) sums
   unfolding sumsFrom

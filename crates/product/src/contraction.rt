@@ -64,7 +64,8 @@ fn strip(core: &[f64], rr: usize, f: &[f64], eta: &[f64], j: usize, h: usize, ou
 pub fn contract_step(core: &[f64], rr: usize, f: &[f64], eta: &[f64], out: &mut [f64])
     requires { ⌜ (length (now eta) * (length (now f) * rr) ≤ length (now core)) × (rr ≤ length (now out)) × (1 ≤ length (now eta)) × (1 ≤ length (now f)) ⌝ }
     ensures { λ _. ⌜ now (out .exit)
-        ≡ contract (coreWith (length (now (eta .entry))) (length (now (f .entry))) rr (now (core .entry))) (now (f .entry)) (now (eta .entry)) ++ drop rr (now (out .entry)) ⌝ }
+        ≡ contract (coreWith (length (now (eta .entry))) (length (now (f .entry))) rr (now (core .entry)))
+        (now (f .entry)) (now (eta .entry)) ++ drop rr (now (out .entry)) ⌝ }
 {
     let mut j = 0;
     while j + lists::STRIP <= rr {

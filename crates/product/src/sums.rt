@@ -53,7 +53,8 @@ fn axis_sums(
     eta: &mut [f64],
 ) -> answers::Stage
     requires { ⌜ (k < s .d) × (mostRank ≤ length (now eta)) × SumsStand s t (now work) (now weights) ⌝ }
-    ensures { λ r. ⌜ stored (contract (standing s t (now (work .entry)) k) (pointsAt s (now (weights .entry)) k) (take (leftOf t k) (now (eta .entry)))) ≡ staged r (take (rightOf t k) (now (eta .exit))) ⌝ }
+    ensures { λ r. ⌜ stored (contract (standing s t (now (work .entry)) k) (pointsAt s (now (weights .entry)) k) (take (leftOf t k) (now (eta .entry))))
+        ≡ staged r (take (rightOf t k) (now (eta .exit))) ⌝ }
 {
     let at = s.offset(k);
     let end = at + t.core_size(k);

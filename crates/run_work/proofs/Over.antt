@@ -23,6 +23,7 @@ use Rattle.shape.specs.declared.Shape.{Shape}
 use Rattle.shape.specs.Shapes.{leftOf, pointsOf, rightOf, coreSize, entriesOf}
 use Rattle.shape.specs.Cores.{Core, coreWith, coreAt, pointsAt}
 use Rattle.shape.proofs.Shaped.{Shaped}
+use Rattle.cutform.specs.declared.Bond.{Bond}
 use Rattle.cutform.specs.Rounding.{Carry, some, Cut, numbersIn}
 use Rattle.cutform.specs.Keeping.{Stepped, carrySize, rankAt, keepStep}
 use Rattle.sumform.specs.Sums.{sumSize}
@@ -70,9 +71,10 @@ answered-by (refused r) g f Fits y z e h = absurd (done-refused (sym e))
 answered-by (refused r) g f (Refused q) y z e h = ap refused (refused-inj e)
 
 -- a run by its parts
-run-same : {i : Inputs} {a a' b b' : List ℕ} {c c' : List Bool} {d d' e e' f f' : List Float} {g g' : Float} → a ≡ a' → b ≡ b' → c ≡ c' → d ≡ d' → e ≡ e' → f ≡ f' → g ≡ g'
-    → running i (record { ranks = a; sweeps = b; settled = c; chain = d; carries = e }) (record { sums = f; figure = g }) ≡ running i (record { ranks = a'; sweeps = b'; settled = c'; chain = d'; carries = e' }) (record { sums = f'; figure = g' })
-run-same p q r s t u v = cc
+run-same : {i : Inputs} {a a' : List Bond} {d d' e e' f f' : List Float} {g g' : Float} → a ≡ a' → d ≡ d' → e ≡ e' → f ≡ f' → g ≡ g'
+    → running i (record { bonds = a; chain = d; carries = e }) (record { sums = f; figure = g })
+    ≡ running i (record { bonds = a'; chain = d'; carries = e' }) (record { sums = f'; figure = g' })
+run-same p s t u v = cc
 
 -- ---- the run that a call works for, and the memory that it works in
 module _ (i : Inputs) (shp : Shaped (i .shape)) (h : Stepped) (u : Summed) (z : ℕ) (inside : z < i .shape .d) (work carries sums : List Float) (M : Memory i h u z work carries sums) where
@@ -83,7 +85,7 @@ module _ (i : Inputs) (shp : Shaped (i .shape)) (h : Stepped) (u : Summed) (z : 
   i' = inPlace (i .shape) (i .axes) (i .set) work (i .weights)
 
   abbrev h' : Stepped
-  h' = record { ranks = h .ranks; sweeps = h .sweeps; settled = h .settled; chain = work; carries = carries }
+  h' = record { bonds = h .bonds; chain = work; carries = carries }
 
   abbrev u' : Summed
   u' = summedIn (i .shape) sums
@@ -126,7 +128,8 @@ module _ (i : Inputs) (shp : Shaped (i .shape)) (h : Stepped) (u : Summed) (z : 
         let r = rightRank s new k in
         let c = M .chain-long in
         ap (λ (l : ℕ). coreWith l n r (take (l * n * r) (slot (coreSize s) k (new .chain)))) (left-same k)
-        ∙ ap (λ (l : List Float). coreWith (leftRank new' k) n r (take (leftRank new' k * n * r) l)) (write-alike (coreSize s) zero64 (s .d) z (map f tr) (ap (λ (m : ℕ). z + m) (length-map tr f) ∙ whole) (h .chain) work (omega arith) (M .cores) k ge lt)
+        ∙ ap (λ (l : List Float). coreWith (leftRank new' k) n r (take (leftRank new' k * n * r) l))
+        (write-alike (coreSize s) zero64 (s .d) z (map f tr) (ap (λ (m : ℕ). z + m) (length-map tr f) ∙ whole) (h .chain) work (omega arith) (M .cores) k ge lt)
 
     pairs-same : weighedFrom i new z ≡ weighedFrom i' new' z
     unfolding weighedAt
@@ -164,7 +167,10 @@ module _ (i : Inputs) (shp : Shaped (i .shape)) (h : Stepped) (u : Summed) (z : 
       let one = shp .least in
       ap (at l) (sym (add-zero (offset (sumSize s) (s .d - 1)))) ∙ sym (getD-slot (sumSize s) (s .d - 1) l 0 nan (shp .right (s .d - 1) (omega arith)))
 
-  figure-same : (q : List (List Float)) → z + length q ≡ i .shape .d → at (write (sumSize (i .shape)) zero64 (i .shape .d) z q (u .sums)) (offset (sumSize (i .shape)) (i .shape .d - 1)) ≡ at (write (sumSize (i .shape)) zero64 (i .shape .d) z q sums) (offset (sumSize (i .shape)) (i .shape .d - 1))
+  figure-same : (q : List (List Float))
+      → z + length q ≡ i .shape .d
+      → at (write (sumSize (i .shape)) zero64 (i .shape .d) z q (u .sums)) (offset (sumSize (i .shape)) (i .shape .d - 1))
+      ≡ at (write (sumSize (i .shape)) zero64 (i .shape .d) z q sums) (offset (sumSize (i .shape)) (i .shape .d - 1))
   figure-same q n =
       let one = shp .least in
       let l = M .sums-long in
@@ -189,9 +195,7 @@ module _ (i : Inputs) (shp : Shaped (i .shape)) (h : Stepped) (u : Summed) (z : 
         let nf : z + length (map f (x .0)) ≡ s .d = ap (λ (j : ℕ). z + j) (length-map (x .0) f) ∙ n .0 in
         let nm : z + length (map m (x .0)) ≡ s .d = ap (λ (j : ℕ). z + j) (length-map (x .0) m) ∙ n .0 in
         let ne : z + length (map e (x .1)) ≡ s .d = ap (λ (j : ℕ). z + j) (length-map (x .1) e) ∙ n .1 in
-        let ranks : new (x .0) (n .0) .ranks ≡ t .ranks = ap (λ (y : Stepped). y .ranks) p in
-        let sweeps : new (x .0) (n .0) .sweeps ≡ t .sweeps = ap (λ (y : Stepped). y .sweeps) p in
-        let settled : new (x .0) (n .0) .settled ≡ t .settled = ap (λ (y : Stepped). y .settled) p in
+        let bonds : new (x .0) (n .0) .bonds ≡ t .bonds = ap (λ (y : Stepped). y .bonds) p in
         let chain : new (x .0) (n .0) .chain ≡ overFrom a (h .chain) (t .chain) =
         sym (committed-from (coreSize s) z a core-at zero64 (s .d) (map f (x .0)) nf (h .chain) work (t .chain) (M .chain-long) (M .cores) (ap (λ (y : Stepped). take (entriesOf s) (y .chain)) (sym p))) in
         let held : new (x .0) (n .0) .carries ≡ overFrom b (h .carries) (t .carries) =
@@ -199,7 +203,7 @@ module _ (i : Inputs) (shp : Shaped (i .shape)) (h : Stepped) (u : Summed) (z : 
         let summed : keepSums s z (x .1) u .sums ≡ overFrom c (u .sums) sums' =
         sym (committed-from (sumSize s) z c sum-at zero64 (s .d) (map e (x .1)) ne (u .sums) sums sums' (M .sums-long) (M .summed) (ap (take (allSums s)) (sym q))) in
         let figure : keepSums s z (x .1) u .figure ≡ at sums' (offset (sumSize s) (s .d - 1)) = figure-same (map e (x .1)) ne ∙ ap (λ (l : List Float). at l (offset (sumSize s) (s .d - 1))) q in
-        run-same ranks sweeps settled chain held summed figure
+        run-same bonds chain held summed figure
 
     pub work-over : (v : Verdict) → workFrom rules (running i' h' u') z ≡ answered v (running i' t (summedIn (i .shape) sums')) → workFrom rules (running i h u) z ≡ answered v end
     work-over v e =

@@ -70,7 +70,9 @@ pub sums-fit : (s : Shape) → SizesWithin s → (n : ℕ) → n ≡ offset (sum
 sums-fit s w n e = omega (arith, sums-most s w (s .d) (omega arith))
 
 -- what the sums ask
-pub stands : (s t : Shape) (z : ℕ) (chain weights part w : List Float) → SizesWithin s → Inside s t → entriesOf s ≤ length chain → z < s .d → length part ≡ pointSize s z → length weights ≡ allPoints s → w ≡ put (pointSize s) z part weights → SumsStand s t chain w
+pub stands : (s t : Shape) (z : ℕ) (chain weights part w : List Float)
+    → SizesWithin s → Inside s t → entriesOf s ≤ length chain → z < s .d
+    → length part ≡ pointSize s z → length weights ≡ allPoints s → w ≡ put (pointSize s) z part weights → SumsStand s t chain w
 stands s t z chain weights part w a b c lt p e f =
     let n = put-length (pointSize s) z part weights p (omega (arith, offset-mono (pointSize s) (suc z) (s .d) lt)) in
     record { within = a; inside = b; cores = c; points = le-of-eq (sym (ap length f ∙ n ∙ e)) }

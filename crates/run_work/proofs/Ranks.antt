@@ -16,7 +16,9 @@ use Rattle.shape.specs.declared.Shape.{Shape}
 use Rattle.shape.specs.Shapes.{rightOf}
 use Rattle.shape.specs.Cores.{Core, coreAt}
 use Rattle.shape.proofs.Shaped.{Shaped}
-use Rattle.cutform.specs.Rounding.{Carry, Cut, rankIn}
+use Rattle.cutform.specs.declared.Bond.{Bond}
+use Rattle.cutform.specs.Bonds.{noBond}
+use Rattle.cutform.specs.Rounding.{Carry, Cut}
 use Rattle.cutform.proofs.Cuts.{Carried}
 use Rattle.cutform.specs.Keeping.{Stepped, bondSize, rankAt, keepStep}
 use Rattle.cutform.proofs.BondSlots.{bond-one, bond-at}
@@ -39,7 +41,7 @@ module _ (i : Inputs) (shp : Shaped (i .shape)) where
   Right k c = c .rr ≡ rightOf (i .shape) k
 
   abbrev Good : ℕ → Carry × Cut → Type 0
-  Good k r = suc k < i .shape .d → Carried (rightOf (i .shape) k) (r .0)
+  Good k r = suc k < i .shape .d → Carried (rightOf (i .shape) k) r
 
   shift-right : (k : ℕ) (z : Zone) (c : Core) → Right k (z .core) → shiftZone rules (i .set) k z ≡ done c → Right k c
   unfolding shiftZone
@@ -53,7 +55,7 @@ module _ (i : Inputs) (shp : Shaped (i .shape)) where
   round-good : (k : ℕ) (b : Carry) (c : Core) (r : Carry × Cut) → Right k c → roundZone rules (i .set) (i .shape .d) k b c ≡ done r → Good k r
   unfolding roundZone
   round-good k b c r g h lt =
-      subst (λ (x : ℕ). Carried x (r .0)) g
+      subst (λ (x : ℕ). Carried x r) g
       (rules-sound .carried (i .set) k b c r (subst (λ (x : ℕ). 1 ≤ x) (sym g) (shp .right k (omega arith))) (ap (λ (x : Bool). rules .round (i .set) x k b c) (sym (ltb-yes (suc k) (i .shape .d) lt)) ∙ h))
 
   all-good : (z : ℕ) (b : Carry) (tr : List (Carry × Cut)) → stepFrom rules (i .set) (i .shape .d) z b (zonesFrom i z) ≡ done tr → All Good z tr
@@ -67,7 +69,7 @@ module _ (i : Inputs) (shp : Shaped (i .shape)) where
       (every-all (scaleZone rules (i .set)) Right Right scale-right z (A .0) (B .0) (every-all (shiftZone rules (i .set)) (λ (k : ℕ) (x : Zone). Right k (x .core)) Right shift-right z (zonesFrom i z) (A .0) Z (A .1)) (B .1))
       (B .2)
 
-  module _ (h : Stepped) (M : Roomy (i .shape) h) (z : ℕ) (inside : z < i .shape .d) (before : RanksWithin (i .shape) (h .ranks) z)
+  module _ (h : Stepped) (M : Roomy (i .shape) h) (z : ℕ) (inside : z < i .shape .d) (before : RanksWithin (i .shape) (h .bonds) z)
       (tr : List (Carry × Cut)) (e : stepFrom rules (i .set) (i .shape .d) z (carryAt (i .shape) h z) (zonesFrom i z) ≡ done tr) where
     count : z + length tr ≡ i .shape .d
     count =
@@ -79,21 +81,21 @@ module _ (i : Inputs) (shp : Shaped (i .shape)) where
     rank-new k ge lt =
         let n = count in
         let j : z + (k - z) ≡ k = omega arith in
-        let C : Carried (rightOf s k) (getD tr (k - z) no-cut .0) = subst (λ (m : ℕ). Good m (getD tr (k - z) no-cut)) j (all-at Good z tr (all-good z (carryAt s h z) tr e) (k - z) no-cut (omega arith)) lt in
-        let q : rankAt (keepStep s z tr h) k ≡ C .rank =
-        sym (bond-at s k (keepStep s z tr h .ranks) lt 0)
-        ∙ ap (λ (l : List ℕ). getD l 0 0) (slot-written (bondSize s) 0 (s .d) (λ (r : Carry × Cut). rankIn (r .0)) no-cut refl z tr (h .ranks) k n (M .ranks) ge (omega arith)
-        ∙ ap (λ (m : ℕ). fit 0 m (rankIn (getD tr (k - z) no-cut .0))) (bond-one s k lt)
-        ∙ ap (λ (c : Carry). fit 0 1 (rankIn c)) (C .«is»)) in
+        let C : Carried (rightOf s k) (getD tr (k - z) no-cut) = subst (λ (m : ℕ). Good m (getD tr (k - z) no-cut)) j (all-at Good z tr (all-good z (carryAt s h z) tr e) (k - z) no-cut (omega arith)) lt in
+        let q : rankAt (keepStep s z tr h) k ≡ C .bond .rank =
+        sym (ap (λ (b : Bond). b .rank) (bond-at s k (keepStep s z tr h .bonds) lt noBond))
+        ∙ ap (λ (l : List Bond). getD l 0 noBond .rank) (slot-written (bondSize s) noBond (s .d) (λ (r : Carry × Cut). r .1 .bonds) no-cut refl z tr (h .bonds) k n (M .bonds) ge (omega arith)
+        ∙ ap (λ (m : ℕ). fit noBond m (getD tr (k - z) no-cut .1 .bonds)) (bond-one s k lt)
+        ∙ ap (fit noBond 1) (C .bonds)) in
         (subst (λ (x : ℕ). 1 ≤ x) (sym q) (C .least), subst (λ (x : ℕ). x ≤ rightOf s k) (sym q) (C .most))
 
-    ranks-kept : RanksWithin (i .shape) (keepStep (i .shape) z tr h .ranks) (i .shape .d)
+    ranks-kept : RanksWithin (i .shape) (keepStep (i .shape) z tr h .bonds) (i .shape .d)
     ranks-kept k a lt = below-or-not k z
         (λ b. let q = rank-before s h M z inside tr k b in let w = before k b lt in (omega (arith, w .0), omega (arith, w .1)))
         (λ ge. rank-new k ge lt)
 
-  pub ranks-after : (h h' : Stepped) → Roomy (i .shape) h → (z : ℕ) → z < i .shape .d → RanksWithin (i .shape) (h .ranks) z → restep rules i h z ≡ done h' → RanksWithin (i .shape) (h' .ranks) (i .shape .d)
+  pub ranks-after : (h h' : Stepped) → Roomy (i .shape) h → (z : ℕ) → z < i .shape .d → RanksWithin (i .shape) (h .bonds) z → restep rules i h z ≡ done h' → RanksWithin (i .shape) (h' .bonds) (i .shape .d)
   unfolding restep
   ranks-after h h' M z inside before e =
       let A = bind-done (stepFrom rules (i .set) (s .d) z (carryAt s h z) (zonesFrom i z)) (λ tr. done (keepStep s z tr h)) h' e in
-      subst (λ (x : Stepped). RanksWithin (i .shape) (x .ranks) (i .shape .d)) (done-inj (A .2)) (ranks-kept h M z inside before (A .0) (A .1))
+      subst (λ (x : Stepped). RanksWithin (i .shape) (x .bonds) (i .shape .d)) (done-inj (A .2)) (ranks-kept h M z inside before (A .0) (A .1))

@@ -53,7 +53,8 @@ module _ (r : Run) (z : ℕ) (weights chain carries sums scratch : List Float) (
   sum-asks n e = (sizes, (A .zone, omega (arith, A .sums-long), all-sums n e))
 
   pub commit-asks : (work held summed : ℕ) → work ≡ length scratch → held ≡ mostCarries → summed ≡ mostSums
-      → ((SizesWithin (r .shape)) × (z < r .shape .d)) × (((length chain ≡ entriesOf (r .shape)) × (length carries ≡ allCarries (r .shape)) × (length sums ≡ allSums (r .shape))) × ((length chain ≤ work) × (length carries ≤ held) × (length sums ≤ summed)))
+      → ((SizesWithin (r .shape)) × (z < r .shape .d))
+      × (((length chain ≡ entriesOf (r .shape)) × (length carries ≡ allCarries (r .shape)) × (length sums ≡ allSums (r .shape))) × ((length chain ≤ work) × (length carries ≤ held) × (length sums ≤ summed)))
   commit-asks work held summed a b c =
       let h = all-carries held b in
       let u = all-sums summed c in
@@ -91,7 +92,17 @@ module _ (r : Run) (z : ℕ) (weights chain carries sums scratch : List Float) (
           ≡ answered (x .verdict) (keptOf (runWith r x figure) source weights (overFrom (offset (coreSize (r .shape)) z) chain work) (overFrom (offset (carrySize (r .shape)) z) carries held') (overFrom (offset (sumSize (r .shape)) z) sums summed'))
       came source f =
           let k = keptOf r source weights chain carries sums in
-          let M : Memory (k .inputs) (k .stepped) (k .summed) z scratch held summed = record { sources = f; carry = carry; sum = sum; cores = A .room; carried = hl; summed = sl; chain-long = A .chain-long; carries-long = A .carries-long; sums-long = A .sums-long } in
+          let M : Memory (k .inputs) (k .stepped) (k .summed) z scratch held summed = record {
+            sources = f;
+            carry = carry;
+            sum = sum;
+            cores = A .room;
+            carried = hl;
+            summed = sl;
+            chain-long = A .chain-long;
+            carries-long = A .carries-long;
+            sums-long = A .sums-long;
+          } in
           work-over (k .inputs) shp (k .stepped) (k .summed) z (A .zone) scratch held summed M (heldBy x work held') summed'
           (offset (coreSize s) z) (offset (carrySize s) z) (offset (sumSize s) z) refl refl refl (x .verdict) own
 
@@ -106,7 +117,9 @@ module _ (r : Run) (z : ℕ) (weights chain carries sums scratch : List Float) (
         left = λ p h. (refl, refl, refl, refl);
       })
 
-      pub renew-fits : x .verdict ≡ Fits → (chain' carries' sums' : List Float) (f : Float) → (f ≡ figure) × (chain' ≡ overFrom (offset (coreSize (r .shape)) z) chain work) × (carries' ≡ overFrom (offset (carrySize (r .shape)) z) carries held') × (sums' ≡ overFrom (offset (sumSize (r .shape)) z) sums summed')
+      pub renew-fits : x .verdict ≡ Fits → (chain' carries' sums' : List Float) (f : Float)
+          → (f ≡ figure) × (chain' ≡ overFrom (offset (coreSize (r .shape)) z) chain work)
+          × (carries' ≡ overFrom (offset (carrySize (r .shape)) z) carries held') × (sums' ≡ overFrom (offset (sumSize (r .shape)) z) sums summed')
           → (a : Ran) → a ≡ record { verdict = Fits; run = runWith r x f } → Renewed r z weights chain carries sums scratch a chain' carries' sums'
       renew-fits v chain' carries' sums' f c a g = subst (λ (y : Ran). Renewed r z weights chain carries sums scratch y chain' carries' sums') (sym g) (record {
         work = λ source h.

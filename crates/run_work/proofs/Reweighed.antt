@@ -62,7 +62,7 @@ module _ (s t : Shape) (work weights : List Float) (z : ℕ) (sums : List Float)
 abbrev summedAs : Shape → List Float → Summed
 summedAs s l = record { sums = l; figure = at l (offset (sumSize s) (s .d - 1)) }
 
-sum-from-is : (k : Kept) (t : Shape) → Ranked (k .inputs .shape) (k .stepped .ranks) t (k .inputs .shape .d) → (z : ℕ) → z < k .inputs .shape .d
+sum-from-is : (k : Kept) (t : Shape) → Ranked (k .inputs .shape) (k .stepped .bonds) t (k .inputs .shape .d) → (z : ℕ) → z < k .inputs .shape .d
     → sumFrom rules k z ≡ bind (sumsFrom (k .inputs .shape) t (k .stepped .chain) (k .inputs .weights) z (k .summed .sums)) (λ l. done (running (k .inputs) (k .stepped) (summedAs (k .inputs .shape) l)))
 unfolding sumFrom
 sum-from-is k t R z lt =
@@ -70,7 +70,7 @@ sum-from-is k t R z lt =
     ap (λ (o : Answer Summed). bind o (λ u. done (running (k .inputs) (k .stepped) u))) (resum-is (k .inputs) (k .stepped) t R (k .summed) z lt)
     ∙ bind-assoc S (λ l. done (summedAs (k .inputs .shape) l)) (λ u. done (running (k .inputs) (k .stepped) u))
 
-module _ (r : Run) (z : ℕ) (weights chain sums part : List Float) (t : Shape) (R : Ranked (r .shape) (r .ranks) t (r .shape .d)) (lt : z < r .shape .d) (v : Verdict) (p : List Float)
+module _ (r : Run) (z : ℕ) (weights chain sums part : List Float) (t : Shape) (R : Ranked (r .shape) (r .bonds) t (r .shape .d)) (lt : z < r .shape .d) (v : Verdict) (p : List Float)
     (e : sumsFrom (r .shape) t chain (put (pointSize (r .shape)) z part weights) z sums ≡ answered v p) (source carries scratch : List Float) where
   abbrev before : Kept
   before = keptOf r source weights chain carries sums
@@ -101,7 +101,7 @@ module _ (r : Run) (z : ℕ) (weights chain sums part : List Float) (t : Shape) 
   -- x and y are the weights and the sums at the end, and f is the figure
   pub resum-ends : v ≡ Fits → offset (sumSize (r .shape)) (r .shape .d) ≤ length sums → (x y : List Float) (f : Float) (a : Ran)
       → x ≡ put (pointSize (r .shape)) z part weights → y ≡ take (offset (sumSize (r .shape)) z) sums ++ drop (offset (sumSize (r .shape)) z) p → f ≡ at y (offset (sumSize (r .shape)) (r .shape .d - 1))
-      → a ≡ record { verdict = Fits; run = record { shape = r .shape; axes = r .axes; set = r .set; ranks = r .ranks; sweeps = r .sweeps; settled = r .settled; figure = f } }
+      → a ≡ record { verdict = Fits; run = record { shape = r .shape; axes = r .axes; set = r .set; bonds = r .bonds; figure = f } }
       → record { result = a; source = source; weights = x; chain = chain; carries = carries; sums = y; scratch = zeros (length scratch) } ≡ end
   unfolding replaceEnd scratchAfter answered
   resum-ends h held x y f a g i j l =

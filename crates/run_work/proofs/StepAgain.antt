@@ -4,8 +4,8 @@ use Prim.Native.Nat.{ℕ, zero, suc, _-_, _*_, _≤_, _<_}
 use native.Mathlib.Nat.{le-refl}
 use native.Mathlib.Omega.{arith}
 use mathlib.Core.Bool.{true}
-use mathlib.Core.List.{List, []}
-use lib.ListN.{length, take, drop}
+use mathlib.Core.List.{List, [], map}
+use lib.ListN.{length, take, drop, length-map}
 use lib.Seq.{take-take}
 use lib.Ieee.{Float}
 use Rattle.answers.specs.declared.Verdict.{Verdict}
@@ -74,16 +74,20 @@ module _ (s : Shape) (shp : Shaped s) where
     pub restep-is : (v : Verdict) (t : Shape) (h' : Stepped) → stepHeld set s z xs s h ≡ answered v (t, h') → restep rules i h z ≡ answered v h'
     restep-is v t h' e = sym held-restep ∙ ap (λ (o : Answer (Shape × Stepped)). bind o (λ x. done (x .1))) e ∙ second v t h'
 
+-- a list has as many places as what is made of it place by place: so an array of records has those of its memory
+pub mapped-long : (X Y : Type 0) (f : X → Y) (l : List X) (n : ℕ) → length (map f l) ≡ n → length l ≡ n
+mapped-long X Y f l n e = sym (length-map l f) ∙ e
+
 -- ---- what it asks, and what it leaves
 module _ (z : ℕ) (w : Walked) (set : Settings) (xs : List Axis) (work carries : List Float) (S : Steps z w set xs work carries)
-    (lefts : length (w .shape .left) ≡ mostAxes) (rights : length (w .shape .right) ≡ mostAxes) (ranks : length (w .ranks) ≡ mostAxes) (sweeps : length (w .sweeps) ≡ mostAxes) (settled : length (w .settled) ≡ mostAxes) where
+    (lefts : length (w .shape .left) ≡ mostAxes) (rights : length (w .shape .right) ≡ mostAxes) (bonds : length (w .bonds) ≡ mostAxes) where
   shp : Shaped (w .shape)
   shp = shaped (w .shape) (λ (k : ℕ). true) (S .ok)
 
   abbrev held : Stepped
   held = heldBy w work carries
 
-  left-rank : (y : ℕ) → y ≡ z → (1 ≤ rankLeft y (w .shape) (w .ranks)) × (rankLeft y (w .shape) (w .ranks) ≤ leftOf (w .shape) y)
+  left-rank : (y : ℕ) → y ≡ z → (1 ≤ rankLeft y (w .shape) (w .bonds)) × (rankLeft y (w .shape) (w .bonds) ≤ leftOf (w .shape) y)
   unfolding rankLeft
   left-rank zero e = (omega (arith, shp .first), le-refl (leftOf (w .shape) 0))
   left-rank (suc k) e = let b : suc k < w .shape .d = omega (arith, S .zone) in let r = S .ranks k (omega arith) b in (r .0, omega (arith, r .1, shp .joins k b))
@@ -104,22 +108,21 @@ module _ (z : ℕ) (w : Walked) (set : Settings) (xs : List Axis) (work carries 
     seam = λ o j l m. let n : ⊥ = omega arith in absurd n;
     lefts = lefts;
     rights = rights;
-    ranks = ranks;
-    sweeps = sweeps;
-    settled = settled;
+    bonds = bonds;
     chain = S .cores;
     carries = S .carried;
   }
 
   pub step-asks : (room block : List Float) → Rooms room block
-      → ((Stands (w .shape) (w .shape) work) × (Rooms room block)) × (((z ≤ w .shape .d) × ((k : ℕ) → z ≤ k → k < w .shape .d → axisReaches set (w .shape) xs k ≡ true)) × ((w .verdict ≡ Fits) × AtZone (w .shape) z z (w .shape) held))
-  step-asks room block R = ((record { inside = inside-itself (w .shape) shp; within = shp .sizes; long = S .cores }, R), ((omega (arith, S .zone), S .reach), (S .fits, at-zone)))
+      → ((Stands (w .shape) (w .shape) work) × (Rooms room block)) × (((z ≤ w .shape .d) × ((k : ℕ) → z ≤ k → k < w .shape .d → axisReaches set (w .shape) xs k ≡ true)) × (AtZone (w .shape) z z (w .shape) held))
+  step-asks room block R = ((record { inside = inside-itself (w .shape) shp; within = shp .sizes; long = S .cores }, R), ((omega (arith, S .zone), S .reach), at-zone))
 
   roomy : Roomy (w .shape) held
-  roomy = let b = bond-count (w .shape) (shp .least) in let m = shp .most in record { ranks = omega arith; sweeps = omega arith; settled = omega arith; chain = S .cores; carries = S .carried }
+  roomy = let b = bond-count (w .shape) (shp .least) in let m = shp .most in record { bonds = omega arith; chain = S .cores; carries = S .carried }
 
   pub step-made : (r : Walked) (work' carries' : List Float) → stepHeld set (w .shape) z xs (w .shape) held ≡ answered (r .verdict) (r .shape, heldBy r work' carries')
-      → ((weights : List Float) → restep rules (inPlace (w .shape) xs set work weights) held z ≡ answered (r .verdict) (heldBy r work' carries')) × (r .verdict ≡ Fits → RanksWithin (w .shape) (r .ranks) (w .shape .d))
+      → ((weights : List Float) → restep rules (inPlace (w .shape) xs set work weights) held z ≡ answered (r .verdict) (heldBy r work' carries')) × (r .verdict ≡ Fits → RanksWithin (w .shape) (r .bonds) (w .shape .d))
   step-made r work' carries' e =
-      let R : (weights : List Float) → restep rules (inPlace (w .shape) xs set work weights) held z ≡ answered (r .verdict) (heldBy r work' carries') = λ weights. restep-is (w .shape) shp xs set weights held z (S .zone) (r .verdict) (r .shape) (heldBy r work' carries') e in
+      let R : (weights : List Float) → restep rules (inPlace (w .shape) xs set work weights) held z ≡ answered (r .verdict) (heldBy r work' carries') =
+      λ weights. restep-is (w .shape) shp xs set weights held z (S .zone) (r .verdict) (r .shape) (heldBy r work' carries') e in
       (R, λ f. ranks-after (inPlace (w .shape) xs set work []) shp held (heldBy r work' carries') roomy z (S .zone) (S .ranks) (R [] ∙ ap (λ (v : Verdict). answered v (heldBy r work' carries')) f ∙ answered-fits (heldBy r work' carries')))

@@ -16,7 +16,8 @@ use Rattle.shape.specs.Limits.{mostAxes, within}
 use Rattle.shape.specs.Shapes.{rightOf, chainOk, shapeOk, entriesOf}
 use Rattle.shape.proofs.Shaped.{shaped, shape-same}
 use Rattle.cuts.specs.declared.Walked.{Walked}
-use Rattle.cutform.specs.Keeping.{Stepped}
+use Rattle.cutform.specs.declared.Bond.{Bond}
+use Rattle.cutform.specs.Keeping.{rankAmong, Stepped}
 use Rattle.cuts.specs.Slots.{heldBy}
 use Rattle.sumform.specs.Sums.{sumsFrom}
 use Rattle.product.specs.Lent.{SumsStand}
@@ -33,20 +34,20 @@ pub few-axes : (s : Shape) → chainOk s ≡ done tt → s .d ≤ mostAxes
 few-axes s ok = shaped s (λ (k : ℕ). true) ok .most
 
 -- ---- a chain with such ranks stands in the room of its source
-module _ (s : Shape) (ok : chainOk s ≡ done tt) (ranks : List ℕ) (R : RanksWithin s ranks (s .d)) where
-  rank-passes : (k : ℕ) → k < s .d → rankOk s ranks k ≡ true
+module _ (s : Shape) (ok : chainOk s ≡ done tt) (bonds : List Bond) (R : RanksWithin s bonds (s .d)) where
+  rank-passes : (k : ℕ) → k < s .d → rankOk s bonds k ≡ true
   unfolding rankOk
   rank-passes k l = go (ltb (suc k) (s .d)) refl
     where
-      go : (b : Bool) → ltb (suc k) (s .d) ≡ b → cond b (within (rightOf s k) (getD ranks k 0)) true ≡ true
-      go true e = let r = R k l (ltb-is (suc k) (s .d) e) in and-yes _ _ (leb-yes 1 (getD ranks k 0) (r .0)) (leb-yes (getD ranks k 0) (rightOf s k) (r .1))
+      go : (b : Bool) → ltb (suc k) (s .d) ≡ b → cond b (within (rightOf s k) (rankAmong bonds k)) true ≡ true
+      go true e = let r = R k l (ltb-is (suc k) (s .d) e) in and-yes _ _ (leb-yes 1 (rankAmong bonds k) (r .0)) (leb-yes (rankAmong bonds k) (rightOf s k) (r .1))
       go false e = refl
 
-  pub ranks-pass : shapeOk s (rankOk s ranks) ≡ done tt
-  ranks-pass = shape-same s (rankOk s ranks) (λ (k : ℕ). true) rank-passes ∙ ok
+  pub ranks-pass : shapeOk s (rankOk s bonds) ≡ done tt
+  ranks-pass = shape-same s (rankOk s bonds) (λ (k : ℕ). true) rank-passes ∙ ok
 
-  pub sums-stand : (t : Shape) → Ranked s ranks t (s .d) → (work weights sums : List Float) → Sums s weights sums → entriesOf s ≤ length work → SumsStand s t work weights
-  sums-stand t Q work weights sums S l = record { within = shaped s (λ (k : ℕ). true) ok .sizes; inside = ranked-inside s ranks ranks-pass t Q; cores = l; points = S .points }
+  pub sums-stand : (t : Shape) → Ranked s bonds t (s .d) → (work weights sums : List Float) → Sums s weights sums → entriesOf s ≤ length work → SumsStand s t work weights
+  sums-stand t Q work weights sums S l = record { within = shaped s (λ (k : ℕ). true) ok .sizes; inside = ranked-inside s bonds ranks-pass t Q; cores = l; points = S .points }
 
 -- ---- both
 module _ (i : Inputs) (h h' : Stepped) (z : ℕ) (v : Verdict) (e : restep rules i h z ≡ answered v h') (u : Summed) where
@@ -60,7 +61,7 @@ module _ (i : Inputs) (h h' : Stepped) (z : ℕ) (v : Verdict) (e : restep rules
   unfolding workFrom answered sumFrom
   work-opened f = ap (λ (o : Answer Stepped). bind o (λ t. sumFrom rules (running i t u) z)) (e ∙ ap (λ (x : Verdict). answered x h') f)
 
-  module _ (f : v ≡ Fits) (inside : z < i .shape .d) (t : Shape) (Q : Ranked (i .shape) (h' .ranks) t (i .shape .d)) (r : Verdict) (sums : List Float)
+  module _ (f : v ≡ Fits) (inside : z < i .shape .d) (t : Shape) (Q : Ranked (i .shape) (h' .bonds) t (i .shape .d)) (r : Verdict) (sums : List Float)
       (g : sumsFrom (i .shape) t (h' .chain) (i .weights) z (u .sums) ≡ answered r sums) where
     work-goes : workFrom rules (running i h u) z ≡ answered r (running i h' (summedIn (i .shape) sums))
     unfolding answered
@@ -73,10 +74,10 @@ module _ (i : Inputs) (h h' : Stepped) (z : ℕ) (v : Verdict) (e : restep rules
         twice Fits = refl
         twice (Refused q) = refl
 
--- ---- the ranks, counts and flags of the step with the verdict on the sums
+-- ---- the bonds of the step with the verdict on the sums
 pub work-judged : (i : Inputs) (h : Stepped) (z : ℕ) (w : Walked) (work carries sums sums' : List Float) → restep rules i h z ≡ answered (w .verdict) (heldBy w work carries) → w .verdict ≡ Fits → z < i .shape .d
-    → (t : Shape) → Ranked (i .shape) (w .ranks) t (i .shape .d) → (r : Verdict) → sumsFrom (i .shape) t work (i .weights) z sums ≡ answered r sums'
-    → (x : Walked) → x ≡ record { verdict = r; shape = w .shape; ranks = w .ranks; sweeps = w .sweeps; settled = w .settled }
+    → (t : Shape) → Ranked (i .shape) (w .bonds) t (i .shape .d) → (r : Verdict) → sumsFrom (i .shape) t work (i .weights) z sums ≡ answered r sums'
+    → (x : Walked) → x ≡ record { verdict = r; shape = w .shape; bonds = w .bonds }
     → workFrom rules (running i h (summedIn (i .shape) sums)) z ≡ answered (x .verdict) (heldIn i x work carries sums')
 work-judged i h z w work carries sums sums' e f inside t Q r g x j =
     work-goes i h (heldBy w work carries) z (w .verdict) e (summedIn (i .shape) sums) f inside t Q r sums' g

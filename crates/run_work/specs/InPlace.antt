@@ -8,13 +8,14 @@ use lib.Ieee.{Float}
 use Rattle.answers.specs.declared.Verdict.the-variants.{Fits}
 use Rattle.answers.specs.Outcome.{done}
 use Rattle.lists.specs.Slots.{offset, slot}
+use Rattle.cutform.specs.declared.Bond.{Bond}
 use Rattle.run_slices.specs.Slices.{Beside, overFrom}
 use Rattle.lists.specs.Floats.{at}
 use Rattle.shape.specs.declared.Shape.{Shape}
 use Rattle.shape.specs.Shapes.{rightOf, chainOk, coreSize, entriesOf, allPoints}
 use Rattle.stepform.specs.declared.Axis.{Axis}
 use Rattle.cuts.specs.declared.Walked.{Walked}
-use Rattle.cutform.specs.Keeping.{Stepped, carrySize}
+use Rattle.cutform.specs.Keeping.{rankAmong, Stepped, carrySize}
 use Rattle.cuts.specs.Slots.{heldBy}
 use Rattle.sumform.specs.Sums.{sumSize}
 use Rattle.stepform.specs.declared.Settings.{Settings}
@@ -29,13 +30,13 @@ inPlace s xs set work weights = record { shape = s; axes = xs; set = set; source
 abbrev pub summedIn : Shape → List Float → Summed
 summedIn s sums = record { sums = sums; figure = at sums (offset (sumSize s) (s .d - 1)) }
 
--- the run that code holds: w has its ranks, counts and flags
+-- the run that code holds: w has its bonds
 abbrev pub heldIn : Inputs → Walked → List Float → List Float → List Float → Kept
 heldIn i w work carries sums = running i (heldBy w work carries) (summedIn (i .shape) sums)
 
 -- a kept rank of each of the first m bonds is at least 1 and at most its source's
-abbrev pub RanksWithin : Shape → List ℕ → ℕ → Type 0
-RanksWithin s ranks m = (k : ℕ) → k < m → suc k < s .d → (1 ≤ getD ranks k 0) × (getD ranks k 0 ≤ rightOf s k)
+abbrev pub RanksWithin : Shape → List Bond → ℕ → Type 0
+RanksWithin s bonds m = (k : ℕ) → k < m → suc k < s .d → (1 ≤ rankAmong bonds k) × (rankAmong bonds k ≤ rightOf s k)
 
 -- what the step from zone z on asks
 pub record Steps (z : ℕ) (w : Walked) (set : Settings) (xs : List Axis) (work carries : List Float) : Type 0 where
@@ -43,7 +44,7 @@ pub record Steps (z : ℕ) (w : Walked) (set : Settings) (xs : List Axis) (work 
   pub zone : z < w .shape .d
   pub fits : w .verdict ≡ Fits
   pub reach : (k : ℕ) → z ≤ k → k < w .shape .d → axisReaches set (w .shape) xs k ≡ true
-  pub ranks : RanksWithin (w .shape) (w .ranks) z
+  pub ranks : RanksWithin (w .shape) (w .bonds) z
   pub cores : entriesOf (w .shape) ≤ length work
   pub carried : allCarries (w .shape) ≤ length carries
 
@@ -67,7 +68,7 @@ pub record Memory (i : Inputs) (h : Stepped) (u : Summed) (z : ℕ) (work carrie
 -- ---- what is committed
 -- what a run kept, with what the work t left of each zone from one on: its core stands at a, its carry at b; its sums at c
 abbrev pub steppedOver : ℕ → ℕ → Stepped → Stepped → Stepped
-steppedOver a b h t = record { ranks = t .ranks; sweeps = t .sweeps; settled = t .settled; chain = overFrom a (h .chain) (t .chain); carries = overFrom b (h .carries) (t .carries) }
+steppedOver a b h t = record { bonds = t .bonds; chain = overFrom a (h .chain) (t .chain); carries = overFrom b (h .carries) (t .carries) }
 
 abbrev pub summedOver : Shape → ℕ → List Float → List Float → Summed
 summedOver s c sums sums' = record { sums = overFrom c sums sums'; figure = at sums' (offset (sumSize s) (s .d - 1)) }

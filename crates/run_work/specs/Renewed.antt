@@ -29,7 +29,7 @@ pub record RenewAsks (r : Run) (z : ℕ) (weights chain carries sums scratch : L
   pub ok : chainOk (r .shape) ≡ done tt
   pub zone : z < r .shape .d
   pub reach : (k : ℕ) → z ≤ k → k < r .shape .d → axisReaches (r .set) (r .shape) (r .axes) k ≡ true
-  pub ranks : RanksWithin (r .shape) (r .ranks) z
+  pub ranks : RanksWithin (r .shape) (r .bonds) z
   pub points : allPoints (r .shape) ≤ length weights
   pub chain-long : length chain ≡ entriesOf (r .shape)
   pub carries-long : length carries ≡ allCarries (r .shape)
@@ -38,13 +38,15 @@ pub record RenewAsks (r : Run) (z : ℕ) (weights chain carries sums scratch : L
 
 -- the run, whatever source it has in the slots from z on as scratch has it; refused, all of it is as it was
 pub record Renewed (r : Run) (z : ℕ) (weights chain carries sums scratch : List Float) (a : Ran) (chain' carries' sums' : List Float) : Type 0 where
-  pub work : (source : List Float) → SourcesFrom (r .shape) z source scratch → workFrom rules (keptOf r source weights chain carries sums) z ≡ answered (a .verdict) (keptOf (a .run) source weights chain' carries' sums')
+  pub work : (source : List Float) → SourcesFrom (r .shape) z source scratch
+      → workFrom rules (keptOf r source weights chain carries sums) z
+      ≡ answered (a .verdict) (keptOf (a .run) source weights chain' carries' sums')
   pub left : (q : Refusal) → a .verdict ≡ Refused q → (a .run ≡ r) × (chain' ≡ chain) × (carries' ≡ carries) × (sums' ≡ sums)
 
--- the ranks, counts and flags of a run
+-- the bonds of a run
 abbrev pub walkedOf : Run → Walked
-walkedOf r = record { verdict = Fits; shape = r .shape; ranks = r .ranks; sweeps = r .sweeps; settled = r .settled }
+walkedOf r = record { verdict = Fits; shape = r .shape; bonds = r .bonds }
 
 -- and the run with new ones, and with a new figure
 abbrev pub runWith : Run → Walked → Float → Run
-runWith r w figure = record { shape = r .shape; axes = r .axes; set = r .set; ranks = w .ranks; sweeps = w .sweeps; settled = w .settled; figure = figure }
+runWith r w figure = record { shape = r .shape; axes = r .axes; set = r .set; bonds = w .bonds; figure = figure }

@@ -21,7 +21,7 @@ fn step_again(
     requires { ⌜ Steps z w set xs (now work) (now carries) ⌝ }
     ensures { λ r. ⌜ ((weights : List Float) →
         restep rules (inPlace (w .shape) xs set (now (work .entry)) weights) (heldBy w (now (work .entry)) (now (carries .entry))) z
-        ≡ answered (r .verdict) (heldBy r (now (work .exit)) (now (carries .exit)))) × (r .verdict ≡ Fits → RanksWithin (w .shape) (r .ranks) (w .shape .d)) ⌝ }
+        ≡ answered (r .verdict) (heldBy r (now (work .exit)) (now (carries .exit)))) × (r .verdict ≡ Fits → RanksWithin (w .shape) (r .bonds) (w .shape .d)) ⌝ }
 {
     let s = w.shape;
     let mut room = [0.0; shape::MOST_CORE];
@@ -29,20 +29,16 @@ fn step_again(
     steps::step_from(z, s, w, set, xs, work, carries, &mut room, &mut block)
 }
 
-// The same ranks, counts and flags with another verdict.
+// The same bonds with another verdict.
 fn judged(verdict: answers::Verdict, w: cuts::Walked) -> cuts::Walked
-    ensures { λ r. ⌜ r ≡ record { verdict = verdict; shape = w .shape; ranks = w .ranks; sweeps = w .sweeps; settled = w .settled } ⌝ }
+    ensures { λ r. ⌜ r ≡ record { verdict = verdict; shape = w .shape; bonds = w .bonds } ⌝ }
 {
     let shape = w.shape;
-    let ranks = w.ranks;
-    let sweeps = w.sweeps;
-    let settled = w.settled;
+    let bonds = w.bonds;
     cuts::Walked {
         verdict,
         shape,
-        ranks,
-        sweeps,
-        settled,
+        bonds,
     }
 }
 
@@ -59,7 +55,10 @@ pub fn redo_from(
 ) -> cuts::Walked
     requires { ⌜ Steps z w set xs (now work) (now carries) ⌝ }
     requires { ⌜ Sums (w .shape) (now weights) (now sums) ⌝ }
-    ensures { λ r. ⌜ workFrom rules (heldIn (inPlace (w .shape) xs set (now (work .entry)) (now (weights .entry))) w (now (work .entry)) (now (carries .entry)) (now (sums .entry))) z ≡ answered (r .verdict) (heldIn (inPlace (w .shape) xs set (now (work .entry)) (now (weights .entry))) r (now (work .exit)) (now (carries .exit)) (now (sums .exit))) ⌝ }
+    ensures { λ r. ⌜ workFrom rules
+        (heldIn (inPlace (w .shape) xs set (now (work .entry)) (now (weights .entry))) w (now (work .entry)) (now (carries .entry)) (now (sums .entry))) z
+        ≡ answered (r .verdict)
+        (heldIn (inPlace (w .shape) xs set (now (work .entry)) (now (weights .entry))) r (now (work .exit)) (now (carries .exit)) (now (sums .exit))) ⌝ }
 {
     let s = w.shape;
     let stepped = step_again(z, w, set, xs, work, carries);
@@ -67,8 +66,8 @@ pub fn redo_from(
     if let answers::Verdict::Refused(q) = verdict {
         return stepped;
     }
-    let ranks = stepped.ranks;
-    let t = run_checks::ranks::kept_shape(s, ranks);
+    let bonds = stepped.bonds;
+    let t = run_checks::ranks::kept_shape(s, bonds);
     let summed = product::sums::sum_from(z, s, t, work, weights, sums);
     judged(summed, stepped)
 }

@@ -45,27 +45,19 @@ fn walked_of(r: runform::Run) -> cuts::Walked
     ensures { λ w. ⌜ w ≡ walkedOf r ⌝ }
 {
     let shape = r.shape;
-    let ranks = r.ranks;
-    let sweeps = r.sweeps;
-    let settled = r.settled;
+    let bonds = r.bonds;
     cuts::Walked {
         verdict: answers::Verdict::Fits,
         shape,
-        ranks,
-        sweeps,
-        settled,
+        bonds,
     }
 }
 
 fn fitted(mut r: runform::Run, w: cuts::Walked, figure: f64) -> runform::Ran
     ensures { λ a. ⌜ a ≡ record { verdict = Fits; run = runWith r w figure } ⌝ }
 {
-    let ranks = w.ranks;
-    r.ranks = ranks;
-    let sweeps = w.sweeps;
-    r.sweeps = sweeps;
-    let settled = w.settled;
-    r.settled = settled;
+    let bonds = w.bonds;
+    r.bonds = bonds;
     r.figure = figure;
     runform::Ran {
         verdict: answers::Verdict::Fits,
@@ -84,7 +76,8 @@ fn worked(
     scratch: &mut [f64],
 ) -> runform::Ran
     requires { ⌜ RenewAsks r z (now weights) (now chain) (now carries) (now sums) (now scratch) ⌝ }
-    ensures { λ a. ⌜ Renewed r z (now (weights .entry)) (now (chain .entry)) (now (carries .entry)) (now (sums .entry)) (now (scratch .entry)) a (now (chain .exit)) (now (carries .exit)) (now (sums .exit)) ⌝ }
+    ensures { λ a. ⌜ Renewed r z (now (weights .entry)) (now (chain .entry)) (now (carries .entry)) (now (sums .entry))
+        (now (scratch .entry)) a (now (chain .exit)) (now (carries .exit)) (now (sums .exit)) ⌝ }
 {
     let s = r.shape;
     let xs = r.axes;
@@ -122,7 +115,9 @@ pub fn renew(
     scratch: &mut [f64],
 ) -> runform::Ran
     requires { ⌜ RenewAsks r z (now weights) (now chain) (now carries) (now sums) (now scratch) ⌝ }
-    ensures { λ a. ⌜ (Renewed r z (now (weights .entry)) (now (chain .entry)) (now (carries .entry)) (now (sums .entry)) (now (scratch .entry)) a (now (chain .exit)) (now (carries .exit)) (now (sums .exit))) × (now (scratch .exit) ≡ zeros (length (now (scratch .entry)))) ⌝ }
+    ensures { λ a. ⌜ (Renewed r z (now (weights .entry)) (now (chain .entry)) (now (carries .entry)) (now (sums .entry))
+        (now (scratch .entry)) a (now (chain .exit)) (now (carries .exit)) (now (sums .exit)))
+        × (now (scratch .exit) ≡ zeros (length (now (scratch .entry)))) ⌝ }
 {
     let a = worked(z, r, weights, chain, carries, sums, scratch);
     lists::fill(scratch, 0.0);

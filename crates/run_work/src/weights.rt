@@ -75,7 +75,7 @@ fn commit(
 }
 
 fn fitted(mut r: runform::Run, figure: f64) -> runform::Ran
-    ensures { λ a. ⌜ a ≡ record { verdict = Fits; run = record { shape = r .shape; axes = r .axes; set = r .set; ranks = r .ranks; sweeps = r .sweeps; settled = r .settled; figure = figure } } ⌝ }
+    ensures { λ a. ⌜ a ≡ record { verdict = Fits; run = record { shape = r .shape; axes = r .axes; set = r .set; bonds = r .bonds; figure = figure } } ⌝ }
 {
     r.figure = figure;
     runform::Ran {
@@ -93,14 +93,24 @@ pub fn resummed(
     sums: &mut [f64],
     part: &[f64],
 ) -> runform::Ran
-    requires { ⌜ shapeOk (r .shape) (rankOk (r .shape) (r .ranks)) ≡ done tt ⌝ }
+    requires { ⌜ shapeOk (r .shape) (rankOk (r .shape) (r .bonds)) ≡ done tt ⌝ }
     requires { ⌜ Lent (r .shape) z (now part) (now weights) (now chain) (now sums) ⌝ }
     ensures { λ a. ⌜ ((source carries scratch : List Float) →
-        record { result = a; source = source; weights = now (weights .exit); chain = now (chain .entry); carries = carries; sums = now (sums .exit); scratch = zeros (length scratch) } ≡ weightsEnd r z source (now (weights .entry)) (now (chain .entry)) carries (now (sums .entry)) (now (part .entry)) scratch) ⌝ }
+        record {
+          result = a;
+          source = source;
+          weights = now (weights .exit);
+          chain = now (chain .entry);
+          carries = carries;
+          sums = now (sums .exit);
+          scratch = zeros (length scratch);
+        }
+        ≡ weightsEnd r z source (now (weights .entry)) (now (chain .entry)) carries (now (sums .entry))
+        (now (part .entry)) scratch) ⌝ }
 {
     let s = r.shape;
-    let ranks = r.ranks;
-    let t = run_checks::ranks::kept_shape(s, ranks);
+    let bonds = r.bonds;
+    let t = run_checks::ranks::kept_shape(s, bonds);
     let mut held = [0.0; shape::MOST_SUMS];
     let made = sums_anew(z, s, t, chain, weights, part, sums, &mut held);
     if let answers::Verdict::Refused(q) = made {

@@ -1,4 +1,5 @@
--- THE RESTART, in memory: on inputs that differ from those of a fresh run at zone z and behind it only, the work from z on, from the carry and the sum that the run holds there, leaves what the work from zone 0 on a blank run leaves, or refuses alike. Of the rules only `Sound` is used.
+-- THE RESTART, in memory: on inputs that differ from those of a fresh run at zone z and behind it only, the work from z on, from the carry and the sum
+-- that the run holds there, leaves what the work from zone 0 on a blank run leaves, or refuses alike. Of the rules only `Sound` is used.
 use mathlib.Core.Path.{_≡_, refl, sym, ap, _∙_}
 use Prim.Native.Nat.{ℕ, zero, suc, _+_, _-_, _≤_, _<_}
 use native.Mathlib.Nat.{zero-add, sub-zero}

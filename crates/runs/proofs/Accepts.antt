@@ -18,6 +18,8 @@ use Rattle.shape.specs.Limits.{mostAxes, within, scratchFor}
 use Rattle.shape.specs.Shapes.{leftOf, rightOf, sizeOk, bondOk, shapeOk, chainOk, coreSize, entriesOf}
 use Rattle.shape.specs.Sizes.{SizesWithin}
 use Rattle.shape.proofs.Shaped.{shaped, shape-same, within-is}
+use Rattle.cutform.specs.declared.Bond.{Bond as Told}
+use Rattle.cutform.specs.Keeping.{rankAmong}
 use Rattle.stepform.specs.declared.Axis.{Axis}
 use Rattle.stepform.specs.declared.Settings.{Settings}
 use Rattle.stepform.specs.Zones.{rules}
@@ -49,12 +51,12 @@ module _ (s : Shape) (kept : ℕ → Bool) (ok : shapeOk s kept ≡ done tt) whe
   chain-passes : chainOk s ≡ done tt
   chain-passes = sym (shape-same s kept (λ (k : ℕ). true) kept-passes) ∙ ok
 
-ranks-pass : (s : Shape) (ranks : List ℕ) → shapeOk s (rankOk s ranks) ≡ done tt → (m : ℕ) → RanksWithin s ranks m
+ranks-pass : (s : Shape) (bonds : List Told) → shapeOk s (rankOk s bonds) ≡ done tt → (m : ℕ) → RanksWithin s bonds m
 unfolding rankOk
-ranks-pass s ranks ok m k a b =
-    let r = getD ranks k 0 in
+ranks-pass s bonds ok m k a b =
+    let r = rankAmong bonds k in
     let here : cond (ltb (suc k) (s .d)) (within (rightOf s k) r) true ≡ within (rightOf s k) r = ap (λ (x : Bool). cond x (within (rightOf s k) r) true) (ltb-yes (suc k) (s .d) b) in
-    within-is (rightOf s k) r (sym here ∙ kept-passes s (rankOk s ranks) ok k (omega arith))
+    within-is (rightOf s k) r (sym here ∙ kept-passes s (rankOk s bonds) ok k (omega arith))
 
 scratch-is : (s : Shape) (j n : ℕ) → scratchLent s j n ≡ done tt → entriesOf s ≤ n
 unfolding scratchLent
@@ -77,7 +79,7 @@ module _ (r : Run) (source weights chain carries sums : List Float) where
     say = checks-say rules (scratchLent s j n) run q (verdict-passed _ v e h)
 
     sizes : SizesWithin (r .shape)
-    sizes = shaped s (rankOk s (r .ranks)) (say .shape) .sizes
+    sizes = shaped s (rankOk s (r .bonds)) (say .shape) .sizes
 
     source-long : length source ≡ entriesOf (r .shape)
     source-long = slices-are run (say .slices) .source
@@ -86,15 +88,15 @@ module _ (r : Run) (source weights chain carries sums : List Float) where
     room = omega (arith, source-long, scratch-is s j n (say .scratch))
 
     asked : (xs : List Axis) → ((k : ℕ) → zoneOf q ≤ k → k < r .shape .d → axisReaches (r .set) (r .shape) xs k ≡ true) → (scratch : List Float) → length scratch ≡ n
-        → RenewAsks (record { shape = r .shape; axes = xs; set = r .set; ranks = r .ranks; sweeps = r .sweeps; settled = r .settled; figure = r .figure }) (zoneOf q) weights chain carries sums scratch
+        → RenewAsks (record { shape = r .shape; axes = xs; set = r .set; bonds = r .bonds; figure = r .figure }) (zoneOf q) weights chain carries sums scratch
     asked xs reach scratch l =
         let L = slices-are run (say .slices) in
         let w = L .weights in
         record {
-          ok = chain-passes s (rankOk s (r .ranks)) (say .shape);
+          ok = chain-passes s (rankOk s (r .bonds)) (say .shape);
           zone = say .order .inside;
           reach = reach;
-          ranks = ranks-pass s (r .ranks) (say .shape) (zoneOf q);
+          ranks = ranks-pass s (r .bonds) (say .shape) (zoneOf q);
           points = omega (arith, w);
           chain-long = L .chain;
           carries-long = L .carries;

@@ -66,14 +66,14 @@ write-all : (size : ℕ → ℕ) (o : Float) (d : ℕ) (q : List (List Float)) (
 unfolding write offset
 write-all size o d q l l' e e' = ap (λ (x : List Float). laid size o 0 q ++ x) (drop-of-length-le l {i = offset size d} (le-of-eq e) ∙ sym (drop-of-length-le l' {i = offset size d} (le-of-eq e')))
 
-module _ (i : Inputs) (h h' : Stepped) (ranks : h .ranks ≡ h' .ranks) (sweeps : h .sweeps ≡ h' .sweeps) (settled : h .settled ≡ h' .settled)
+module _ (i : Inputs) (h h' : Stepped) (bonds : h .bonds ≡ h' .bonds)
     (c : length (h .chain) ≡ entriesOf (i .shape)) (c' : length (h' .chain) ≡ entriesOf (i .shape)) (b : length (h .carries) ≡ allCarries (i .shape)) (b' : length (h' .carries) ≡ allCarries (i .shape)) where
   step-any : (tr : List (Carry × Cut)) → keepStep (i .shape) 0 tr h ≡ keepStep (i .shape) 0 tr h'
   unfolding keepStep
   step-any tr =
       let chain = write-all (coreSize (i .shape)) zero64 (i .shape .d) (map (λ (r : Carry × Cut). r .1 .core .entries) tr) (h .chain) (h' .chain) c c' in
       let carries = write-all (carrySize (i .shape)) zero64 (i .shape .d) (map (λ (r : Carry × Cut). numbersIn (r .0)) tr) (h .carries) (h' .carries) b b' in
-      cc (chain, carries, ranks, sweeps, settled)
+      cc (chain, carries, bonds)
 
   module _ (u u' : Summed) (n : length (u .sums) ≡ allSums (i .shape)) (n' : length (u' .sums) ≡ allSums (i .shape)) where
     sums-any : (e : List (List Float × Unit {0})) → keepSums (i .shape) 0 e u ≡ keepSums (i .shape) 0 e u'
@@ -115,7 +115,9 @@ module _ (s : Shape) (xs : List Axis) (set : Settings) (source weights chain car
   endOf a x y w u = record { result = a; chain = x; carries = y; sums = w; scratch = u }
 
   -- refused by a check, all is as it was
-  pub fresh-stops : (r : Run) → r ≡ blankRun s xs set → (q : Refusal) → v ≡ Refused q → (a : Ran) → a ≡ record { verdict = Refused q; run = r } → record { result = a; chain = chain; carries = carries; sums = sums; scratch = scratch } ≡ freshCall s xs set source weights chain carries sums scratch
+  pub fresh-stops : (r : Run) → r ≡ blankRun s xs set → (q : Refusal) → v ≡ Refused q
+      → (a : Ran) → a ≡ record { verdict = Refused q; run = r } → record { result = a; chain = chain; carries = carries; sums = sums; scratch = scratch }
+      ≡ freshCall s xs set source weights chain carries sums scratch
   unfolding freshEnd bare scratchAfter pick
   fresh-stops r j q h a f =
       let c = verdict-refused ok v q e h in
@@ -127,7 +129,9 @@ module _ (s : Shape) (xs : List Axis) (set : Settings) (source weights chain car
       ∙ ap (λ (y : Bool). endOf (record { verdict = Refused q; run = blankRun s xs set }) chain carries sums (pick y scratch (zeros (length scratch)))) b)
 
   -- the run r that keeps nothing yet is made anew from zone 0 on
-  module _ (h : v ≡ Fits) (r : Run) (j : r ≡ blankRun s xs set) (work : List Float) (A : RenewAsks r 0 weights chain carries sums work) (a : Ran) (chain' carries' sums' : List Float) (R : Renewed r 0 weights chain carries sums work a chain' carries' sums') (S : SourcesFrom s 0 source work)
+  module _ (h : v ≡ Fits) (r : Run) (j : r ≡ blankRun s xs set) (work : List Float)
+      (A : RenewAsks r 0 weights chain carries sums work) (a : Ran) (chain' carries' sums' : List Float)
+      (R : Renewed r 0 weights chain carries sums work a chain' carries' sums') (S : SourcesFrom s 0 source work)
       (u : List Float) (c : u ≡ zeros (length scratch)) where
     abbrev r0 : Run
     r0 = blankRun s xs set
@@ -142,7 +146,9 @@ module _ (s : Shape) (xs : List Axis) (set : Settings) (source weights chain car
     unfolding blank bare
     whole =
         let k = keptOf r0 source weights chain carries sums in
-        sym (work-any i (k .stepped) (blank i .stepped) refl refl refl (A0 .chain-long) (length-replicate (entriesOf s) zero64) (A0 .carries-long) (length-replicate (allCarries s) zero64) (k .summed) (blank i .summed) (A0 .sums-long) (length-replicate (allSums s) zero64))
+        sym (work-any i (k .stepped) (blank i .stepped) refl (A0 .chain-long) (length-replicate (entriesOf s) zero64)
+        (A0 .carries-long) (length-replicate (allCarries s) zero64)
+        (k .summed) (blank i .summed) (A0 .sums-long) (length-replicate (allSums s) zero64))
         ∙ R0 .work source S
 
     goes : freshEnd i m (workFrom rules (blank i) 0) ≡ freshCall s xs set source weights chain carries sums scratch

@@ -46,7 +46,9 @@ module _ (k : Kept) (scratch u : List Float) (e : u ≡ zeros (length scratch)) 
   end-done k' f = ap (endOf (record { verdict = Fits; run = recordOf k' }) k') e ∙ ap (replaceEnd k scratch) (sym f)
 
 -- ---- a run r that is made anew from zone z on, with the source l
-module _ (r : Run) (z : ℕ) (weights chain carries sums work : List Float) (a : Ran) (chain' carries' sums' : List Float) (R : Renewed r z weights chain carries sums work a chain' carries' sums') (l : List Float) (S : SourcesFrom (r .shape) z l work) where
+module _ (r : Run) (z : ℕ) (weights chain carries sums work : List Float)
+    (a : Ran) (chain' carries' sums' : List Float) (R : Renewed r z weights chain carries sums work a chain' carries' sums')
+    (l : List Float) (S : SourcesFrom (r .shape) z l work) where
   abbrev whole : Answer Kept
   whole = workFrom rules (keptOf r l weights chain carries sums) z
 
@@ -76,14 +78,18 @@ module _ (r : Run) (z : ℕ) (source weights chain carries sums part scratch : L
   abbrev anew : List Float
   anew = put (coreSize (r .shape)) z part source
 
-  pub core-refused : (q : Refusal) → a .verdict ≡ Refused q → record { result = a; source = source; weights = weights; chain = chain'; carries = carries'; sums = sums'; scratch = u } ≡ replaceCoreCall r z source weights chain carries sums part scratch
+  pub core-refused : (q : Refusal) → a .verdict ≡ Refused q
+      → record { result = a; source = source; weights = weights; chain = chain'; carries = carries'; sums = sums'; scratch = u }
+      ≡ replaceCoreCall r z source weights chain carries sums part scratch
   core-refused q f =
       let L = R .left q f in
       end-of-parts source weights u (ran-is a (Refused q) r f (L .0)) (L .1) (L .2) (L .3)
       ∙ end-refused k scratch u c (workFrom rules (keptOf r anew weights chain carries sums) z) q (whole-refused r z weights chain carries sums work a chain' carries' sums' R anew S q f) (late-work (keptOf r anew weights chain carries sums) z)
       ∙ replace-goes k (newCore z part) scratch v e h
 
-  pub core-ends : a .verdict ≡ Fits → (l : List Float) → l ≡ put (coreSize (r .shape)) z part source → record { result = a; source = l; weights = weights; chain = chain'; carries = carries'; sums = sums'; scratch = u } ≡ replaceCoreCall r z source weights chain carries sums part scratch
+  pub core-ends : a .verdict ≡ Fits → (l : List Float) → l ≡ put (coreSize (r .shape)) z part source
+      → record { result = a; source = l; weights = weights; chain = chain'; carries = carries'; sums = sums'; scratch = u }
+      ≡ replaceCoreCall r z source weights chain carries sums part scratch
   core-ends f l g =
       ap (λ (x : List Float). record { result = a; source = x; weights = weights; chain = chain'; carries = carries'; sums = sums'; scratch = u }) g
       ∙ end-of-parts anew weights u (ran-is a Fits (a .run) f refl) refl refl refl
@@ -105,11 +111,15 @@ module _ (r : Run) (z : ℕ) (x : Axis) (source weights chain carries sums scrat
   R' : Renewed (axisRun r z x) z weights chain carries sums work a chain' carries' sums'
   R' = subst (λ (t : Run). Renewed t z weights chain carries sums work a chain' carries' sums') i R
 
-  pub axis-refused : (q : Refusal) → a .verdict ≡ Refused q → (b : Ran) → b ≡ record { verdict = Refused q; run = r } → record { result = b; source = source; weights = weights; chain = chain'; carries = carries'; sums = sums'; scratch = u } ≡ replaceAxisCall r z x source weights chain carries sums scratch
+  pub axis-refused : (q : Refusal) → a .verdict ≡ Refused q → (b : Ran) → b ≡ record { verdict = Refused q; run = r }
+      → record { result = b; source = source; weights = weights; chain = chain'; carries = carries'; sums = sums'; scratch = u }
+      ≡ replaceAxisCall r z x source weights chain carries sums scratch
   axis-refused q f b g =
       let L = R .left q f in
       end-of-parts source weights u g (L .1) (L .2) (L .3)
-      ∙ end-refused k2 scratch u c (workFrom rules (keptOf y' source weights chain carries sums) z) q (whole-refused y' z weights chain carries sums work a chain' carries' sums' R' source S q f) (late-work (keptOf y' source weights chain carries sums) z)
+      ∙ end-refused k2 scratch u c (workFrom rules (keptOf y' source weights chain carries sums) z) q
+      (whole-refused y' z weights chain carries sums work a chain' carries' sums' R' source S q f)
+      (late-work (keptOf y' source weights chain carries sums) z)
       ∙ replace-goes k2 (newAxis z x) scratch v e h
 
   pub axis-ends : a .verdict ≡ Fits → record { result = a; source = source; weights = weights; chain = chain'; carries = carries'; sums = sums'; scratch = u } ≡ replaceAxisCall r z x source weights chain carries sums scratch

@@ -76,7 +76,15 @@ module _ (k : Kept) (q : Request) (scratch : List Float) (v : Verdict) (e : v �
       ∙ sym
       (called
       ∙ ap (replaceEnd k scratch) g
-      ∙ ap (λ (y : Bool). record { result = record { verdict = Refused r; run = recordOf k }; source = k .inputs .source; weights = k .inputs .weights; chain = k .stepped .chain; carries = k .stepped .carries; sums = k .summed .sums; scratch = pick y scratch (zeros (length scratch)) }) b)
+      ∙ ap (λ (y : Bool). record {
+        result = record { verdict = Refused r; run = recordOf k };
+        source = k .inputs .source;
+        weights = k .inputs .weights;
+        chain = k .stepped .chain;
+        carries = k .stepped .carries;
+        sums = k .summed .sums;
+        scratch = pick y scratch (zeros (length scratch));
+      }) b)
 
   pub replace-goes : v ≡ Fits → replaceEnd k scratch work ≡ replaceBy rules k q scratch
   replace-goes h = ap (λ (c : Check). replaceEnd k scratch (c then work)) (sym (verdict-passed ok v e h)) ∙ sym called

@@ -6,14 +6,15 @@ use lib.ListN.{replicate, set}
 use Rattle.numbers.specs.Arithmetic.{zero64}
 use Rattle.shape.specs.declared.Shape.{Shape}
 use Rattle.shape.specs.Limits.{mostAxes}
+use Rattle.cutform.specs.Bonds.{noBond}
 use Rattle.stepform.specs.declared.Axis.{Axis}
 use Rattle.stepform.specs.declared.Settings.{Settings}
 use Rattle.runform.specs.declared.Run.{Run}
 
 -- it keeps nothing yet
 abbrev pub blankRun : Shape → List Axis → Settings → Run
-blankRun s xs t = record { shape = s; axes = xs; set = t; ranks = replicate mostAxes 0; sweeps = replicate mostAxes 0; settled = replicate mostAxes false; figure = zero64 }
+blankRun s xs t = record { shape = s; axes = xs; set = t; bonds = replicate mostAxes noBond; figure = zero64 }
 
 -- with a new record for axis z
 abbrev pub axisRun : Run → ℕ → Axis → Run
-axisRun r z x = record { shape = r .shape; axes = set (r .axes) z x; set = r .set; ranks = r .ranks; sweeps = r .sweeps; settled = r .settled; figure = r .figure }
+axisRun r z x = record { shape = r .shape; axes = set (r .axes) z x; set = r .set; bonds = r .bonds; figure = r .figure }

@@ -13,13 +13,12 @@ fn blank_run(
 ) -> runform::Run
     ensures { λ r. ⌜ r ≡ blankRun s xs set ⌝ }
 {
+    let none = bond::no_bond();
     runform::Run {
         shape: s,
         axes: xs,
         set,
-        ranks: [0; shape::MOST_AXES],
-        sweeps: [0; shape::MOST_AXES],
-        settled: [false; shape::MOST_AXES],
+        bonds: [none; shape::MOST_AXES],
         figure: 0.0,
     }
 }
@@ -36,7 +35,9 @@ pub fn fresh_run(
     sums: &mut [f64],
     scratch: &mut [f64],
 ) -> runform::Ran
-    ensures { λ a. ⌜ record { result = a; chain = now (chain .exit); carries = now (carries .exit); sums = now (sums .exit); scratch = now (scratch .exit) } ≡ freshCall s xs set (now (source .entry)) (now (weights .entry)) (now (chain .entry)) (now (carries .entry)) (now (sums .entry)) (now (scratch .entry)) ⌝ }
+    ensures { λ a. ⌜ record { result = a; chain = now (chain .exit); carries = now (carries .exit); sums = now (sums .exit); scratch = now (scratch .exit) }
+        ≡ freshCall s xs set (now (source .entry)) (now (weights .entry)) (now (chain .entry)) (now (carries .entry))
+        (now (sums .entry)) (now (scratch .entry)) ⌝ }
 {
     let r = blank_run(s, xs, set);
     let ok = run_checks::calls::fresh_ok(
@@ -69,7 +70,17 @@ pub fn replace_core(
     part: &[f64],
     scratch: &mut [f64],
 ) -> runform::Ran
-    ensures { λ a. ⌜ record { result = a; source = now (source .exit); weights = now (weights .entry); chain = now (chain .exit); carries = now (carries .exit); sums = now (sums .exit); scratch = now (scratch .exit) } ≡ replaceCoreCall r z (now (source .entry)) (now (weights .entry)) (now (chain .entry)) (now (carries .entry)) (now (sums .entry)) (now (part .entry)) (now (scratch .entry)) ⌝ }
+    ensures { λ a. ⌜ record {
+      result = a;
+      source = now (source .exit);
+      weights = now (weights .entry);
+      chain = now (chain .exit);
+      carries = now (carries .exit);
+      sums = now (sums .exit);
+      scratch = now (scratch .exit);
+    }
+        ≡ replaceCoreCall r z (now (source .entry)) (now (weights .entry)) (now (chain .entry)) (now (carries .entry)) (now (sums .entry))
+        (now (part .entry)) (now (scratch .entry)) ⌝ }
 {
     let ok = run_checks::calls::core_ok(
         r,
@@ -119,7 +130,17 @@ pub fn replace_axis(
     sums: &mut [f64],
     scratch: &mut [f64],
 ) -> runform::Ran
-    ensures { λ a. ⌜ record { result = a; source = now (source .entry); weights = now (weights .entry); chain = now (chain .exit); carries = now (carries .exit); sums = now (sums .exit); scratch = now (scratch .exit) } ≡ replaceAxisCall r z x (now (source .entry)) (now (weights .entry)) (now (chain .entry)) (now (carries .entry)) (now (sums .entry)) (now (scratch .entry)) ⌝ }
+    ensures { λ a. ⌜ record {
+      result = a;
+      source = now (source .entry);
+      weights = now (weights .entry);
+      chain = now (chain .exit);
+      carries = now (carries .exit);
+      sums = now (sums .exit);
+      scratch = now (scratch .exit);
+    }
+        ≡ replaceAxisCall r z x (now (source .entry)) (now (weights .entry)) (now (chain .entry)) (now (carries .entry)) (now (sums .entry))
+        (now (scratch .entry)) ⌝ }
 {
     let ok = run_checks::new_axis::axis_ok(
         r,
@@ -158,7 +179,17 @@ pub fn replace_weights(
     part: &[f64],
     scratch: &mut [f64],
 ) -> runform::Ran
-    ensures { λ a. ⌜ record { result = a; source = now (source .entry); weights = now (weights .exit); chain = now (chain .entry); carries = now (carries .entry); sums = now (sums .exit); scratch = now (scratch .exit) } ≡ replaceWeightsCall r z (now (source .entry)) (now (weights .entry)) (now (chain .entry)) (now (carries .entry)) (now (sums .entry)) (now (part .entry)) (now (scratch .entry)) ⌝ }
+    ensures { λ a. ⌜ record {
+      result = a;
+      source = now (source .entry);
+      weights = now (weights .exit);
+      chain = now (chain .entry);
+      carries = now (carries .entry);
+      sums = now (sums .exit);
+      scratch = now (scratch .exit);
+    }
+        ≡ replaceWeightsCall r z (now (source .entry)) (now (weights .entry)) (now (chain .entry)) (now (carries .entry)) (now (sums .entry))
+        (now (part .entry)) (now (scratch .entry)) ⌝ }
 {
     let ok = run_checks::calls::weights_ok(
         r,

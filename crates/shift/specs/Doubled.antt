@@ -1,4 +1,5 @@
--- The shift as it is worked out: over a block written twice, so that no index wraps. The inner functions cite this; proofs/Around.antt says that it is the shift. Definitions only.
+-- The shift as it is worked out: over a block written twice, so that no index wraps. The inner functions cite this;
+-- proofs/Around.antt says that it is the shift. Definitions only.
 use mathlib.Core.Path.{_≡_}
 use Prim.Native.Nat.{ℕ, _+_, _*_, _≤_}
 use mathlib.Core.List.{List, _++_}

@@ -74,7 +74,8 @@ fn shift_block(
     requires { ⌜ (length (now out) ≤ length (now t)) × StartRoom (now ahead) (length (now out)) (length (now t))
         × StartRoom (now behind) (length (now out)) (length (now t)) ⌝ }
     ensures { λ _. ⌜ now (out .exit)
-        ≡ tab (length (now (out .entry))) (entryIn (now (t .entry)) (now (forward .entry)) (now (ahead .entry)) (now (backward .entry)) (now (behind .entry))) ⌝ }
+        ≡ tab (length (now (out .entry)))
+        (entryIn (now (t .entry)) (now (forward .entry)) (now (ahead .entry)) (now (backward .entry)) (now (behind .entry))) ⌝ }
 {
     for j in 0..out.len() {
         let x = bands::entry_at(t, j, forward, ahead, backward, behind);

@@ -23,7 +23,9 @@ pub fn move_from(
 ) -> answers::Verdict
     requires { ⌜ (Stands s t (now work)) × (Rooms (now room) (now block)) ⌝ }
     requires { ⌜ (z ≤ s .d) × ((k : ℕ) → z ≤ k → k < s .d → axisReaches set s xs k ≡ true) ⌝ }
-    ensures { λ r. ⌜ bind (every (shiftZone rules set) z (listed (s .d - z) z (zoneIn s t xs (now (work .entry))))) (λ a. every (scaleZone rules set) z a) ≡ answered r (standFrom s t z (now (work .exit))) ⌝ }
+    ensures { λ r. ⌜ bind (every (shiftZone rules set) z (listed (s .d - z) z (zoneIn s t xs (now (work .entry)))))
+        (λ a. every (scaleZone rules set) z a)
+        ≡ answered r (standFrom s t z (now (work .exit))) ⌝ }
     ensures { λ _. ⌜ Onward s z (now (work .entry)) (now (work .exit)) ⌝ }
 {
     let mut k = z;

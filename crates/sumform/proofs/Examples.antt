@@ -29,7 +29,9 @@ of l = map (ofBits binary64) l
 abbrev core : Core
 core =
     coreWith 2 3 2 (of
-    (0x3fb999999999999a ∷ 0x3fe6666666666666 ∷ 0xbfd3333333333333 ∷ 0x3feccccccccccccd ∷ 0x3fc999999999999a ∷ 0x3fd999999999999a ∷ 0x3ff8000000000000 ∷ 0xc000000000000000 ∷ 0x3fd0000000000000 ∷ 0x3fd3333333333333 ∷ 0x3fd51eb851eb851f ∷ 0xbfe8a3d70a3d70a4 ∷ []))
+    (0x3fb999999999999a ∷ 0x3fe6666666666666 ∷ 0xbfd3333333333333 ∷ 0x3feccccccccccccd
+    ∷ 0x3fc999999999999a ∷ 0x3fd999999999999a ∷ 0x3ff8000000000000 ∷ 0xc000000000000000
+    ∷ 0x3fd0000000000000 ∷ 0x3fd3333333333333 ∷ 0x3fd51eb851eb851f ∷ 0xbfe8a3d70a3d70a4 ∷ []))
 
 pub one-axis : map (toBits binary64) (contract core (of (0x3feccccccccccccd ∷ 0x3fb999999999999a ∷ 0x3ff4cccccccccccd ∷ [])) (of (0x3fd3333333333333 ∷ 0xbffb333333333333 ∷ []))) ≡ 0xc007c432ca57a786 ∷ 0x401454af4f0d844d ∷ []
 unfolding add mul ofBits toBits listed sumOn sumRows place entry contract
@@ -62,7 +64,8 @@ unfolding add mul ofBits toBits listed offset slot sumOn sumTo place entry coreA
 lone-entries = refl
 
 pub lone-figures : figure at-first ∷ figure at-last ∷ [] ≡ (Fits, 0) ∷ (Fits, 0xc008000000000000) ∷ []
-unfolding add mul ofBits toBits demand demandEach pick listed offset slot sumOn sumRows allFinite stored place entry coreAt pointsAt coreSize pointSize sizeOk bondOk shapeOk contract contractAt sumAxis walk sums inner weighed innerLent innerFinite innerOk innerCall
+unfolding add mul ofBits toBits demand demandEach pick listed offset slot sumOn sumRows allFinite stored place entry coreAt pointsAt coreSize pointSize sizeOk
+    bondOk shapeOk contract contractAt sumAxis walk sums inner weighed innerLent innerFinite innerOk innerCall
 lone-figures = refl
 
 -- and the entry theorem speaks of this call

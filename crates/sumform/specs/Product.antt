@@ -1,4 +1,5 @@
--- The inner product with the zones' weights, as a walk over the cores: the state is the partial sums (001: `inner_separable`, `contract_step`). Definitions only.
+-- The inner product with the zones' weights, as a walk over the cores: the state is the partial sums
+-- (001: `inner_separable`, `contract_step`). Definitions only.
 use Prim.Native.Nat.{ℕ}
 use mathlib.Core.List.{List, [], _∷_}
 use lib.ListN.{length}

@@ -45,7 +45,9 @@ ends-as F x y r l w o e f g =
     }
 
 -- p is the settings or the course, k the axis records; e is what the call's definition gives
-pub steps-as : {P : Type 0} (F : Shape → P → List Axis → Ended) (x y : Shape) (p q : P) (k m : List Axis) (e : Ended) (r : Rounded) (l w : List Float) (o : CRounded) → x ≡ y → p ≡ q → k ≡ m → F y q m ≡ e → Answers (F x p k) r l w → o ≡ roundedOut r → EndsAs e o l w
+pub steps-as : {P : Type 0} (F : Shape → P → List Axis → Ended) (x y : Shape) (p q : P) (k m : List Axis)
+    (e : Ended) (r : Rounded) (l w : List Float) (o : CRounded)
+    → x ≡ y → p ≡ q → k ≡ m → F y q m ≡ e → Answers (F x p k) r l w → o ≡ roundedOut r → EndsAs e o l w
 steps-as F x y p q k m e r l w o f g h same a b =
     let all : F x p k ≡ e = ap (λ z. F z p k) f ∙ ap (λ z. F y z k) g ∙ ap (λ z. F y q z) h ∙ same in
     record {

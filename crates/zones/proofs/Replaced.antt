@@ -36,8 +36,12 @@ replaced e r x f l c s w o h b = record {
   scratch = ap (λ (z : ReplaceEnd). z .scratch) h;
 }
 
-pub replaces-as : (F : Run → ReplaceEnd) (k m : Run) (r : Ran) (x f l c s w : List Float) (o : CRan) → k ≡ m → record { result = r; source = x; weights = f; chain = l; carries = c; sums = s; scratch = w } ≡ F k → o ≡ ranOut r → ReplacesAs (F m) o x f l c s w
+pub replaces-as : (F : Run → ReplaceEnd) (k m : Run) (r : Ran) (x f l c s w : List Float) (o : CRan)
+    → k ≡ m → record { result = r; source = x; weights = f; chain = l; carries = c; sums = s; scratch = w } ≡ F k
+    → o ≡ ranOut r → ReplacesAs (F m) o x f l c s w
 replaces-as F k m r x f l c s w o e a b = replaced (F m) r x f l c s w o (a ∙ ap F e) b
 
-pub axis-replaced-as : (F : Run → Axis → ReplaceEnd) (k m : Run) (p q : Axis) (r : Ran) (x f l c s w : List Float) (o : CRan) → k ≡ m → p ≡ q → record { result = r; source = x; weights = f; chain = l; carries = c; sums = s; scratch = w } ≡ F k p → o ≡ ranOut r → ReplacesAs (F m q) o x f l c s w
+pub axis-replaced-as : (F : Run → Axis → ReplaceEnd) (k m : Run) (p q : Axis) (r : Ran) (x f l c s w : List Float) (o : CRan)
+    → k ≡ m → p ≡ q → record { result = r; source = x; weights = f; chain = l; carries = c; sums = s; scratch = w } ≡ F k p
+    → o ≡ ranOut r → ReplacesAs (F m q) o x f l c s w
 axis-replaced-as F k m p q r x f l c s w o e g a b = replaced (F m q) r x f l c s w o (a ∙ ap (λ z. F z p) e ∙ ap (λ z. F m z) g) b

@@ -16,7 +16,9 @@ pub extern "C" fn uyavsker_contract_and_split(
     rights: &mut [f64],
     scratch: &mut [f64],
 ) -> told::CPaired
-    ensures { λ w. ⌜ SplitsAs (pairCall (coreOf (sizesIn l) (now (left .entry))) (coreOf (sizesIn r) (now (right .entry))) eps (now (lefts .entry)) (now (rights .entry)) (now (scratch .entry))) w (now (lefts .exit)) (now (rights .exit)) (now (scratch .exit)) ⌝ }
+    ensures { λ w. ⌜ SplitsAs (pairCall (coreOf (sizesIn l) (now (left .entry)))
+        (coreOf (sizesIn r) (now (right .entry))) eps (now (lefts .entry)) (now (rights .entry)) (now (scratch .entry)))
+        w (now (lefts .exit)) (now (rights .exit)) (now (scratch .exit)) ⌝ }
 {
     let a = given::sizes_in(l);
     let b = given::sizes_in(r);

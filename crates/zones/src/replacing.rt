@@ -19,7 +19,9 @@ pub extern "C" fn uyavsker_fresh_run(
     sums: &mut [f64],
     scratch: &mut [f64],
 ) -> held::CRan
-    ensures { λ r. ⌜ RunsAs (freshCall (shapeIn s) (map axisIn (xs .axis)) (settingsIn set) (now (source .entry)) (now (weights .entry)) (now (chain .entry)) (now (carries .entry)) (now (sums .entry)) (now (scratch .entry))) r (now (chain .exit)) (now (carries .exit)) (now (sums .exit)) (now (scratch .exit)) ⌝ }
+    ensures { λ r. ⌜ RunsAs (freshCall (shapeIn s) (map axisIn (xs .axis)) (settingsIn set)
+        (now (source .entry)) (now (weights .entry)) (now (chain .entry)) (now (carries .entry)) (now (sums .entry)) (now (scratch .entry)))
+        r (now (chain .exit)) (now (carries .exit)) (now (sums .exit)) (now (scratch .exit)) ⌝ }
 {
     let axis = xs.axis;
     let shape = given::shape_in(s);
@@ -50,7 +52,10 @@ pub extern "C" fn uyavsker_replace_core(
     part: &[f64],
     scratch: &mut [f64],
 ) -> held::CRan
-    ensures { λ o. ⌜ ReplacesAs (replaceCoreCall (runIn r) z (now (source .entry)) (now (weights .entry)) (now (chain .entry)) (now (carries .entry)) (now (sums .entry)) (now (part .entry)) (now (scratch .entry))) o (now (source .exit)) (now (weights .entry)) (now (chain .exit)) (now (carries .exit)) (now (sums .exit)) (now (scratch .exit)) ⌝ }
+    ensures { λ o. ⌜ ReplacesAs (replaceCoreCall (runIn r) z
+        (now (source .entry)) (now (weights .entry)) (now (chain .entry)) (now (carries .entry)) (now (sums .entry))
+        (now (part .entry)) (now (scratch .entry)))
+        o (now (source .exit)) (now (weights .entry)) (now (chain .exit)) (now (carries .exit)) (now (sums .exit)) (now (scratch .exit)) ⌝ }
 {
     let run = held::run_in(r);
     held::ran_out(runs::replace_core(run, z, source, weights, chain, carries, sums, part, scratch))
@@ -68,7 +73,10 @@ pub extern "C" fn uyavsker_replace_weights(
     part: &[f64],
     scratch: &mut [f64],
 ) -> held::CRan
-    ensures { λ o. ⌜ ReplacesAs (replaceWeightsCall (runIn r) z (now (source .entry)) (now (weights .entry)) (now (chain .entry)) (now (carries .entry)) (now (sums .entry)) (now (part .entry)) (now (scratch .entry))) o (now (source .entry)) (now (weights .exit)) (now (chain .entry)) (now (carries .entry)) (now (sums .exit)) (now (scratch .exit)) ⌝ }
+    ensures { λ o. ⌜ ReplacesAs (replaceWeightsCall (runIn r) z
+        (now (source .entry)) (now (weights .entry)) (now (chain .entry)) (now (carries .entry)) (now (sums .entry))
+        (now (part .entry)) (now (scratch .entry)))
+        o (now (source .entry)) (now (weights .exit)) (now (chain .entry)) (now (carries .entry)) (now (sums .exit)) (now (scratch .exit)) ⌝ }
 {
     let run = held::run_in(r);
     held::ran_out(runs::replace_weights(
@@ -96,7 +104,10 @@ pub extern "C" fn uyavsker_replace_axis(
     sums: &mut [f64],
     scratch: &mut [f64],
 ) -> held::CRan
-    ensures { λ o. ⌜ ReplacesAs (replaceAxisCall (runIn r) z (axisIn x) (now (source .entry)) (now (weights .entry)) (now (chain .entry)) (now (carries .entry)) (now (sums .entry)) (now (scratch .entry))) o (now (source .entry)) (now (weights .entry)) (now (chain .exit)) (now (carries .exit)) (now (sums .exit)) (now (scratch .exit)) ⌝ }
+    ensures { λ o. ⌜ ReplacesAs (replaceAxisCall (runIn r) z (axisIn x)
+        (now (source .entry)) (now (weights .entry)) (now (chain .entry)) (now (carries .entry)) (now (sums .entry))
+        (now (scratch .entry)))
+        o (now (source .entry)) (now (weights .entry)) (now (chain .exit)) (now (carries .exit)) (now (sums .exit)) (now (scratch .exit)) ⌝ }
 {
     let run = held::run_in(r);
     let axis = given::axis_in(x);

@@ -14,7 +14,8 @@ pub extern "C" fn uyavsker_step(
     chain: &mut [f64],
     scratch: &mut [f64],
 ) -> told::CRounded
-    ensures { λ r. ⌜ EndsAs (stepCall (settingsIn set) (shapeIn s) (lentOf count (xs .axis)) (now (chain .entry)) (now (scratch .entry))) r (now (chain .exit)) (now (scratch .exit)) ⌝ }
+    ensures { λ r. ⌜ EndsAs (stepCall (settingsIn set) (shapeIn s) (lentOf count (xs .axis))
+        (now (chain .entry)) (now (scratch .entry))) r (now (chain .exit)) (now (scratch .exit)) ⌝ }
 {
     let axis = xs.axis;
     let shape = given::shape_in(s);
@@ -32,7 +33,8 @@ pub extern "C" fn uyavsker_evolve(
     chain: &mut [f64],
     scratch: &mut [f64],
 ) -> told::CRounded
-    ensures { λ r. ⌜ EndsAs (evolveCall (p .«t_final») (p .steps) (p .c) (p .eps) (shapeIn s) (lentOf count (xs .axis)) (now (chain .entry)) (now (scratch .entry))) r (now (chain .exit)) (now (scratch .exit)) ⌝ }
+    ensures { λ r. ⌜ EndsAs (evolveCall (p .«t_final») (p .steps) (p .c) (p .eps) (shapeIn s) (lentOf count (xs .axis))
+        (now (chain .entry)) (now (scratch .entry))) r (now (chain .exit)) (now (scratch .exit)) ⌝ }
 {
     let axis = xs.axis;
     let shape = given::shape_in(s);

@@ -1,4 +1,4 @@
--- `axes::axis_finite` meets its contract. Assumes nothing.
+-- `axes::axis_finite`: four numbers looked at, one after the other: the definition, unfolded.
 use borrow.Author.Needs.{needs}
 use Rattle.stepform.specs.Axes.{axisFinite}
 use Rattle.axes.proofs.axis_finite.Statement.{statement}

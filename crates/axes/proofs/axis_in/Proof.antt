@@ -1,4 +1,4 @@
--- `axes::axis_in` meets its contract. Assumes nothing.
+-- `axes::axis_in`: within the list its default does not matter (getD-any).
 use borrow.Author.Needs.{needs}
 use Rattle.lists.proofs.Tables.{getD-any}
 use Rattle.axes.proofs.axis_in.Statement.{statement}

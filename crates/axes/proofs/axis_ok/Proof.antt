@@ -1,4 +1,4 @@
--- `axes::axis_ok` meets its contract. Assumes nothing.
+-- `axes::axis_ok`: the code is the definition, unfolded.
 use mathlib.Core.Path.{refl}
 use Rattle.stepform.specs.Axes.{axisOk}
 use Rattle.axes.proofs.axis_ok.Statement.{statement}

@@ -1,4 +1,4 @@
--- `axes::gather` meets its contract: a walk of its MIR by hand, with a loop, since the borrow checker covers no slice of records. The invariant: the list holds the first k records, and blanks after them.
+-- `axes::gather`: a walk of its MIR by hand, with a loop, since the borrow checker covers no slice of records. The invariant: the list holds the first k records, and blanks after them.
 -- Assumes nothing.
 use mathlib.Core.Path.{_≡_, refl, sym, subst, ap, _∙_}
 use mathlib.Core.WellFounded.{WellFounded, InvImage·wf}
@@ -23,7 +23,8 @@ use ghost.Atoms.{Atoms, sem}
 use contract.Monad.{Fun, fact}
 use contract.Running.{givenOf, tables, tablesOf}
 use types.Kit.{Item, runs, anyQ, atRet, Sq, Given, ‵, raw, _⊛_, ⋆, some, later, _$_, _∵_, !, qed, by, move, drop, use1, use2, split, join, pick, fsplit, fjoin, suffices, frame, await, done}
-use types.Run.{store, lit, bin, assigns-last, first, skips, jumps, blocks, branches, exec, Below, again, loops, look, init, forget, stop, from, load, of-opd, and-then, no-more, assigns, land, returns, enter, alloc1, alloc0, params1, pass1, pass0, free1, free0}
+use types.Run.{store, lit, bin, assigns-last, first, skips, jumps, blocks, branches, exec, Below, again, loops, look, init, forget, stop, from, load, of-opd}
+use types.Run.{and-then, no-more, assigns, land, returns, enter, alloc1, alloc0, params1, pass1, pass0, free1, free0}
 use sound.WpLaws.{FmC, fmOf, WpFn-mono}
 use denote.RattleType.{RattleType, owns}
 use denote.Laws.{Is, shows}
@@ -159,7 +160,9 @@ module _ {M : Type 1} (𝓤 : URA M) (H : Heap 𝓤) (A : Atoms 𝓤) (W : Given
   abbrev to-put : List Axis → Val → ℕ → Axis → Val → Put 𝓤 H A mem run .Ghost
   to-put l u k x w = ((tt, tt, tt, (l, (k, (x, tt))), (u ∷ [], (vint w64 k ∷ [], (w ∷ [], tt)))), tt)
 
-  goes-put : (l : List Axis) (u : Val) (k : ℕ) (x : Axis) (w : Val) → k < mostAxes → ent 𝓤 (⋆ 𝓤 H A (‵ ftrue ∷ ‵ (owns (Arr ∷ usize ∷ R ∷ []) (l, (k, (x, tt))) (u ∷ [], (vint w64 k ∷ [], (w ∷ [], tt)))) ∷ [])) (Put 𝓤 H A mem run .pre (to-put l u k x w))
+  goes-put : (l : List Axis) (u : Val) (k : ℕ) (x : Axis) (w : Val)
+      → k < mostAxes → ent 𝓤 (⋆ 𝓤 H A (‵ ftrue ∷ ‵ (owns (Arr ∷ usize ∷ R ∷ []) (l, (k, (x, tt))) (u ∷ [], (vint w64 k ∷ [], (w ∷ [], tt)))) ∷ []))
+      (Put 𝓤 H A mem run .pre (to-put l u k x w))
   goes-put l u k x w h = qed W (‵ ftrue ∷ ‵ (owns (Arr ∷ usize ∷ R ∷ []) (l, (k, (x, tt))) (u ∷ [], (vint w64 k ∷ [], (w ∷ [], tt)))) ∷ []) ∵ says ! h $ frame ! $ done !
 
   typed : (l : List Axis) (u : Val) → Is Arr l (u ∷ []) → Holds (hasTy arr u) × WT u
@@ -207,10 +210,14 @@ module _ {M : Type 1} (𝓤 : URA M) (H : Heap 𝓤) (A : Atoms 𝓤) (W : Given
           -- [what x owns; the token; All; the locals]
           peeks ! R (Is R) (shows 𝓤 H A R) x (w ∷ []) (λ x-is.
           land ! (from ! (stop !)) (init ! 5 refl (LL.lawful T.the-type T′.the-laws 𝓤 H A W .typed x _ x-is .0)) $
-          nothing ! $ move ! (1 ∷ 0 ∷ []) $ fjoin ! $ owned ! usize (Is usize) (uint-makes 𝓤 H A W w64) i _ (refl, i-fits) $ fjoin ! $ owned ! Arr (Is Arr) (array-makes 𝓤 H A W R (LL.makes T.the-type T′.the-plain 𝓤 H A) mostAxes) (filled (s .now) i) _ (t .1 .1 .1) $ fjoin ! $ nothing ! $
+          nothing ! $ move ! (1 ∷ 0 ∷ []) $ fjoin ! $
+          owned ! usize (Is usize) (uint-makes 𝓤 H A W w64) i _ (refl, i-fits) $ fjoin ! $
+          owned ! Arr (Is Arr) (array-makes 𝓤 H A W R (LL.makes T.the-type T′.the-plain 𝓤 H A) mostAxes) (filled (s .now) i) _ (t .1 .1 .1) $ fjoin ! $ nothing ! $
           use2 W (raw (Put 𝓤 H A mem run .pre (to-put (filled (s .now) i) (t .1 .1 .0) i x w))) (goes-put (filled (s .now) i) (t .1 .1 .0) i x w (ltb→lt i mostAxes less)) $
           -- [pre; the token; All; the locals]
-          calls-at ! fm (Put 𝓤 H A mem run) known-put (to-put (filled (s .now) i) (t .1 .1 .0) i x w) (and-then ! (load ! (from ! (stop !)) (look ! 9 refl)) (and-then ! (load ! (from ! (stop !)) (look ! 7 refl)) (and-then ! (load ! (from ! (stop !)) (look ! 5 refl)) (no-more !)))) (λ u.
+          calls-at ! fm (Put 𝓤 H A mem run) known-put (to-put (filled (s .now) i) (t .1 .1 .0) i x w)
+          (and-then ! (load ! (from ! (stop !)) (look ! 9 refl)) (and-then ! (load ! (from ! (stop !)) (look ! 7 refl)) (and-then ! (load ! (from ! (stop !)) (look ! 5 refl)) (no-more !))))
+          (λ u.
           use1 W (later (some (λ (l : List Axis). (‵ ftrue ⊛ ‵ (Arr .own l (u ∷ []))) ⊛ raw (ensured 𝓤 H A put.ended (put.clauses 𝓤 H A mem run) tt (filled (s .now) i, (i, (x, tt))) tt l)))) (id⊢ 𝓤 _) $ await ! tt $ pick ! (λ l.
           split ! $ move ! (1 ∷ []) $ use1 W (raw (fact 𝓤 (l ≡ set (filled (s .now) i) i x))) (put-said 𝓤 H A mem run (filled (s .now) i) i x l) $ heard ! (l ≡ set (filled (s .now) i) i x) (λ d. split ! $ drop ! $
           peeks ! Arr (Is Arr) (shows 𝓤 H A Arr) l (u ∷ []) (λ l-is.
@@ -218,7 +225,8 @@ module _ {M : Type 1} (𝓤 : URA M) (H : Heap 𝓤) (A : Atoms 𝓤) (W : Given
           -- [the token; All; the locals]
           assigns-last ! (bin ! (load ! (from ! (stop !)) (look ! 6 refl)) (lit ! tt) (record { fits = i-next less })) (from ! (stop !)) (store ! 6 refl (tt, record { fits = i-next less })) $
           forget ! 2 refl $ forget ! 4 refl $ move ! (2 ∷ 3 ∷ 4 ∷ 5 ∷ 6 ∷ 7 ∷ 8 ∷ 9 ∷ 10 ∷ 11 ∷ 12 ∷ 13 ∷ []) $
-          again ! Nearer At t (i + 1, (add-one-le (ltb→lt i mostAxes less), (u, subst (λ (z : List Axis). Is Arr z (u ∷ [])) (d ∙ (ap (set (filled (s .now) i) i) e ∙ sym (filled-more (s .now) i))) l-is))) (add-one-dec mostAxes i (ltb→lt i mostAxes less)))))))))))
+          again ! Nearer At t (i + 1, (add-one-le (ltb→lt i mostAxes less), (u, subst (λ (z : List Axis). Is Arr z (u ∷ [])) (d ∙ (ap (set (filled (s .now) i) i) e ∙ sym (filled-more (s .now) i))) l-is)))
+          (add-one-dec mostAxes i (ltb→lt i mostAxes less)))))))))))
           (λ over. jumps ! $ exec ! (𝓣 .C) (𝓣 .Λ) En code.Mir.t-4 (atRet En Post) $
           assigns ! (of-opd ! (load ! (from ! (stop !)) (look ! 6 refl))) (from ! (stop !)) (init ! 10 refl (typed (filled (s .now) i) (t .1 .1 .0) (t .1 .1 .1))) $
           returns ! (look ! 10 refl) $ forget ! 0 refl $ forget ! 4 refl $ forget ! 6 refl $ forget ! 8 refl $ forget ! 10 refl $

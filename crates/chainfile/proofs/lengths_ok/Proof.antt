@@ -1,4 +1,4 @@
--- `chainfile::lengths_ok` meets its contract. Assumes nothing.
+-- `chainfile::lengths_ok`: two lengths, compared in the order of the definition (lengths-found).
 use borrow.Author.Needs.{needs}
 use Rattle.chainfile.proofs.Accepts.{lengths-found}
 use Rattle.chainfile.proofs.lengths_ok.Statement.{statement}

@@ -1,4 +1,4 @@
--- `chainfile::read_chain` meets its contract. Assumes nothing.
+-- `chainfile::read_chain`: a file that is refused leaves the list as it was (call-refused), and one that passed gives its numbers (call-reads).
 use borrow.Author.Needs.{needs}
 use Rattle.chainfile.proofs.Accepts.{call-refused, call-asks, call-reads}
 use Rattle.chainfile.proofs.read_chain.Statement.{statement}

@@ -1,4 +1,4 @@
--- `chainfile::read_ok` meets its contract. Assumes nothing.
+-- `chainfile::read_ok`: contents, lengths, numbers: the first check that refuses is the answer, and one that passed gives the next what it asks.
 use borrow.Author.Needs.{needs}
 use Rattle.chainfile.proofs.Accepts.{contents-refused, found-sized, lengths-refused, found-long, numbers-refused, all-passed}
 use Rattle.chainfile.proofs.read_ok.Statement.{statement}

@@ -1,4 +1,4 @@
--- `chainfile::write_chain` meets its contract. Assumes nothing.
+-- `chainfile::write_chain`: a refusal leaves the bytes as they were (write-stops), and otherwise the file is made (write-made).
 use borrow.Author.Needs.{needs}
 use Rattle.chainfile.proofs.Makes.{write-stops, write-asks, write-made}
 use Rattle.chainfile.proofs.write_chain.Statement.{statement}

@@ -1,4 +1,4 @@
--- `chainfile::write_finite` meets its contract. Assumes nothing.
+-- `chainfile::write_finite`: the first core that is not finite is the one refused, and none is found where all are (cores-found).
 use borrow.Author.Needs.{needs}
 use Rattle.shape.specs.Cores.{coreAt}
 use Rattle.chainfile.proofs.Bodies.{cores-found}

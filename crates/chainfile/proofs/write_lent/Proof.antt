@@ -1,4 +1,4 @@
--- `chainfile::write_lent` meets its contract. Assumes nothing.
+-- `chainfile::write_lent`: two lengths, compared in the order of the definition (lengths-asked).
 use borrow.Author.Needs.{needs}
 use Rattle.lists.proofs.Asked.{lengths-asked}
 use Rattle.fileform.specs.Writing.{writeLent}

@@ -1,4 +1,4 @@
--- `columns::dot` meets its contract. Assumes nothing.
+-- `columns::dot`: the invariant: the sum is that of the rows passed.
 use Rattle.lists.proofs.Turns.{turns}
 use Prim.Native.Nat.{ℕ, _-_, _≤_}
 use mathlib.Core.Path.{_≡_}

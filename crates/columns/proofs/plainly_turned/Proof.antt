@@ -1,4 +1,4 @@
--- `columns::plainly_turned` meets its contract. Assumes nothing.
+-- `columns::plainly_turned`: where the squared product is above the bound, the definition's test by a root fails too (turned-plainly).
 use mathlib.Core.Bool.{false≢true}
 use borrow.Author.Tests.{not-true}
 use Rattle.columns.proofs.Plainly.{turned-plainly}

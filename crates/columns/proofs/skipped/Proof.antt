@@ -1,4 +1,4 @@
--- `columns::skipped` meets its contract. Assumes nothing.
+-- `columns::skipped`: the quick test says turned (plainly_turned), or the pair is small (skipped-small) or near a right angle (skipped-near).
 use mathlib.Core.Path.{sym}
 use borrow.Author.Needs.{needs}
 use Rattle.columns.proofs.TwoColumns.{skipped-small, skipped-near}

@@ -1,4 +1,4 @@
--- `columns::square` meets its contract. Assumes nothing.
+-- `columns::square`: the invariant: the first col places hold the sums of squares of their columns, and after the last all do (fill-all).
 use Rattle.lists.proofs.Turns.{turns}
 use Prim.Native.Nat.{ℕ, _-_, _≤_}
 use mathlib.Core.Path.{_≡_}

@@ -1,4 +1,4 @@
--- `columns::square_again` meets its contract. Assumes nothing.
+-- `columns::square_again`: only columns p and q changed, so two new sums make all of them those of the columns (squared-again).
 use borrow.Author.Needs.{needs}
 use Prim.Native.Nat.{_-_}
 use Rattle.columns.proofs.TwoColumns.{squared-again}

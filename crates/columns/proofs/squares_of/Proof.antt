@@ -1,4 +1,4 @@
--- `columns::squares_of` meets its contract. Assumes nothing.
+-- `columns::squares_of`: the invariant: both sums are those of the rows passed.
 use Rattle.lists.proofs.Turns.{turns}
 use Prim.Native.Nat.{ℕ, _-_, _≤_}
 use mathlib.Core.Path.{_≡_}

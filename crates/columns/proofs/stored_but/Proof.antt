@@ -1,4 +1,4 @@
--- `columns::stored_but` meets its contract. Assumes nothing.
+-- `columns::stored_but`: elsewhere all is finite, so two finite columns make the whole so (two-finite); otherwise `stored` looks at all.
 use borrow.Author.Needs.{needs}
 use Prim.Native.Nat.{_-_}
 use Rattle.columns.proofs.TwoColumns.{two-finite}

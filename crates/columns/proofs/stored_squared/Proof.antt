@@ -1,4 +1,4 @@
--- `columns::stored_squared` meets its contract. Assumes nothing.
+-- `columns::stored_squared`: a finite sum of squares has finite terms, so two of them make the whole finite (two-squared); otherwise `stored` looks at all.
 use borrow.Author.Needs.{needs}
 use Prim.Native.Nat.{_-_}
 use Rattle.columns.proofs.TwoColumns.{two-squared}

@@ -1,4 +1,4 @@
--- `columns::turn` meets its contract. Assumes nothing.
+-- `columns::turn`: strips of 16 rows, then twos, then the last row, each fitting in its column (columns-apart), are all rows turned (all-turned, turn-is).
 use borrow.Author.Needs.{needs}
 use native.Mathlib.Omega.{arith}
 use Rattle.lists.proofs.Cells.{exact-row}

@@ -1,4 +1,4 @@
--- `columns::turn_eight` meets its contract. Assumes nothing.
+-- `columns::turn_eight`: four turns of two rows are a turn of eight (eight-turned).
 use borrow.Author.Needs.{needs}
 use Rattle.columns.proofs.Strips.{eight-turned}
 use Rattle.columns.proofs.turn_eight.Statement.{statement}

@@ -1,4 +1,4 @@
--- `columns::turn_strip` meets its contract. Assumes nothing.
+-- `columns::turn_strip`: two turns of eight rows are a turn of sixteen (strip-turned).
 use borrow.Author.Needs.{needs}
 use Rattle.columns.proofs.Strips.{strip-turned}
 use Rattle.columns.proofs.turn_strip.Statement.{statement}

@@ -1,4 +1,4 @@
--- `columns::turn_strips` meets its contract. Assumes nothing.
+-- `columns::turn_strips`: the invariant: the first k strips of sixteen rows are turned (runs-more).
 use borrow.Author.Needs.{needs}
 use mathlib.Core.Path.{_≡_}
 use Prim.Native.Nat.{_-_, _*_, _≤_}

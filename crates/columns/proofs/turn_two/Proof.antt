@@ -1,4 +1,4 @@
--- `columns::turn_two` meets its contract. Assumes nothing.
+-- `columns::turn_two`: two pairs read, then turned and stored, are two turns one after the other, since the columns lie apart (two-turned).
 use borrow.Author.Needs.{needs}
 use native.Mathlib.Omega.{arith}
 use mathlib.Core.Path.{refl}

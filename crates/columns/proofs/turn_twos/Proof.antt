@@ -1,4 +1,4 @@
--- `columns::turn_twos` meets its contract. Assumes nothing.
+-- `columns::turn_twos`: the invariant: the first k pairs of rows are turned (runs-more).
 use borrow.Author.Needs.{needs}
 use mathlib.Core.Path.{_≡_}
 use Prim.Native.Nat.{_-_, _*_, _≤_}

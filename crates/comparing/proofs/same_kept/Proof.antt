@@ -1,4 +1,4 @@
--- `comparing::same_kept` meets its contract. Assumes nothing.
+-- `comparing::same_kept`: four comparisons, each of which tells, together tell whether all is the same (tells-both).
 use borrow.Author.Needs.{needs}
 use Rattle.comparing.proofs.Equal.{tells-as, tells-by, tells-both}
 use Rattle.comparing.proofs.same_kept.Statement.{statement}

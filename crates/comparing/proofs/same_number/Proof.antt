@@ -1,4 +1,4 @@
--- `comparing::same_number` meets its contract. Assumes nothing.
+-- `comparing::same_number`: two numbers are the same where their patterns are (bits-tell).
 use borrow.Author.Needs.{needs}
 use denote.Floats.{passes}
 use Rattle.comparing.proofs.Equal.{bits-tell}

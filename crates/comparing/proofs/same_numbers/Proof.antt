@@ -1,4 +1,4 @@
--- `comparing::same_numbers` meets its contract. Assumes nothing.
+-- `comparing::same_numbers`: the invariant: the first i numbers agree (agreed-more); a number or a length that does not tells the lists apart (differs-at, differs-in-length).
 use borrow.Author.Needs.{needs}
 use borrow.Author.Tests.{not-false}
 use Prim.Native.Nat.{_≤_, _-_}

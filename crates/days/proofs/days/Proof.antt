@@ -1,4 +1,4 @@
--- `days::days` meets its contract. Assumes nothing.
+-- `days::days`: memory safety alone: the loop counts to its bound, and no more is promised.
 use borrow.Author.Needs.{needs}
 use Prim.Native.Nat.{_-_, _≤_}
 use Rattle.days.proofs.days.Statement.{statement}

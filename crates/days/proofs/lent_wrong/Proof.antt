@@ -1,4 +1,4 @@
--- `days::lent_wrong` meets its contract. Assumes nothing.
+-- `days::lent_wrong`: memory safety alone: the loop counts to its bound, and no more is promised.
 use Prim.Native.Nat.{_-_, _≤_}
 use borrow.Author.Needs.{needs}
 use Rattle.days.proofs.lent_wrong.Statement.{statement}

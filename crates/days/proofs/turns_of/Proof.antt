@@ -1,4 +1,4 @@
--- `days::turns_of` meets its contract. Assumes nothing.
+-- `days::turns_of`: memory safety alone: the part keeps its length, and no more is promised.
 use borrow.Author.Needs.{needs}
 use Prim.Native.Nat.{_-_}
 use mathlib.Core.Path.{_≡_}

@@ -1,4 +1,4 @@
--- `digits::bits` meets its contract. Assumes nothing.
+-- `digits::bits`: the eight digits of each half are the sixteen of the pattern (sixteen).
 use borrow.Author.Needs.{needs}
 use Rattle.digits.proofs.Texts.{sixteen}
 use Rattle.digits.proofs.bits.Statement.{statement}

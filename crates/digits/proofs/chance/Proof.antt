@@ -1,4 +1,4 @@
--- `digits::chance` meets its contract. Assumes nothing.
+-- `digits::chance`: cases of the millionths: shown with a point by `whole` (shown), and dashes where too many (too-large) or not at least zero (below-zero).
 use borrow.Author.Needs.{needs}
 use mathlib.Core.Path.{ap, _∙_}
 use Rattle.numbers.specs.declared.WholeNumber.{WholeNumber}

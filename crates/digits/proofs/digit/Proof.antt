@@ -1,4 +1,4 @@
--- `digits::digit` meets its contract. Assumes nothing.
+-- `digits::digit`: a digit below ten is the character of a figure (glyph-low).
 use borrow.Author.Needs.{needs}
 use native.Mathlib.Omega.{arith}
 use Rattle.digits.proofs.Texts.{glyph-low}

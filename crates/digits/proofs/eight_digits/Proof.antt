@@ -1,4 +1,4 @@
--- `digits::eight_digits` meets its contract. Assumes nothing.
+-- `digits::eight_digits`: each of the eight characters is that of its digit to base 16 (eight-hex).
 use borrow.Author.Needs.{needs}
 use Rattle.digits.proofs.Texts.{eight-hex}
 use Rattle.digits.proofs.eight_digits.Statement.{statement}

@@ -1,4 +1,4 @@
--- `digits::hex_digit` meets its contract. Assumes nothing.
+-- `digits::hex_digit`: below ten the character is a figure, from ten on a letter (glyph-low, glyph-high).
 use borrow.Author.Needs.{needs}
 use Rattle.digits.proofs.Texts.{glyph-low, glyph-high}
 use Rattle.digits.proofs.hex_digit.Statement.{statement}

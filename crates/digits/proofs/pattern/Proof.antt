@@ -1,4 +1,4 @@
--- `digits::pattern` meets its contract. Assumes nothing.
+-- `digits::pattern`: a NaN has the one pattern that is named (nan-pattern), and any other number its own bits.
 use borrow.Author.Needs.{needs}
 use Rattle.numbers.proofs.Patterns.{no-nan}
 use Rattle.digits.proofs.Texts.{nan-pattern}

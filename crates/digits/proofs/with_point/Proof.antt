@@ -1,4 +1,4 @@
--- `digits::with_point` meets its contract. Assumes nothing.
+-- `digits::with_point`: each character is that of its digit, the point among them (eight-digits).
 use borrow.Author.Needs.{needs}
 use Rattle.digits.proofs.Texts.{eight-digits}
 use Rattle.digits.proofs.with_point.Statement.{statement}

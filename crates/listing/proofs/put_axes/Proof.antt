@@ -1,4 +1,4 @@
--- `listing::put_axes` meets its contract. Assumes nothing.
+-- `listing::put_axes`: the invariant: the lines of the first k axes stand, and the next body's start is known (AtAxis, axes-more).
 use borrow.Author.Needs.{needs}
 use native.Mathlib.Omega.{arith}
 use Prim.Native.Nat.{_-_}

@@ -1,4 +1,4 @@
--- `listing::put_axis` meets its contract. Assumes nothing.
+-- `listing::put_axis`: five fields, one behind the other, are the axis's line (axis-put).
 use borrow.Author.Needs.{needs}
 use native.Mathlib.Omega.{arith}
 use Rattle.listing.proofs.Grows.{axis-put}

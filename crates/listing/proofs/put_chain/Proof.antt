@@ -1,4 +1,4 @@
--- `listing::put_chain` meets its contract. Assumes nothing.
+-- `listing::put_chain`: the headline and the axes' lines, one behind the other, are the chain's text (chain-put).
 use borrow.Author.Needs.{needs}
 use Rattle.listing.proofs.Grows.{chain-put}
 use Rattle.listing.proofs.put_chain.Statement.{statement}

@@ -1,4 +1,4 @@
--- `listing::put_digits` meets its contract. Assumes nothing.
+-- `listing::put_digits`: a number below 2 ^ 64 has at most twenty digits, and those that `decimal` gives are its digits (few-digits, digits-of).
 use borrow.Author.Needs.{needs}
 use native.Mathlib.Omega.{arith}
 use mathlib.Core.Path.{_∙_}

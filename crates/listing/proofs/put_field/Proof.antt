@@ -1,4 +1,4 @@
--- `listing::put_field` meets its contract. Assumes nothing.
+-- `listing::put_field`: the digits and the character behind them are the field (field-put).
 use borrow.Author.Needs.{needs}
 use native.Mathlib.Omega.{arith}
 use Rattle.listing.proofs.Grows.{field-put}

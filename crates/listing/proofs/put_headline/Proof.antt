@@ -1,4 +1,4 @@
--- `listing::put_headline` meets its contract. Assumes nothing.
+-- `listing::put_headline`: the words and fields, one behind the other, are the headline (headline-put).
 use borrow.Author.Needs.{needs}
 use Rattle.listing.proofs.Grows.{headline-put}
 use Rattle.listing.proofs.put_headline.Statement.{statement}

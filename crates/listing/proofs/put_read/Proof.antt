@@ -1,4 +1,4 @@
--- `listing::put_read` meets its contract. Assumes nothing.
+-- `listing::put_read`: the two cases of what was read: the refusal's text (refused-put) or the chain's (accepted-put).
 use borrow.Author.Needs.{needs}
 use Rattle.listing.proofs.Grows.{refused-put, accepted-put}
 use Rattle.listing.proofs.put_read.Statement.{statement}

@@ -1,4 +1,4 @@
--- `listing::put_refusal` meets its contract. Assumes nothing.
+-- `listing::put_refusal`: the words and fields, one behind the other, are the refusal's text (refusal-put).
 use borrow.Author.Needs.{needs}
 use Rattle.listing.proofs.Grows.{refusal-put}
 use Rattle.listing.proofs.put_refusal.Statement.{statement}

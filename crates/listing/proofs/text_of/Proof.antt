@@ -1,4 +1,4 @@
--- `listing::text_of` meets its contract. Assumes nothing.
+-- `listing::text_of`: a file that is too large is named so (large-listed), and any other is read and what was read is put down (read-listed).
 use borrow.Author.Needs.{needs}
 use Rattle.listing.proofs.Grows.{read-sized, large-listed, read-listed}
 use Rattle.listing.proofs.text_of.Statement.{statement}

@@ -1,4 +1,4 @@
--- `lists::all_finite` meets its contract. Assumes nothing.
+-- `lists::all_finite`: the invariant: the flag says whether the first i numbers are finite (Flag); `settled` gives it for the first of them.
 use Prim.Native.Nat.{_≤_, _-_}
 use lib.ListN.{length}
 use Rattle.lists.proofs.Turns.{turns}

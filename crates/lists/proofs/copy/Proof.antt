@@ -1,4 +1,4 @@
--- `lists::copy` meets its contract. Assumes nothing.
+-- `lists::copy`: the invariant: the first i numbers are those of s (over-more), and after the last all are (over-all).
 use Prim.Native.Nat.{_-_, _≤_}
 use mathlib.Core.Path.{_≡_, refl, _∙_}
 use lib.ListN.{length, length-set}

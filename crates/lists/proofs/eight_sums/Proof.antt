@@ -1,4 +1,4 @@
--- `lists::eight_sums` meets its contract: each sum is that of the turns made. Assumes nothing.
+-- `lists::eight_sums`: the invariant: each of the eight sums is that of the turns made.
 use Prim.Native.Nat.{ℕ, _+_, _*_, _-_, _≤_}
 use mathlib.Core.Path.{_≡_}
 use lib.Ieee.{Float}

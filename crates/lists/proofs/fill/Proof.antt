@@ -1,4 +1,4 @@
--- `lists::fill` meets its contract. Assumes nothing.
+-- `lists::fill`: the invariant: the first i numbers are v (fills-more), and after the last all are (fills-all).
 use Prim.Native.Nat.{_-_, _≤_}
 use mathlib.Core.Path.{_≡_, refl, _∙_}
 use native.Mathlib.Omega.{arith}

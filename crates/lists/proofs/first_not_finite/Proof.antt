@@ -1,4 +1,4 @@
--- `lists::first_not_finite` meets its contract. Assumes nothing.
+-- `lists::first_not_finite`: the invariant: the first i numbers are finite (Sound), so the first that is not is the one found.
 use Prim.Native.Nat.{_≤_, _-_}
 use lib.ListN.{length}
 use Rattle.lists.proofs.Turns.{turns}

@@ -1,4 +1,4 @@
--- `lists::settled` meets its contract: where eight sums are finite, so are all their terms. Assumes nothing.
+-- `lists::settled`: where eight sums are finite, so are all their terms (eight-settled).
 use native.Mathlib.Nat.{not-suc-le-zero}
 use native.Mathlib.Omega.{arith}
 use borrow.Author.Needs.{needs}

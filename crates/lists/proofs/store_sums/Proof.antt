@@ -1,4 +1,4 @@
--- `lists::store_sums` meets its contract. Assumes nothing.
+-- `lists::store_sums`: the invariant: the first t sums stand from e on (storedFrom).
 use Prim.Native.Nat.{_-_, _≤_}
 use mathlib.Core.Path.{_≡_}
 use lib.ListN.{length}

@@ -1,4 +1,4 @@
--- `lists::stored` meets its contract. Assumes nothing.
+-- `lists::stored`: where all are finite the list may be stored, and else the first that is not is told: the cases of `stageOf` (stages).
 use Rattle.lists.proofs.Turns.{turns}
 use Rattle.lists.proofs.Seen.{stages}
 use Rattle.lists.proofs.stored.Statement.{statement}

@@ -1,4 +1,4 @@
--- `numbers::ahead` meets its contract. Assumes nothing.
+-- `numbers::ahead`: the sum fits by the contract's bounds, and the remainder of it is `wrap` by definition.
 use mathlib.Core.Path.{refl}
 use borrow.Author.Needs.{needs}
 use Rattle.numbers.specs.Residues.{wrap}

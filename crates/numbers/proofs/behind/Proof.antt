@@ -1,4 +1,4 @@
--- `numbers::behind` meets its contract (`Residues.antt`). Assumes nothing.
+-- `numbers::behind`: the place s steps behind is i + (n - s % n), which wraps to that of i - s (wrap-minus, Residues.antt).
 use mathlib.Core.Path.{sym}
 use native.Mathlib.Nat.{mod-lt}
 use native.Mathlib.Omega.{arith}

@@ -1,4 +1,4 @@
--- `numbers::floor` meets its contract (`FloorBits.antt`). Assumes nothing.
+-- `numbers::floor`: cases of the argument: no number and one of 2 ^ 52 or more stay (nan-kept, large-kept), any other is floored by its bits (floored, FloorBits.antt).
 use lib.Ieee.{binary64, toBits}
 use lib.Ieee.Bits.{toBits-lt}
 use denote.Floats.{passes}

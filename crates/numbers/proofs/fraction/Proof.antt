@@ -1,4 +1,4 @@
--- `numbers::fraction` meets its contract (`Fractions.antt`). Assumes nothing.
+-- `numbers::fraction`: a finite number less its floor (fraction-found); any other stays as it is (fraction-none, Fractions.antt).
 use mathlib.Core.Path.{sym, _∙_}
 use denote.Floats.{passes}
 use borrow.Author.Needs.{needs}

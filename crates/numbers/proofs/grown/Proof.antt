@@ -1,4 +1,4 @@
--- `numbers::grown` meets its contract. Assumes nothing.
+-- `numbers::grown`: below 128 the square fits, and whether it exceeds n decides which half of the interval the root is in.
 use Prim.Native.Nat.{_+_, _≤_}
 use native.Mathlib.Nat.{mul-le-mul}
 use native.Mathlib.Omega.{arith}

@@ -1,4 +1,4 @@
--- `numbers::guess` meets its contract: its floats are numbers, and its digits 53. Assumes nothing.
+-- `numbers::guess`: neither pattern is that of a NaN (no-nan-bits), and the bits that are kept and set leave a number of 53 digits.
 use native.Mathlib.Omega.{arith}
 use borrow.Author.Needs.{needs}
 use Rattle.numbers.proofs.Patterns.{no-nan, no-nan-bits}

@@ -1,4 +1,4 @@
--- `numbers::half_root` meets its contract. Assumes nothing.
+-- `numbers::half_root`: a guess that passed the test of `near` is the half root (halved); otherwise it is half the whole root of `wide_root`.
 use mathlib.Core.Path.{refl}
 use borrow.Author.Needs.{needs}
 use Rattle.numbers.proofs.TwoDigits.{halved}

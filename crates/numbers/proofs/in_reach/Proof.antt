@@ -1,4 +1,4 @@
--- `numbers::in_reach` meets its contract. Assumes nothing.
+-- `numbers::in_reach`: the two cases of the test are those of the definition.
 use Rattle.numbers.proofs.in_reach.Statement.{statement}
 use Rattle.numbers.proofs.in_reach.Tie as tie
 

@@ -1,4 +1,4 @@
--- `numbers::is_finite` meets its contract (`Finite.antt`). Assumes nothing.
+-- `numbers::is_finite`: the test on the bits is `finite` (finite-eq, Finite.antt).
 use Rattle.numbers.proofs.Finite.{finite-eq}
 use Rattle.numbers.proofs.is_finite.Statement.{statement}
 use Rattle.numbers.proofs.is_finite.Tie as tie

@@ -1,4 +1,4 @@
--- `numbers::magnitude` meets its contract (`SignBit.antt`). Assumes nothing.
+-- `numbers::magnitude`: clearing the sign bit of a number's pattern gives its magnitude (of-bits), and a NaN is its own (of-nan, SignBit.antt).
 use denote.Floats.{passes}
 use Rattle.numbers.proofs.SignBit.{of-nan, of-bits, no-nan-pattern}
 use Rattle.numbers.proofs.magnitude.Statement.{statement}

@@ -1,4 +1,4 @@
--- `numbers::near` meets its contract. Assumes nothing.
+-- `numbers::near`: g * g is taken in two halves of 26 digits (square), so no product wraps, and the last comparison is that of the squares.
 use mathlib.Core.Path.{_≡_, sym, subst}
 use lib.Dec.{T, leb→le}
 use mathlib.Core.Bool.{true, false, true≢false}

@@ -1,4 +1,4 @@
--- `numbers::parts` meets its contract (`Splitting.antt`). Assumes nothing.
+-- `numbers::parts`: a normal number has its digits as they stand (normal), a subnormal one has them shifted up by its leading zeros (subnormal, Splitting.antt).
 use borrow.Author.Needs.{needs}
 use native.Mathlib.Omega.{arith}
 use Rattle.numbers.proofs.Splitting.{normal, enough, few, subnormal}

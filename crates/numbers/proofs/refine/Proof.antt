@@ -1,4 +1,4 @@
--- `numbers::refine` meets its contract (`Karatsuba.antt`). Assumes nothing.
+-- `numbers::refine`: one step of Karatsuba's square root (step, Karatsuba.antt): the new digit is right or one too large (kept, lowered).
 use Prim.Native.Nat.{ℕ, _+_, _*_, _/_, _%_, _^_}
 use native.Mathlib.Omega.{arith}
 use lib.Bits.{bitOr}

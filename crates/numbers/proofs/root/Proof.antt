@@ -1,4 +1,4 @@
--- `numbers::root` meets its contract (`RootCases.antt`). Assumes nothing.
+-- `numbers::root`: cases of the argument's bits, each a law of RootCases.antt: a NaN, a zero, a positive number by `root_bits`, infinity, minus zero, a negative number.
 use mathlib.Core.Path.{refl}
 use native.Mathlib.Omega.{arith}
 use denote.Floats.{passes}

@@ -1,4 +1,4 @@
--- `numbers::root_bits` meets its contract (`RootPattern.antt`). Assumes nothing.
+-- `numbers::root_bits`: the half root of the digits, found from a guess, has the bits of the rounded root (found-half, RootPattern.antt).
 use native.Mathlib.Omega.{arith}
 use lib.Bits.{mask-lt}
 use Rattle.numbers.proofs.RootPattern.{asked, found-half}

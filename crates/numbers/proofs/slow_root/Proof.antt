@@ -1,4 +1,4 @@
--- `numbers::slow_root` meets its contract (`Doubling.antt`). Assumes nothing.
+-- `numbers::slow_root`: from the root of 14 leading digits, two refinements double the digits twice (ask, get of Doubling.antt).
 use Prim.Native.Nat.{_/_, _^_}
 use native.Mathlib.Omega.{arith}
 use lib.Dec.{lit≤}

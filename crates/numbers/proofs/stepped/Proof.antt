@@ -1,4 +1,4 @@
--- `numbers::stepped` meets its contract. Assumes nothing.
+-- `numbers::stepped`: one step ahead or behind, as the flag says.
 use borrow.Author.Needs.{needs}
 use Rattle.numbers.proofs.stepped.Statement.{statement}
 use Rattle.numbers.proofs.stepped.Tie as tie

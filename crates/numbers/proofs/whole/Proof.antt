@@ -1,4 +1,4 @@
--- `numbers::whole` meets its contract (`Reach.antt`). Assumes nothing.
+-- `numbers::whole`: a number in reach is floored and its size fits a word (size-cast, whole-found); any other gives 0 by definition (Reach.antt).
 use mathlib.Core.Path.{_≡_, sym, _∙_}
 use mathlib.Core.Bool.{true}
 use denote.Floats.{passes}

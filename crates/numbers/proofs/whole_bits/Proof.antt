@@ -1,4 +1,4 @@
--- `numbers::whole_bits` meets its contract (`FloorBits.antt`). Assumes nothing.
+-- `numbers::whole_bits`: below one the answer is zero or one; else the digits behind the point are cut off and, away from zero, one unit added (FloorBits.antt).
 use mathlib.Core.Path.{_≡_, sym, subst}
 use mathlib.Core.Bool.{Bool}
 use Prim.Native.Nat.{ℕ}

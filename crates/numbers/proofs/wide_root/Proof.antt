@@ -1,4 +1,4 @@
--- `numbers::wide_root` meets its contract (`Doubling.antt`). Assumes nothing.
+-- `numbers::wide_root`: the root of m doubled once more by `refine` is the root of m * 2 ^ 54 (last, Doubling.antt).
 use Prim.Native.Nat.{_^_}
 use native.Mathlib.Omega.{arith}
 use lib.Dec.{lit≤}

@@ -1,4 +1,4 @@
--- `pair::contract_and_split` meets its contract. Assumes nothing.
+-- `pair::contract_and_split`: a refusal leaves the lists as they were (call-refused); otherwise the answer of `pair_within`, and the scratch cleared (call-made).
 use borrow.Author.Needs.{needs}
 use Prim.Native.Nat.{_-_}
 use Rattle.pair.proofs.Ended.{call-refused, call-ready, call-made}

@@ -1,4 +1,4 @@
--- `pair::pair_of` by its stage, told as the call's verdict. Assumes nothing.
+-- `pair::pair_of`: columns that are not finite stop it (pair-stop); otherwise they are split (columns-finite, pair-end).
 use borrow.Author.Needs.{needs}
 use Prim.Native.Nat.{_-_}
 use mathlib.Core.Path.{_∙_}

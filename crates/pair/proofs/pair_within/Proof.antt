@@ -1,4 +1,4 @@
--- `pair::pair_within` meets its contract. Assumes nothing.
+-- `pair::pair_within`: what the checks passed gives every length (ready), and the rank that is answered is small (rank-small); the lists then hold the halves (ended-made).
 use borrow.Author.Needs.{needs}
 use Prim.Native.Nat.{_-_, _*_}
 use native.Mathlib.Omega.{arith}
@@ -44,30 +44,38 @@ returns c = ended-refused _ _ _ _ _ _ (c .before .before .before .before .before
 
 mul-put : tie.Need-mul-put
 mul-put c =
-    let start = c .before .before .before .before .before .before .before .before .before .before .before .before .before .before .before .before .before .before .before .args in
-    let ok = ready (start .l) (start .r) _ (start .left .now) (start .right .now) _ _ _ (c .before .before .before .before .before .before .before .before .before .before .before .before .before .before .before .before .before .before .before .pre) in
+    let at-19 = c .before .before .before .before .before .before .before .before .before .before .before .before .before .before .before .before .before .before .before in
+    let start = at-19 .args in
+    let ok = ready (start .l) (start .r) _ (start .left .now) (start .right .now) _ _ _ (at-19 .pre) in
     let k = rank-small _ _ _ _ _ (ok .lines .some) (c .before .before .before .before .before .before .before .before .pair-of .ensures) (c .before .before .enum-told .given .1) in
     two-fit _ _ (ok .lines .rows) (omega (arith, k))
 
 put-requires : tie.Need-put-requires
 put-requires c κs =
-    let start = c .before .before .before .before .before .before .before .before .before .before .before .before .before .before .before .before .before .before .before .before .args in
-    let ok = ready (start .l) (start .r) _ (start .left .now) (start .right .now) _ _ _ (c .before .before .before .before .before .before .before .before .before .before .before .before .before .before .before .before .before .before .before .before .pre) in
+    let at-20 = c .before .before .before .before .before .before .before .before .before .before .before .before .before .before .before .before .before .before .before .before in
+    let start = at-20 .args in
+    let ok = ready (start .l) (start .r) _ (start .left .now) (start .right .now) _ _ _ (at-20 .pre) in
     let k = rank-small _ _ _ _ _ (ok .lines .some) (c .before .before .before .before .before .before .before .before .before .pair-of .ensures) (c .before .before .before .enum-told .given .1) in
     (omega (arith, mul-le-mul (ok .lines .rows) k), omega (arith, mul-le-mul-left (start .l .rl * start .l .n) k, ok .leftOut))
 
 mul-put-2 : tie.Need-mul-put-2
 mul-put-2 c =
-    let start = c .before .before .before .before .before .before .before .before .before .before .before .before .before .before .before .before .before .before .before .before .before .before .before .before .before .args in
-    let ok = ready (start .l) (start .r) _ (start .left .now) (start .right .now) _ _ _ (c .before .before .before .before .before .before .before .before .before .before .before .before .before .before .before .before .before .before .before .before .before .before .before .before .before .pre) in
-    let k = rank-small _ _ _ _ _ (ok .lines .some) (c .before .before .before .before .before .before .before .before .before .before .before .before .before .before .pair-of .ensures) (c .before .before .before .before .before .before .before .before .enum-told .given .1) in
+    let at-14 = c .before .before .before .before .before .before .before .before .before .before .before .before .before .before in
+    let at-25 = at-14 .before .before .before .before .before .before .before .before .before .before .before in
+    let start = at-25 .args in
+    let ok = ready (start .l) (start .r) _ (start .left .now) (start .right .now) _ _ _ (at-25 .pre) in
+    let k = rank-small _ _ _ _ _ (ok .lines .some) (at-14 .pair-of .ensures) (c .before .before .before .before .before .before .before .before .enum-told .given .1) in
     two-fit _ _ (omega (arith, k)) (ok .lines .columns)
 
 put-requires-2 : tie.Need-put-requires-2
 put-requires-2 c κs =
     let start = c .before .before .before .before .before .before .before .before .before .before .before .before .before .before .before .before .before .before .before .before .before .before .before .before .before .before .args in
-    let ok = ready (start .l) (start .r) _ (start .left .now) (start .right .now) _ _ _ (c .before .before .before .before .before .before .before .before .before .before .before .before .before .before .before .before .before .before .before .before .before .before .before .before .before .before .pre) in
-    let k = rank-small _ _ _ _ _ (ok .lines .some) (c .before .before .before .before .before .before .before .before .before .before .before .before .before .before .before .pair-of .ensures) (c .before .before .before .before .before .before .before .before .before .enum-told .given .1) in
+    let ok =
+    ready (start .l) (start .r) _ (start .left .now) (start .right .now) _ _ _
+    (c .before .before .before .before .before .before .before .before .before .before .before .before .before .before .before .before .before .before .before .before .before .before .before .before .before .before .pre) in
+    let k =
+    rank-small _ _ _ _ _ (ok .lines .some) (c .before .before .before .before .before .before .before .before .before .before .before .before .before .before .before .pair-of .ensures)
+    (c .before .before .before .before .before .before .before .before .before .enum-told .given .1) in
     (omega (arith, mul-le-mul k (ok .lines .columns)), omega (arith, mul-le-mul-right (start .r .n * start .r .rr) k, ok .rightOut))
 
 returns-2 : tie.Need-returns-2

@@ -1,4 +1,4 @@
--- `pair::put` meets its contract. Assumes nothing.
+-- `pair::put`: a copy to the front and zeros behind it are the list's new content (put-is).
 use borrow.Author.Needs.{needs}
 use Prim.Native.Nat.{_-_}
 use Rattle.pair.proofs.Fronts.{put-is}

@@ -1,4 +1,4 @@
--- `passes::abreast` meets its contract: before column q the columns, the basis and the flag are those of two rows in step, and so are the plans. Assumes nothing.
+-- `passes::abreast`: the invariant: before column q the columns, the basis and the flag are those of two rows in step, and so are the plans (step-more).
 use Prim.Native.Nat.{ℕ, _+_, _-_, _*_, _<_, _≤_}
 use native.Mathlib.Omega.{arith}
 use native.Mathlib.Nat.{le-antisymm}

@@ -1,4 +1,4 @@
--- `passes::angled` meets its contract: a plan is skipped, or made of slope, tangent and cosine. Assumes nothing.
+-- `passes::angled`: a plan is skipped (plan-none), or made of slope, tangent and cosine (plan-turned).
 use borrow.Author.Needs.{needs}
 use Rattle.passes.proofs.Spun.{plan-none, plan-turned}
 use Rattle.passes.proofs.angled.Statement.{statement}

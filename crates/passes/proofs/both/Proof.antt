@@ -1,4 +1,4 @@
--- `passes::both` meets its contract: columns and basis go by the same two plans. Assumes nothing.
+-- `passes::both`: columns and basis go by the same two plans (both-spun).
 use borrow.Author.Needs.{needs}
 use Prim.Native.Nat.{_-_}
 use mathlib.Core.Path.{refl}

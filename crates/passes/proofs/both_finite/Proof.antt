@@ -1,4 +1,4 @@
--- `passes::both_finite` meets its contract. Assumes nothing.
+-- `passes::both_finite`: two lists looked at, one after the other; true only where both are finite.
 use mathlib.Core.Path.{_≡_, sym, _∙_}
 use mathlib.Core.Bool.{true, false, true≢false}
 use borrow.Author.Needs.{needs}

@@ -1,4 +1,4 @@
--- `passes::last_rows` meets its contract: before row p the columns, the basis and the flag are those of p rows. Assumes nothing.
+-- `passes::last_rows`: the invariant: before row p the columns, the basis and the flag are those of p rows (iter-more).
 use Prim.Native.Nat.{ℕ, _+_, _-_, _*_, _<_, _≤_}
 use native.Mathlib.Omega.{arith}
 use mathlib.Core.Path.{_≡_, refl}

@@ -1,4 +1,4 @@
--- `passes::lead` meets its contract: two pairs of row p, and a plan for the first of row p + 1. Assumes nothing.
+-- `passes::lead`: two pairs of row p, and a plan for the first of row p + 1 (step-first).
 use borrow.Author.Needs.{needs}
 use Prim.Native.Nat.{_-_}
 use Prim.Native.Nat.{ℕ, _+_}

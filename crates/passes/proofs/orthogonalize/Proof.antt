@@ -1,4 +1,4 @@
--- `passes::orthogonalize` meets its contract: where all stayed finite, or else from the kept columns again. Assumes nothing.
+-- `passes::orthogonalize`: the quick passes' answer where all stayed finite, or else the plain passes from the kept columns again (again).
 use borrow.Author.Needs.{needs}
 use Prim.Native.Nat.{_-_}
 use mathlib.Core.Path.{_≡_, sym, ap, _∙_}

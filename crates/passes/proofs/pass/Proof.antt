@@ -1,4 +1,4 @@
--- `passes::pass` meets its contract: the rows in step, then the last ones. Assumes nothing.
+-- `passes::pass`: the rows in step, then the last ones.
 use borrow.Author.Needs.{needs}
 use Prim.Native.Nat.{_-_}
 use Rattle.passes.specs.Free.{passFree}

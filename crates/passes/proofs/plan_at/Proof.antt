@@ -1,4 +1,4 @@
--- `passes::plan_at` meets its contract: the sums of squares that are kept are those of the columns. Assumes nothing.
+-- `passes::plan_at`: the sums of squares that are kept are those of the columns (planned-at).
 use borrow.Author.Needs.{needs}
 use Prim.Native.Nat.{_-_}
 use Rattle.passes.proofs.Spun.{planned-at}

@@ -1,4 +1,4 @@
--- `passes::quick_passes` meets its contract: after each pass all is finite, so it was a pass of the definition. Assumes nothing.
+-- `passes::quick_passes`: the invariant: after each pass all is finite, so it was a pass of the definition (pass-staged, passes-more).
 use Rattle.lists.proofs.Turns.{turns}
 use Prim.Native.Nat.{_-_, _≤_}
 use mathlib.Core.Path.{_≡_, refl, sym}

@@ -1,4 +1,4 @@
--- `passes::rows_in_step` meets its contract: before rows p and p + 1 the columns, the basis and the flag are those of p rows. Assumes nothing.
+-- `passes::rows_in_step`: the invariant: before rows p and p + 1 the columns, the basis and the flag are those of p rows (iter-two).
 use Prim.Native.Nat.{ℕ, _+_, _-_, _*_, _<_, _≤_}
 use native.Mathlib.Omega.{arith}
 use mathlib.Core.Path.{_≡_, refl}

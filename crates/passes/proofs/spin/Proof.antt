@@ -1,4 +1,4 @@
--- `passes::spin` meets its contract: by its plan the columns stay or are turned, and two sums of squares follow. Assumes nothing.
+-- `passes::spin`: by its plan the columns stay or are turned (by-none, by-turn), and two sums of squares follow (squared-spun).
 use borrow.Author.Needs.{needs}
 use Prim.Native.Nat.{_-_}
 use Rattle.passes.proofs.Spun.{by-none, by-turn, squared-spun}

@@ -1,4 +1,4 @@
--- `passes::spin_two` meets its contract: the plan of the second pair outlasts the first turn, and the next plans are made after both. Assumes nothing.
+-- `passes::spin_two`: the plan of the second pair outlasts the first turn, and the next plans are made after both (next-paced).
 use borrow.Author.Needs.{needs}
 use Prim.Native.Nat.{_-_}
 use mathlib.Core.Path.{_∙_, ap}

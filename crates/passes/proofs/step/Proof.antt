@@ -1,4 +1,4 @@
--- `passes::step` meets its contract: columns and basis go by one plan, and the next is made of what the columns then are. Assumes nothing.
+-- `passes::step`: columns and basis go by one plan (spun), and the next is made of what the columns then are (planned-at).
 use borrow.Author.Needs.{needs}
 use Prim.Native.Nat.{_-_}
 use native.Mathlib.Omega.{arith}

@@ -1,4 +1,4 @@
--- `passes::three_sums` meets its contract: each sum is that of the rows passed. Assumes nothing.
+-- `passes::three_sums`: the invariant: each sum is that of the rows passed.
 use Rattle.lists.proofs.Turns.{turns}
 use Prim.Native.Nat.{ℕ, _-_, _≤_}
 use mathlib.Core.Path.{_≡_}

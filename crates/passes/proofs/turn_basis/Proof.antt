@@ -1,4 +1,4 @@
--- `passes::turn_basis` meets its contract: by its plan the basis stays or is turned. Assumes nothing.
+-- `passes::turn_basis`: by its plan the basis stays or is turned (by-none, by-turn).
 use borrow.Author.Needs.{needs}
 use Prim.Native.Nat.{_-_}
 use Rattle.passes.proofs.Spun.{by-none, by-turn}

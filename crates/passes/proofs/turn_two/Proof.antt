@@ -1,4 +1,4 @@
--- `passes::turn_two` meets its contract: two turns of the basis, one after the other. Assumes nothing.
+-- `passes::turn_two`: two turns of the basis, one after the other.
 use borrow.Author.Needs.{needs}
 use Prim.Native.Nat.{_-_}
 use mathlib.Core.Path.{_∙_, ap}

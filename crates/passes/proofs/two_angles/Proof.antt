@@ -1,4 +1,4 @@
--- `passes::two_angles` meets its contract: each plan is made of its own slope, tangent and cosine. Assumes nothing.
+-- `passes::two_angles`: each plan is made of its own slope, tangent and cosine (plan-turned).
 use borrow.Author.Needs.{needs}
 use Rattle.passes.proofs.Spun.{plan-turned}
 use Rattle.passes.proofs.two_angles.Statement.{statement}

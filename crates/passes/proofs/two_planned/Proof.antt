@@ -1,4 +1,4 @@
--- `passes::two_planned` meets its contract: where one of the pairs is skipped each is planned by itself. Assumes nothing.
+-- `passes::two_planned`: where one of the pairs is skipped each is planned by itself.
 use borrow.Author.Needs.{needs}
 use mathlib.Core.Path.{_≡_, refl, sym, _∙_}
 use mathlib.Core.Bool.{Bool, true, false, true≢false, _||_}

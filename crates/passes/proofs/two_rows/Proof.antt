@@ -1,4 +1,4 @@
--- `passes::two_rows` meets its contract: two rows in step, then the last pair of the second. Assumes nothing.
+-- `passes::two_rows`: two rows in step, then the last pair of the second (step-last).
 use borrow.Author.Needs.{needs}
 use Prim.Native.Nat.{_-_}
 use native.Mathlib.Omega.{arith}

@@ -1,4 +1,4 @@
--- `product::inner_finite` meets its contract. Assumes nothing.
+-- `product::inner_finite`: the first zone with a number that is not finite is the one refused (finite-found).
 use borrow.Author.Needs.{needs}
 use Rattle.product.proofs.Checks.{finite-found}
 use Rattle.product.proofs.inner_finite.Statement.{statement}

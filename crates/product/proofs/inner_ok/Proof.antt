@@ -1,4 +1,4 @@
--- `product::inner_ok` meets its contract. Assumes nothing.
+-- `product::inner_ok`: one check after the other: the first that refuses is the answer (then-stops, then-passes), and one that passed gives the next what it asks.
 use borrow.Author.Needs.{needs}
 use Rattle.answers.proofs.Checks.{then-stops, then-passes}
 use Rattle.shape.proofs.Shaped.{fits-sizes}

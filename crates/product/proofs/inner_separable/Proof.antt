@@ -1,4 +1,4 @@
--- `product::inner_separable` meets its contract. Assumes nothing.
+-- `product::inner_separable`: the checks passed give the sums what they ask (inner-asks), and a refusal is the answer (inner-checked).
 use borrow.Author.Needs.{needs}
 use Rattle.product.proofs.Checks.{inner-checked, inner-asks}
 use Rattle.product.proofs.inner_separable.Statement.{statement}

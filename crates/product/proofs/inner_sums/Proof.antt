@@ -1,4 +1,4 @@
--- `product::inner_sums` meets its contract. Assumes nothing.
+-- `product::inner_sums`: the invariant: eta holds the sums of the first k axes and the next offsets are known (AtAxis); an axis that is not finite stops it (axis-stops).
 use native.Mathlib.Omega.{arith}
 use Prim.Native.Nat.{_*_, _^_, _<_}
 use lib.ListN.{length}

@@ -1,4 +1,4 @@
--- `replays::agreed` meets its contract. Assumes nothing.
+-- `replays::agreed`: memory safety alone: no more are good than were looked at, so the count fits.
 use Prim.Native.Nat.{_-_, _≤_}
 use mathlib.Core.Logic.{⊎-elim}
 use native.Mathlib.Omega.{arith}

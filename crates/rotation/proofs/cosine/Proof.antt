@@ -1,4 +1,4 @@
--- `rotation::cosine` meets its contract. Assumes nothing.
+-- `rotation::cosine`: the code is the definition, unfolded.
 use borrow.Author.Needs.{needs}
 use Rattle.cutform.specs.Rotation.{cosineOf}
 use Rattle.rotation.proofs.cosine.Statement.{statement}

@@ -1,4 +1,4 @@
--- `rotation::eye` meets its contract. Assumes nothing.
+-- `rotation::eye`: the invariant: the first i diagonal entries are one, over a list of zeros; after the last it is the unit matrix (eye-is).
 use Prim.Native.Nat.{ℕ, _+_, _-_, _*_, _≤_}
 use mathlib.Core.Path.{_≡_}
 use mathlib.Core.List.{List}

@@ -1,4 +1,4 @@
--- `rotation::slope` meets its contract. Assumes nothing.
+-- `rotation::slope`: the code is the definition, unfolded.
 use mathlib.Core.Path.{refl}
 use Rattle.cutform.specs.Rotation.{slopeOf}
 use Rattle.rotation.proofs.slope.Statement.{statement}

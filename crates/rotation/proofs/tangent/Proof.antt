@@ -1,4 +1,4 @@
--- `rotation::tangent` meets its contract. Assumes nothing.
+-- `rotation::tangent`: the cases of the sign are those of the definition (tangent-above, tangent-below).
 use borrow.Author.Needs.{needs}
 use Rattle.rotation.proofs.Angles.{tangent-above, tangent-below}
 use Rattle.rotation.proofs.tangent.Statement.{statement}

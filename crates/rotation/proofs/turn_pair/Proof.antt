@@ -1,4 +1,4 @@
--- `rotation::turn_pair` meets its contract. Assumes nothing.
+-- `rotation::turn_pair`: two entries read, then both stored: the definition, unfolded.
 use mathlib.Core.Path.{refl}
 use borrow.Author.Needs.{needs}
 use Rattle.rotation.specs.Pairs.{turnPair}

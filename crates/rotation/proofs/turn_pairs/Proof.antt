@@ -1,4 +1,4 @@
--- `rotation::turn_pairs` meets its contract. Assumes nothing.
+-- `rotation::turn_pairs`: the invariant: the first r pairs are turned (turnPairs).
 use Prim.Native.Nat.{_-_, _≤_}
 use mathlib.Core.Path.{_≡_}
 use lib.ListN.{length}

@@ -1,4 +1,4 @@
--- `run_slices::commit` meets its contract. Assumes nothing.
+-- `run_slices::commit`: each of the three lists is copied over from where zone z starts (slot-starts, over-at), and the figure is the first of the last axis' sums (last-within).
 use borrow.Author.Needs.{needs}
 use mathlib.Core.Path.{ap}
 use Rattle.lists.specs.Floats.{at}

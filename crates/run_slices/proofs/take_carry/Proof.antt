@@ -1,4 +1,4 @@
--- `run_slices::take_carry` meets its contract. Assumes nothing.
+-- `run_slices::take_carry`: before zone 0 there is nothing to take (none-left), and before any other the carry held there (taken-left).
 use borrow.Author.Needs.{needs}
 use Prim.Native.Nat.{_*_, _^_, _≤_, _<_}
 use lib.ListN.{length}

@@ -1,4 +1,4 @@
--- `run_slices::take_sum` meets its contract. Assumes nothing.
+-- `run_slices::take_sum`: before zone 0 there is nothing to take (none-left), and before any other the sum held there (taken-left).
 use borrow.Author.Needs.{needs}
 use Prim.Native.Nat.{_*_, _^_, _≤_, _<_}
 use lib.ListN.{length}

@@ -1,4 +1,4 @@
--- `runs::fresh_run` meets its contract. Assumes nothing.
+-- `runs::fresh_run`: checks that refuse leave all as it was (fresh-stops); passed, they give `renew` what it asks (fresh-asked), and its work on a blank run is the call (fresh-ends).
 use borrow.Author.Needs.{needs}
 use mathlib.Core.Path.{ap, _∙_}
 use lib.ListN.{length}

@@ -1,4 +1,4 @@
--- `runs::replace_axis` meets its contract. Assumes nothing.
+-- `runs::replace_axis`: checks that refuse leave all as it was (replace-stops); then `renew` on the run with the new axis refuses (axis-refused) or ends the call (axis-ends).
 use borrow.Author.Needs.{needs}
 use mathlib.Core.Path.{ap, _∙_}
 use Rattle.lists.specs.Floats.{zeros}

@@ -1,4 +1,4 @@
--- `runs::replace_core` meets its contract. Assumes nothing.
+-- `runs::replace_core`: checks that refuse leave all as it was (replace-stops); then `renew` refuses (core-refused), or the core is put in and the call ends (core-ends).
 use borrow.Author.Needs.{needs}
 use mathlib.Core.Path.{ap, _∙_}
 use Rattle.lists.specs.Floats.{zeros}
@@ -46,8 +46,10 @@ returns-2 c =
 
 put-core-requires : tie.Need-put-core-requires
 put-core-requires c κs =
-    let start = c .before .before .before .before .before .before .before .before .before .before .before .before .before .before .before .before .before .before .before .before .before .before .before .before .before .before .before .before .before .before .before .before .before .before .before .before .args in
-    let p = core-asks (start .r) (start .source .now) (start .weights .now) (start .chain .now) (start .carries .now) (start .sums .now) (start .z) (start .part .now) _ _ (c .before .before .before .before .before .before .before .before .before .before .before .before .before .before .before .before .before .before .before .before .before .before .before .before .core-ok .ensures) (c .before .before .before .before .before .before .before .before .before .before .before .before .before .before .before .before .before .before .before .before .before .before .enum-told .given .1) in
+    let at-22 = c .before .before .before .before .before .before .before .before .before .before .before .before .before .before .before .before .before .before .before .before .before .before in
+    let start = at-22 .before .before .before .before .before .before .before .before .before .before .before .before .before .before .args in
+    let p = core-asks (start .r) (start .source .now) (start .weights .now) (start .chain .now) (start .carries .now) (start .sums .now) (start .z) (start .part .now) _ _
+    (at-22 .before .before .core-ok .ensures) (at-22 .enum-told .given .1) in
     (p .0, (p .1 .0, p .1 .1, p .1 .2))
 
 returns-3 : tie.Need-returns-3

@@ -1,4 +1,4 @@
--- `runs::replace_weights` meets its contract. Assumes nothing.
+-- `runs::replace_weights`: checks that refuse leave all as it was (replace-stops); then `resummed` and the cleared scratch are the call's end (weights-worked).
 use borrow.Author.Needs.{needs}
 use mathlib.Core.Path.{refl}
 use Rattle.runform.specs.Kept.{keptOf}

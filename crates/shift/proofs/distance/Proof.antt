@@ -1,4 +1,4 @@
--- `shift::distance` meets its contract. Assumes nothing.
+-- `shift::distance`: the code is the definition, with the root that `root` gives.
 use borrow.Author.Needs.{needs}
 use Rattle.stepform.specs.Shifts.{distance}
 use Rattle.shift.proofs.distance.Statement.{statement}

@@ -1,4 +1,4 @@
--- `shift::move_core` meets its contract. Assumes nothing.
+-- `shift::move_core`: a shift that stays copies the core; any other is made by `shift_core` and then looked at (entries-stored).
 use mathlib.Core.Path.{sym, ap}
 use borrow.Author.Needs.{needs}
 use Rattle.answers.specs.Outcome.{done, answered}

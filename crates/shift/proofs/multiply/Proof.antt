@@ -1,4 +1,4 @@
--- `shift::multiply` meets its contract. Assumes nothing.
+-- `shift::multiply`: the invariant: the first i numbers are multiplied (maps-more), and after the last all are (maps-done).
 use Prim.Native.Nat.{_≤_, _-_}
 use mathlib.Core.Path.{_≡_, refl}
 use mathlib.Core.List.{map}

@@ -1,4 +1,4 @@
--- `shift::reaches` meets its contract. Assumes nothing.
+-- `shift::reaches`: the two cases of the shift: one that stays reaches, and any other is asked of `in_reach`.
 use borrow.Author.Needs.{needs}
 use Rattle.shift.proofs.reaches.Statement.{statement}
 use Rattle.shift.proofs.reaches.Tie as tie

@@ -1,4 +1,4 @@
--- `shift::scale` meets its contract. Assumes nothing.
+-- `shift::scale`: all numbers multiplied, then looked at (entries-stored).
 use borrow.Author.Needs.{needs}
 use Rattle.stepform.specs.Shifts.{scaled}
 use Rattle.shift.proofs.Stored.{entries-stored}

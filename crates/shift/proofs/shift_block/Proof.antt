@@ -1,4 +1,4 @@
--- `shift::shift_block` meets its contract. Assumes nothing.
+-- `shift::shift_block`: the invariant: the first j numbers are those of the shifted block (tabs), whose bands are in the block written twice (rooms).
 use Prim.Native.Nat.{_≤_, _-_}
 use mathlib.Core.Path.{_≡_}
 use lib.ListN.{length}

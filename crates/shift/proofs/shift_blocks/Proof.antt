@@ -1,4 +1,4 @@
--- `shift::shift_blocks` meets its contract. Assumes nothing.
+-- `shift::shift_blocks`: the invariant: the first k blocks are shifted (joins-more), each from its copy written twice (block-shifted).
 use Prim.Native.Nat.{ℕ, _+_, _≤_, _-_}
 use native.Mathlib.Omega.{arith}
 use mathlib.Core.Path.{_≡_, _∙_}

@@ -1,4 +1,4 @@
--- `shift::shift_core` meets its contract. Assumes nothing.
+-- `shift::shift_core`: the blocks shifted by these weights and starts are the shifted core, although nothing wraps in them (blocks-are of Around.antt).
 use mathlib.Core.Path.{_∙_}
 use Prim.Native.Nat.{_+_, _*_}
 use native.Mathlib.Nat.{mul-assoc}

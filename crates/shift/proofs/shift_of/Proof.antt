@@ -1,4 +1,4 @@
--- `shift::shift_of` meets its contract. Assumes nothing.
+-- `shift::shift_of`: cases of spacing and distance: no spacing stays, no distance stays, and any other is their quotient (stays-flat, stays-still, goes).
 use mathlib.Core.Path.{_≡_}
 use mathlib.Core.Bool.{true, false}
 use Prim.Native.Nat.{ℕ}

@@ -1,4 +1,4 @@
--- `shift::spacing` meets its contract. Assumes nothing.
+-- `shift::spacing`: one point has no spacing; from two on n - 1 is exact as a float, since it is below 2 ^ 53.
 use Prim.Native.Nat.{_-_, _^_}
 use native.Mathlib.Omega.{arith}
 use lib.Dec.{le→leb}

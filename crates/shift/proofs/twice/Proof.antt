@@ -1,4 +1,4 @@
--- `shift::twice` meets its contract. Assumes nothing.
+-- `shift::twice`: two copies, one behind the other, are the block written twice (twice-is).
 use native.Mathlib.Omega.{arith}
 use lib.ListN.{length}
 use borrow.Author.Needs.{needs}

@@ -1,4 +1,4 @@
--- `ttlist::given` meets its contract. Assumes nothing.
+-- `ttlist::given`: the invariant: n stays within the buffer, which keeps its length.
 use borrow.Author.Needs.{needs}
 use Prim.Native.Nat.{_≤_, _-_}
 use mathlib.Core.Path.{_≡_}

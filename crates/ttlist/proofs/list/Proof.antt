@@ -1,4 +1,4 @@
--- `ttlist::list` meets its contract. Assumes nothing.
+-- `ttlist::list`: the text is no longer than its buffer (text-counts).
 use borrow.Author.Needs.{needs}
 use Rattle.listing.proofs.Grows.{text-counts}
 use Rattle.ttlist.proofs.list.Statement.{statement}

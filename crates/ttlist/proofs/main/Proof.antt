@@ -1,4 +1,4 @@
--- `ttlist::main` meets its contract. Assumes nothing.
+-- `ttlist::main`: what was read is a part of the buffer (part-count).
 use borrow.Author.Needs.{needs}
 use Rattle.lists.proofs.Parts.{part-count}
 use Rattle.ttlist.proofs.main.Statement.{statement}

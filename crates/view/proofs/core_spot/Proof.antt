@@ -1,4 +1,4 @@
--- `view::core_spot` meets its contract. Assumes nothing.
+-- `view::core_spot`: within the axes, the offset and the three sizes are read as the definition reads them.
 use borrow.Author.Needs.{needs}
 use Rattle.view.proofs.core_spot.Statement.{statement}
 use Rattle.view.proofs.core_spot.Tie as tie

@@ -1,4 +1,4 @@
--- `view::entry_at` meets its contract. Assumes nothing.
+-- `view::entry_at`: indices within their sizes have their place within the chain (sights); any other is told as outside.
 use borrow.Author.Needs.{needs}
 use Rattle.view.proofs.Views.{sights}
 use Rattle.view.proofs.entry_at.Statement.{statement}

@@ -1,4 +1,4 @@
--- `view::entry_of` meets its contract: a walk of its MIR, by hand. A view is made in a local and passed on.
+-- `view::entry_of`: a walk of its MIR by hand: a view is made in a local and passed on.
 -- Assumes nothing.
 use mathlib.Core.Path.{_≡_, refl, ap, _∙_}
 use Prim.Native.Nat.{ℕ, _<_, _^_}
@@ -76,7 +76,8 @@ module _ {M : Type 1} (𝓤 : URA M) (H : Heap 𝓤) (A : Atoms 𝓤) (mem : Mem
   abbrev Get : Contract 𝓤
   Get = tripleOf 𝓤 H A get.signature (get.spec 𝓤 H A mem run)
 
-module _ {M : Type 1} (𝓤 : URA M) (H : Heap 𝓤) (A : Atoms 𝓤) (W : Given 𝓤 H A) (mem : Memory → SProp 𝓤) (run : Routine → Fun 𝓤) (κ : Lft) (q : Share) (s : RefT (List Float)) (h : Shape) (k il im ir : ℕ) (k-fits : k < 2 ^ 64) (il-fits : il < 2 ^ 64) (im-fits : im < 2 ^ 64) (ir-fits : ir < 2 ^ 64) where
+module _ {M : Type 1} (𝓤 : URA M) (H : Heap 𝓤) (A : Atoms 𝓤) (W : Given 𝓤 H A) (mem : Memory → SProp 𝓤) (run : Routine → Fun 𝓤)
+    (κ : Lft) (q : Share) (s : RefT (List Float)) (h : Shape) (k il im ir : ℕ) (k-fits : k < 2 ^ 64) (il-fits : il < 2 ^ 64) (im-fits : im < 2 ^ 64) (ir-fits : ir < 2 ^ 64) where
   -- the machine values of the slice and of the shape
   abbrev v : Val
   v = sliceVal (s .ptr) (length (s .now))
@@ -108,8 +109,14 @@ module _ {M : Type 1} (𝓤 : URA M) (H : Heap 𝓤) (A : Atoms 𝓤) (W : Given
   goes-view ph =
       qed W ((‵ (flft κ q) ⊛ ‵ ftrue) ∷ ‵ All ∷ []) ∵
       move ! (1 ∷ []) $ fsplit ! $ use1 W (‵ Own ⊛ ‵ Own) (shr-slice-copy 𝓤 H A W (named 0) κ f64 .twice s (v ∷ [])) $ split ! $
-      move ! (0 ∷ 2 ∷ []) $ fjoin ! $ move ! (1 ∷ []) $ nothing ! $ owned ! usize (Is usize) (uint-makes 𝓤 H A W w64) k _ (refl, k-fits) $ fjoin ! $ owned ! S.the-row (Is S.the-row) (LL.makes S.the-type S′.the-plain 𝓤 H A) h _ ph $ fjoin ! $ move ! (1 ∷ 0 ∷ []) $ fjoin ! $
-      move ! (2 ∷ 0 ∷ []) $ use2 W (raw (ViewOf 𝓤 H A mem run .pre to-view)) (qed W ((‵ (flft κ q) ⊛ ‵ ftrue) ∷ ‵ (owns (ShrSlice (named 0) κ f64 ∷ S.the-row ∷ usize ∷ []) (s, (h, (k, tt))) (v ∷ [], (hv ∷ [], (vint w64 k ∷ [], tt)))) ∷ []) ∵ join ! $ frame ! $ done !) $ frame ! $ done !
+      move ! (0 ∷ 2 ∷ []) $ fjoin ! $ move ! (1 ∷ []) $ nothing ! $
+      owned ! usize (Is usize) (uint-makes 𝓤 H A W w64) k _ (refl, k-fits) $ fjoin ! $
+      owned ! S.the-row (Is S.the-row) (LL.makes S.the-type S′.the-plain 𝓤 H A) h _ ph $ fjoin ! $
+      move ! (1 ∷ 0 ∷ []) $ fjoin ! $
+      move ! (2 ∷ 0 ∷ []) $
+      use2 W (raw (ViewOf 𝓤 H A mem run .pre to-view))
+      (qed W ((‵ (flft κ q) ⊛ ‵ ftrue) ∷ ‵ (owns (ShrSlice (named 0) κ f64 ∷ S.the-row ∷ usize ∷ []) (s, (h, (k, tt))) (v ∷ [], (hv ∷ [], (vint w64 k ∷ [], tt)))) ∷ []) ∵ join ! $
+      frame ! $ done !) $ frame ! $ done !
 
   view-said : (d : CoreView) → ent 𝓤 (ensured 𝓤 H A view-of.ended (view-of.clauses 𝓤 H A mem run) (κ, tt) (s, (h, (k, tt))) tt d) (fact 𝓤 (d ≡ viewOf s h k))
   view-said d = exE 𝓤 _ (λ ws. snd∗ 𝓤 (sem 𝓤 H A (lasts view-of.ended (κ, tt) (s, (h, (k, tt))) ws)) (fact 𝓤 (d ≡ viewOf s h k)))
@@ -130,14 +137,22 @@ module _ {M : Type 1} (𝓤 : URA M) (H : Heap 𝓤) (A : Atoms 𝓤) (W : Given
   exits : (x : Seen) (u : Val) → x ≡ seen (viewOf s h k) il im ir → ent 𝓤 (⋆ 𝓤 H A (‵ (E.the-row .own x (u ∷ [])) ∷ (‵ (flft κ q) ⊛ ‵ ftrue) ∷ ‵ All ∷ [])) (Post u)
   exits x u e =
       qed W (‵ (E.the-row .own x (u ∷ [])) ∷ (‵ (flft κ q) ⊛ ‵ ftrue) ∷ ‵ All ∷ []) ∵
-      suffices ! _ (ends-at 𝓤 H A entry-of.ended stayed (entry-of.clauses 𝓤 H A mem run) W (((κ, tt), (q, tt), tt, (s, (h, (k, (il, (im, (ir, tt)))))), vals), tt) u x (tt, (tt, (tt, (tt, (tt, (tt, tt)))))) (tt, (tt, (tt, (tt, (tt, (tt, tt))))))) $ says ! e $
+      suffices ! _ (ends-at 𝓤 H A entry-of.ended stayed (entry-of.clauses 𝓤 H A mem run) W
+      (((κ, tt), (q, tt), tt, (s, (h, (k, (il, (im, (ir, tt)))))), vals), tt) u x
+      (tt, (tt, (tt, (tt, (tt, (tt, tt)))))) (tt, (tt, (tt, (tt, (tt, (tt, tt))))))) $ says ! e $
       move ! (1 ∷ []) $ frame ! $ move ! (1 ∷ 0 ∷ []) $ frame ! $ done !
 
   module _ (C : Calls 𝓤 H) (Λ : Loops 𝓤 H) (fm : FmC 𝓤 H (W .laws) C) (known-view : Triple 𝓤 (C #view·view-of) (ViewOf 𝓤 H A mem run)) (known-get : Triple 𝓤 (C #view·get) (Get 𝓤 H A mem run)) where
-    walk : Is (ShrSlice (named 0) κ f64) s (v ∷ []) → Is S.the-row h (hv ∷ []) → ent 𝓤 (onEntry 𝓤 H A entry-of.signature (κ, tt) (q, tt) (s, (h, (k, (il, (im, (ir, tt)))))) vals) (WpFn 𝓤 H C Λ code.function (v ∷ hv ∷ vint w64 k ∷ vint w64 il ∷ vint w64 im ∷ vint w64 ir ∷ []) Post)
+    walk : Is (ShrSlice (named 0) κ f64) s (v ∷ []) → Is S.the-row h (hv ∷ [])
+        → ent 𝓤 (onEntry 𝓤 H A entry-of.signature (κ, tt) (q, tt) (s, (h, (k, (il, (im, (ir, tt)))))) vals)
+        (WpFn 𝓤 H C Λ code.function (v ∷ hv ∷ vint w64 k ∷ vint w64 il ∷ vint w64 im ∷ vint w64 ir ∷ []) Post)
     walk p ph =
         qed W (raw (onEntry 𝓤 H A entry-of.signature (κ, tt) (q, tt) (s, (h, (k, (il, (im, (ir, tt)))))) vals) ∷ []) ∵ enter ! C Λ code.function (v ∷ hv ∷ vint w64 k ∷ vint w64 il ∷ vint w64 im ∷ vint w64 ir ∷ []) _ $
-        alloc1 ! (λ l0. alloc1 ! (λ l1. alloc1 ! (λ l2. alloc1 ! (λ l3. alloc1 ! (λ l4. alloc1 ! (λ l5. alloc1 ! (λ l6. alloc1 ! (λ l7. alloc0 ! $ params1 ! $ pass1 ! (init ! 12 refl (shr-slice-lawful 𝓤 H A W (named 0) κ f64 .typed s (v ∷ []) p .0)) $ pass1 ! (init ! 10 refl (LL.lawful S.the-type S′.the-laws 𝓤 H A W .typed h _ ph .0)) $ pass1 ! (init ! 8 refl (
+        alloc1 ! (λ l0. alloc1 ! (λ l1. alloc1 ! (λ l2. alloc1 ! (λ l3. alloc1 ! (λ l4. alloc1 ! (λ l5. alloc1 ! (λ l6. alloc1 ! (λ l7.
+        alloc0 ! $ params1 ! $
+        pass1 ! (init ! 12 refl (shr-slice-lawful 𝓤 H A W (named 0) κ f64 .typed s (v ∷ []) p .0)) $
+        pass1 ! (init ! 10 refl (LL.lawful S.the-type S′.the-laws 𝓤 H A W .typed h _ ph .0)) $
+        pass1 ! (init ! 8 refl (
           tt,
           record {
             fits =
@@ -150,21 +165,27 @@ module _ {M : Type 1} (𝓤 : URA M) (H : Heap 𝓤) (A : Atoms 𝓤) (W : Given
           },
         )) $ pass1 ! (init ! 2 refl (tt, record { fits = ir-fits })) $ pass0 ! $
         move ! (16 ∷ []) $ use1 W (raw (ViewOf 𝓤 H A mem run .pre to-view) ⊛ ‵ All) (goes-view ph) $ split ! $
-        calls-at ! fm (ViewOf 𝓤 H A mem run) known-view to-view (and-then ! (load ! (from ! (stop !)) (look ! 14 refl)) (and-then ! (load ! (from ! (stop !)) (look ! 12 refl)) (and-then ! (load ! (from ! (stop !)) (look ! 10 refl)) (no-more !)))) (λ u.
+        calls-at ! fm (ViewOf 𝓤 H A mem run) known-view to-view
+        (and-then ! (load ! (from ! (stop !)) (look ! 14 refl)) (and-then ! (load ! (from ! (stop !)) (look ! 12 refl)) (and-then ! (load ! (from ! (stop !)) (look ! 10 refl)) (no-more !))))
+        (λ u.
         use1 W (later (some (λ (d : CoreView). ((‵ (flft κ q) ⊛ ‵ ftrue) ⊛ ‵ (B (κ, tt) .own d (u ∷ []))) ⊛ raw (ensured 𝓤 H A view-of.ended (view-of.clauses 𝓤 H A mem run) (κ, tt) (s, (h, (k, tt))) tt d)))) (id⊢ 𝓤 _) $ await ! tt $ pick ! (λ d.
         split ! $ move ! (1 ∷ []) $ use1 W (raw (fact 𝓤 (d ≡ viewOf s h k))) (view-said d) $ heard ! (d ≡ viewOf s h k) (λ e. split ! $ move ! (1 ∷ []) $
         -- [what the view owns; the token; what the parameters own; room for _7; …]
         peeks ! (B (κ, tt)) (Is (B (κ, tt))) (shows 𝓤 H A (B (κ, tt))) d (u ∷ []) (λ is.
         land ! (from ! (stop !)) (init ! 3 refl (LL.lawful (T.the-type αᵉ) (T′.the-laws αᵉ) 𝓤 H A W .typed d _ is .0)) $
         use2 W (raw (Get 𝓤 H A mem run .pre (to-get d u))) (goes-get d u) $
-        calls-at ! fm (Get 𝓤 H A mem run) known-get (to-get d u) (and-then ! (load ! (from ! (stop !)) (look ! 2 refl)) (and-then ! (load ! (from ! (stop !)) (look ! 8 refl)) (and-then ! (load ! (from ! (stop !)) (look ! 6 refl)) (and-then ! (load ! (from ! (stop !)) (look ! 4 refl)) (no-more !))))) (λ u′.
+        calls-at ! fm (Get 𝓤 H A mem run) known-get (to-get d u)
+        (and-then ! (load ! (from ! (stop !)) (look ! 2 refl)) (and-then ! (load ! (from ! (stop !)) (look ! 8 refl)) (and-then ! (load ! (from ! (stop !)) (look ! 6 refl)) (and-then ! (load ! (from ! (stop !)) (look ! 4 refl)) (no-more !)))))
+        (λ u′.
         use1 W (later (some (λ (x : Seen). ((‵ (flft κ q) ⊛ ‵ ftrue) ⊛ ‵ (E.the-row .own x (u′ ∷ []))) ⊛ raw (ensured 𝓤 H A get.ended (get.clauses 𝓤 H A mem run) (κ, tt) (d, (il, (im, (ir, tt)))) tt x)))) (id⊢ 𝓤 _) $ await ! tt $ pick ! (λ x.
         split ! $ move ! (1 ∷ []) $ use1 W (raw (fact 𝓤 (x ≡ seen d il im ir))) (get-said d x) $ heard ! (x ≡ seen d il im ir) (λ e′. split ! $ move ! (1 ∷ []) $
         -- [the result; the token; what the parameters own; _7; …; room for _0; …]
         peeks ! E.the-row (Is E.the-row) (shows 𝓤 H A E.the-row) x (u′ ∷ []) (λ is′.
         land ! (from ! (stop !)) (init ! 17 refl (EL.lawful E.the-type E′.the-laws 𝓤 H A W tt .typed x _ is′ .0)) $
         returns ! (look ! 17 refl) $ forget ! 3 refl $ forget ! 5 refl $ forget ! 7 refl $ forget ! 9 refl $ forget ! 11 refl $ forget ! 13 refl $ forget ! 15 refl $ forget ! 17 refl $
-        move ! (17 ∷ 18 ∷ []) $ free1 ! $ move ! (15 ∷ 16 ∷ []) $ free1 ! $ move ! (13 ∷ 14 ∷ []) $ free1 ! $ move ! (11 ∷ 12 ∷ []) $ free1 ! $ move ! (9 ∷ 10 ∷ []) $ free1 ! $ move ! (7 ∷ 8 ∷ []) $ free1 ! $ move ! (5 ∷ 6 ∷ []) $ free1 ! $ move ! (3 ∷ 4 ∷ []) $ free1 ! $ free0 ! $ by ! (exits x u′ (e′ ∙ ap (λ (z : CoreView). seen z il im ir) e))))))))))))))))))
+        move ! (17 ∷ 18 ∷ []) $ free1 ! $ move ! (15 ∷ 16 ∷ []) $ free1 ! $ move ! (13 ∷ 14 ∷ []) $ free1 ! $ move ! (11 ∷ 12 ∷ []) $ free1 ! $ move ! (9 ∷ 10 ∷ []) $ free1 ! $
+        move ! (7 ∷ 8 ∷ []) $ free1 ! $ move ! (5 ∷ 6 ∷ []) $ free1 ! $ move ! (3 ∷ 4 ∷ []) $ free1 ! $ free0 ! $
+        by ! (exits x u′ (e′ ∙ ap (λ (z : CoreView). seen z il im ir) e))))))))))))))))))
 
 module _ {M : Type 1} (𝓤 : URA M) (H : Heap 𝓤) (A : Atoms 𝓤) (W : Given 𝓤 H A) (mem : Memory → SProp 𝓤) (run : Routine → Fun 𝓤) where
   entry-of-walks : (C : Calls 𝓤 H) (Λ : Loops 𝓤 H) → FmC 𝓤 H (W .laws) C → Triple 𝓤 (C #view·view-of) (ViewOf 𝓤 H A mem run) → Triple 𝓤 (C #view·get) (Get 𝓤 H A mem run)
@@ -174,7 +195,9 @@ module _ {M : Type 1} (𝓤 : URA M) (H : Heap 𝓤) (A : Atoms 𝓤) (W : Given
       (λ κs. (slice-vals, (LL.vals S.the-type S′.the-laws, (uint-vals w64, (uint-vals w64, (uint-vals w64, (uint-vals w64, tt)))))))
       (λ κs.
       (shr-slice-tells (named 0) (κs .0) f64, (LL.tells S.the-type S′.the-laws, (uint-tells w64, (uint-tells w64, (uint-tells w64, (uint-tells w64, tt)))))))
-      (λ κs qs bounds a g are. via 𝓤 _ (fst∗ 𝓤 _ (emp 𝓤)) (walk 𝓤 H A W mem run (κs .0) (qs .0) (a .0) (a .1 .0) (a .1 .1 .0) (a .1 .1 .1 .0) (a .1 .1 .1 .1 .0) (a .1 .1 .1 .1 .1 .0) (are .1 .1 .0 .1) (are .1 .1 .1 .0 .1) (are .1 .1 .1 .1 .0 .1) (are .1 .1 .1 .1 .1 .0 .1) C Λ fm known-view known-get (are .0) (are .1 .0)))
+      (λ κs qs bounds a g are. via 𝓤 _ (fst∗ 𝓤 _ (emp 𝓤))
+      (walk 𝓤 H A W mem run (κs .0) (qs .0) (a .0) (a .1 .0) (a .1 .1 .0) (a .1 .1 .1 .0) (a .1 .1 .1 .1 .0) (a .1 .1 .1 .1 .1 .0) (are .1 .1 .0 .1) (are .1 .1 .1 .0 .1) (are .1 .1 .1 .1 .0 .1) (are .1 .1 .1 .1 .1 .0 .1)
+      C Λ fm known-view known-get (are .0) (are .1 .0)))
 
 entry-of-meets : {M : Type 1} (𝓤 : URA M) (H : Heap 𝓤) (A : Atoms 𝓤) (W : Given 𝓤 H A) (mem : Memory → SProp 𝓤) (run : Routine → Fun 𝓤) (𝓣 : Tables 𝓤 H)
     → Triple 𝓤 (𝓣 .C #view·view-of) (ViewOf 𝓤 H A mem run) → Triple 𝓤 (𝓣 .C #view·get) (Get 𝓤 H A mem run)

@@ -1,4 +1,4 @@
--- `view::spot_of` meets its contract. Assumes nothing.
+-- `view::spot_of`: a shape that is refused and a k past the last core are nowhere, and any other core is where `core_spot` says (spots).
 use borrow.Author.Needs.{needs}
 use Rattle.shape.proofs.Shaped.{fits-sizes}
 use Rattle.view.proofs.Views.{spots}

@@ -1,4 +1,4 @@
--- `view::view_of` meets its contract: a walk of its MIR, by hand. Where the core stands is asked of `spot_of`, and the view is made of the slice and the numbers.
+-- `view::view_of`: a walk of its MIR by hand: where the core stands is asked of `spot_of`, and the view is made of the slice and the numbers.
 -- Assumes nothing.
 use mathlib.Core.Path.{_≡_, refl, subst, ap}
 use Prim.Native.Nat.{ℕ, _<_, _^_}
@@ -115,13 +115,23 @@ module _ {M : Type 1} (𝓤 : URA M) (H : Heap 𝓤) (A : Atoms 𝓤) (W : Given
       qed W ((‵ (flft κ q) ⊛ ‵ ftrue) ∷ ‵ (owns (ShrSlice (named 0) κ f64 ∷ S.the-row ∷ usize ∷ []) (s, (h, (k, tt))) vals) ∷ []) ∵
       suffices ! _ (ends-at 𝓤 H A view-of.ended stayed (view-of.clauses 𝓤 H A mem run) W (((κ, tt), (q, tt), tt, (s, (h, (k, tt))), vals), tt) (T′.lowered (made x)) (made x) (tt, (tt, (tt, tt))) (tt, (tt, (tt, tt)))) $ says ! (ap made e) $
       frame ! $ fsplit ! $ use1 W (‵ Own ⊛ ‵ Own) (shr-slice-copy 𝓤 H A W (named 0) κ f64 .twice s (v ∷ [])) $ split ! $ move ! (0 ∷ 2 ∷ []) $ fjoin ! $ frame ! $
-      nothing ! $ owned ! usize (Is usize) (uint-makes 𝓤 H A W w64) (x .rr) _ (refl, wt .1 .1 .1 .1 .0 .fits) $ fjoin ! $ owned ! usize (Is usize) (uint-makes 𝓤 H A W w64) (x .n) _ (refl, wt .1 .1 .1 .0 .fits) $ fjoin ! $ owned ! usize (Is usize) (uint-makes 𝓤 H A W w64) (x .rl) _ (refl, wt .1 .1 .0 .fits) $ fjoin ! $ owned ! usize (Is usize) (uint-makes 𝓤 H A W w64) (x .start) _ (refl, wt .1 .0 .fits) $ fjoin ! $ move ! (1 ∷ 0 ∷ []) $ fjoin ! $ by ! (own-shut 𝓤 H A W (T.the-type α) (T′.the-laws α) (s, (x .start, (x .rl, (x .n, (x .rr, tt))))))
+      nothing ! $
+      owned ! usize (Is usize) (uint-makes 𝓤 H A W w64) (x .rr) _ (refl, wt .1 .1 .1 .1 .0 .fits) $ fjoin ! $
+      owned ! usize (Is usize) (uint-makes 𝓤 H A W w64) (x .n) _ (refl, wt .1 .1 .1 .0 .fits) $ fjoin ! $
+      owned ! usize (Is usize) (uint-makes 𝓤 H A W w64) (x .rl) _ (refl, wt .1 .1 .0 .fits) $ fjoin ! $
+      owned ! usize (Is usize) (uint-makes 𝓤 H A W w64) (x .start) _ (refl, wt .1 .0 .fits) $ fjoin ! $
+      move ! (1 ∷ 0 ∷ []) $ fjoin ! $
+      by ! (own-shut 𝓤 H A W (T.the-type α) (T′.the-laws α) (s, (x .start, (x .rl, (x .n, (x .rr, tt))))))
 
   module _ (C : Calls 𝓤 H) (Λ : Loops 𝓤 H) (fm : FmC 𝓤 H (W .laws) C) (known : Triple 𝓤 (C #view·spot-of) (SpotOf 𝓤 H A mem run)) where
     walk : Is (ShrSlice (named 0) κ f64) s (v ∷ []) → Is S.the-row h (hv ∷ []) → ent 𝓤 (onEntry 𝓤 H A view-of.signature (κ, tt) (q, tt) (s, (h, (k, tt))) vals) (WpFn 𝓤 H C Λ code.function (v ∷ hv ∷ vint w64 k ∷ []) Post)
     walk p ph =
         qed W (raw (onEntry 𝓤 H A view-of.signature (κ, tt) (q, tt) (s, (h, (k, tt))) vals) ∷ []) ∵ enter ! C Λ code.function (v ∷ hv ∷ vint w64 k ∷ []) _ $
-        alloc1 ! (λ l0. alloc1 ! (λ l1. alloc1 ! (λ l2. alloc1 ! (λ l3. alloc1 ! (λ l4. alloc0 ! $ params1 ! $ pass1 ! (init ! 6 refl (shr-slice-lawful 𝓤 H A W (named 0) κ f64 .typed s (v ∷ []) p .0)) $ pass1 ! (init ! 4 refl (LL.lawful S.the-type S′.the-laws 𝓤 H A W .typed h _ ph .0)) $ pass1 ! (init ! 2 refl (
+        alloc1 ! (λ l0. alloc1 ! (λ l1. alloc1 ! (λ l2. alloc1 ! (λ l3. alloc1 ! (λ l4.
+        alloc0 ! $ params1 ! $
+        pass1 ! (init ! 6 refl (shr-slice-lawful 𝓤 H A W (named 0) κ f64 .typed s (v ∷ []) p .0)) $
+        pass1 ! (init ! 4 refl (LL.lawful S.the-type S′.the-laws 𝓤 H A W .typed h _ ph .0)) $
+        pass1 ! (init ! 2 refl (
           tt,
           record {
             fits =
@@ -136,7 +146,13 @@ module _ {M : Type 1} (𝓤 : URA M) (H : Heap 𝓤) (A : Atoms 𝓤) (W : Given
         -- [the place; room for _4; …; _1; …; room for _0; …; what the function was entered with]
         facts ! P.the-row (Is P.the-row) (shows 𝓤 H A P.the-row) x (u ∷ []) (λ is.
         land ! (from ! (stop !)) (init ! 0 refl (LL.lawful P.the-type P′.the-laws 𝓤 H A W .typed x _ is .0)) $ rewrite ! 0 (λ (y : Val). ‵ (fat fullShare P′.mir l4 0 y)) (placed x u is) refl $
-        assigns ! (agg ! (and-then ! (load ! (from ! (stop !)) (look ! 6 refl)) (and-then ! (load ! (from ! (fld ! refl (stop !))) (look-in ! 0 (sub ! 0 refl (whole !)))) (and-then ! (load ! (from ! (fld ! refl (stop !))) (look-in ! 0 (sub ! 1 refl (whole !)))) (and-then ! (load ! (from ! (fld ! refl (stop !))) (look-in ! 0 (sub ! 2 refl (whole !)))) (and-then ! (load ! (from ! (fld ! refl (stop !))) (look-in ! 0 (sub ! 3 refl (whole !)))) (no-more !))))))) (from ! (stop !)) (init ! 8 refl (tt, (shr-slice-lawful 𝓤 H A W (named 0) κ f64 .typed s (v ∷ []) p .0 .1, (typed x u is) .1))) $
+        assigns ! (agg !
+        (and-then ! (load ! (from ! (stop !)) (look ! 6 refl))
+        (and-then ! (load ! (from ! (fld ! refl (stop !))) (look-in ! 0 (sub ! 0 refl (whole !))))
+        (and-then ! (load ! (from ! (fld ! refl (stop !))) (look-in ! 0 (sub ! 1 refl (whole !))))
+        (and-then ! (load ! (from ! (fld ! refl (stop !))) (look-in ! 0 (sub ! 2 refl (whole !))))
+        (and-then ! (load ! (from ! (fld ! refl (stop !))) (look-in ! 0 (sub ! 3 refl (whole !)))) (no-more !)))))))
+        (from ! (stop !)) (init ! 8 refl (tt, (shr-slice-lawful 𝓤 H A W (named 0) κ f64 .typed s (v ∷ []) p .0 .1, (typed x u is) .1))) $
         returns ! (look ! 8 refl) $ forget ! 0 refl $ forget ! 2 refl $ forget ! 4 refl $ forget ! 6 refl $ forget ! 8 refl $
         move ! (8 ∷ 9 ∷ []) $ free1 ! $ move ! (6 ∷ 7 ∷ []) $ free1 ! $ move ! (4 ∷ 5 ∷ []) $ free1 ! $ move ! (2 ∷ 3 ∷ []) $ free1 ! $ move ! (0 ∷ 1 ∷ []) $ free1 ! $ free0 ! $ by ! (exits x e (typed x u is)))))))))))
 

@@ -1,4 +1,4 @@
--- `words::all_finite` meets its contract. Assumes nothing.
+-- `words::all_finite`: the invariant: the flag says whether the first i numbers read are finite (Flag, numbers-read).
 use borrow.Author.Needs.{needs}
 use Prim.Native.Nat.{_≤_, _-_}
 use Rattle.lists.proofs.Seen.{Flag, flag-none}

@@ -1,4 +1,4 @@
--- `words::f64_at` meets its contract. Assumes nothing.
+-- `words::f64_at`: the eight bytes are a number's pattern, and that of a finite one is no NaN (finite-no-nan).
 use borrow.Author.Needs.{needs}
 use mathlib.Core.Path.{ap, _∙_}
 use Prim.Native.Nat.{ℕ}

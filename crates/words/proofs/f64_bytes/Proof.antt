@@ -1,4 +1,4 @@
--- `words::f64_bytes` meets its contract. Assumes nothing.
+-- `words::f64_bytes`: a finite number has a known pattern (finite-known), whose eight bytes are written.
 use borrow.Author.Needs.{needs}
 use Rattle.words.proofs.Finite.{finite-known}
 use Rattle.words.proofs.f64_bytes.Statement.{statement}

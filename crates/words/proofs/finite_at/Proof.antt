@@ -1,4 +1,4 @@
--- `words::finite_at` meets its contract. Assumes nothing.
+-- `words::finite_at`: the exponent bits of the eight bytes tell whether the number is finite (finite-bits).
 use borrow.Author.Needs.{needs}
 use mathlib.Core.Path.{ap, _∙_}
 use Prim.Native.Nat.{ℕ, _%_}

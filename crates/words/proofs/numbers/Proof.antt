@@ -1,4 +1,4 @@
--- `words::numbers` meets its contract. Assumes nothing.
+-- `words::numbers`: the invariant: the first i places hold the numbers read (tabs-more), and after the last the list is the one read (numbers-done).
 use borrow.Author.Needs.{needs}
 use Prim.Native.Nat.{ℕ, _≤_, _-_, _+_, _*_}
 use mathlib.Core.Path.{_≡_}

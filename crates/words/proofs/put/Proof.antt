@@ -1,4 +1,4 @@
--- `words::put` meets its contract. Assumes nothing.
+-- `words::put`: the invariant: the first i bytes are placed (puts-more), and after the last all are (puts-done).
 use borrow.Author.Needs.{needs}
 use Prim.Native.Nat.{_≤_, _-_}
 use mathlib.Core.Path.{_≡_}

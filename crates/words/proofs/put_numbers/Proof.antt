@@ -1,4 +1,4 @@
--- `words::put_numbers` meets its contract. Assumes nothing.
+-- `words::put_numbers`: the invariant: the bytes of the first i numbers are written (write-more), and after the last those of all (numbers-written).
 use borrow.Author.Needs.{needs}
 use Prim.Native.Nat.{_≤_, _-_}
 use mathlib.Core.Path.{_≡_}

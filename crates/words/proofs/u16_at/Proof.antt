@@ -1,4 +1,4 @@
--- `words::u16_at` meets its contract. Assumes nothing.
+-- `words::u16_at`: two bytes make a number of 16 bits (two-at).
 use borrow.Author.Needs.{needs}
 use Rattle.words.proofs.Bytes.{two-at}
 use Rattle.words.proofs.u16_at.Statement.{statement}

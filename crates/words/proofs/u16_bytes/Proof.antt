@@ -1,4 +1,4 @@
--- `words::u16_bytes` meets its contract. Assumes nothing.
+-- `words::u16_bytes`: the two bytes of a number are its digits to base 256 (two-bytes).
 use borrow.Author.Needs.{needs}
 use Rattle.words.proofs.Bytes.{two-bytes}
 use Rattle.words.proofs.u16_bytes.Statement.{statement}

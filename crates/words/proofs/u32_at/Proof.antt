@@ -1,4 +1,4 @@
--- `words::u32_at` meets its contract. Assumes nothing.
+-- `words::u32_at`: two numbers of 16 bits make one of 32 (four-at).
 use borrow.Author.Needs.{needs}
 use Rattle.words.proofs.Bytes.{four-at}
 use Rattle.words.proofs.u32_at.Statement.{statement}

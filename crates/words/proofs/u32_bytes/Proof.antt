@@ -1,4 +1,4 @@
--- `words::u32_bytes` meets its contract. Assumes nothing.
+-- `words::u32_bytes`: the four bytes of a number are its digits to base 256 (four-bytes).
 use borrow.Author.Needs.{needs}
 use Rattle.words.proofs.Bytes.{four-bytes}
 use Rattle.words.proofs.u32_bytes.Statement.{statement}

@@ -1,4 +1,4 @@
--- `words::u64_at` meets its contract. Assumes nothing.
+-- `words::u64_at`: two numbers of 32 bits make one of 64 (eight-at).
 use borrow.Author.Needs.{needs}
 use Rattle.words.proofs.Bytes.{eight-at}
 use Rattle.words.proofs.u64_at.Statement.{statement}

@@ -1,4 +1,4 @@
--- `words::u64_bytes` meets its contract. Assumes nothing.
+-- `words::u64_bytes`: the four bytes of each half are the eight of the number (eight-bytes).
 use borrow.Author.Needs.{needs}
 use Rattle.words.proofs.Bytes.{eight-bytes}
 use Rattle.words.proofs.u64_bytes.Statement.{statement}

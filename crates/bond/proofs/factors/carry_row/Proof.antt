@@ -1,4 +1,4 @@
--- `bond::factors::carry_row` meets its contract. Assumes nothing.
+-- `bond::factors::carry_row`: the invariant: the first j entries of the row are stored.
 use Prim.Native.Nat.{ℕ, _+_, _-_, _*_, _≤_}
 use mathlib.Core.Path.{_≡_}
 use lib.ListN.{length}

@@ -1,4 +1,4 @@
--- `bond::factors::carry_rows` meets its contract. Assumes nothing.
+-- `bond::factors::carry_rows`: the invariant: the first i rows are stored, and after the last all are (rows-whole).
 use Prim.Native.Nat.{ℕ, _+_, _-_, _*_, _≤_}
 use mathlib.Core.Path.{_≡_}
 use lib.ListN.{length}

@@ -1,4 +1,4 @@
--- `bond::factors::clear_column` meets its contract. Assumes nothing.
+-- `bond::factors::clear_column`: the invariant: the first i entries of the column are zero.
 use Prim.Native.Nat.{ℕ, _+_, _-_, _*_, _≤_}
 use mathlib.Core.Path.{_≡_}
 use mathlib.Core.List.{List}

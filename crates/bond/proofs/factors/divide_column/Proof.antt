@@ -1,4 +1,4 @@
--- `bond::factors::divide_column` meets its contract. Assumes nothing.
+-- `bond::factors::divide_column`: the invariant: the first i entries of the column are divided.
 use Prim.Native.Nat.{ℕ, _+_, _-_, _*_, _≤_}
 use mathlib.Core.Path.{_≡_}
 use mathlib.Core.List.{List}

@@ -1,4 +1,4 @@
--- `bond::factors::divided` meets its contract. Assumes nothing.
+-- `bond::factors::divided`: the code is the definition.
 use mathlib.Core.Path.{refl}
 use Rattle.cutform.specs.Factors.{divided}
 use Rattle.bond.proofs.factors.divided.Statement.{statement}

@@ -1,4 +1,4 @@
--- `bond::factors::factor` meets its contract. Assumes nothing.
+-- `bond::factors::factor`: the fronts of the lists meet what `left_and_carry` asks (columns-room, columns-front), and hold what it leaves (factor-front).
 use native.Mathlib.Omega.{arith}
 use mathlib.Core.Path.{_∙_}
 use native.Mathlib.Nat.{mul-comm}

@@ -1,4 +1,4 @@
--- `bond::factors::finish` meets its contract. Assumes nothing.
+-- `bond::factors::finish`: the invariant: the first j columns are finished, and after the last all are (finish-done).
 use Prim.Native.Nat.{ℕ, _-_, _≤_}
 use mathlib.Core.Path.{_≡_}
 use lib.ListN.{length}

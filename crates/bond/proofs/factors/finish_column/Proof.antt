@@ -1,4 +1,4 @@
--- `bond::factors::finish_column` meets its contract. Assumes nothing.
+-- `bond::factors::finish_column`: a column is divided by its value (finish-divided) or, where that is no divisor, cleared (finish-cleared).
 use borrow.Author.Needs.{needs}
 use Rattle.bond.proofs.Finished.{finish-divided, finish-cleared}
 use Rattle.bond.proofs.factors.finish_column.Statement.{statement}

@@ -1,4 +1,4 @@
--- `bond::factors::gather` meets its contract. Assumes nothing.
+-- `bond::factors::gather`: the invariant: the first k rows are gathered, and after the last all are (rows-whole).
 use Prim.Native.Nat.{ℕ, _-_, _*_, _≤_}
 use mathlib.Core.Path.{_≡_}
 use lib.ListN.{length, getD}

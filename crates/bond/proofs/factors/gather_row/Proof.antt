@@ -1,4 +1,4 @@
--- `bond::factors::gather_row` meets its contract. Assumes nothing.
+-- `bond::factors::gather_row`: the invariant: the first j entries of the row are gathered; their columns are within the basis (exact-lt).
 use Prim.Native.Nat.{ℕ, _-_, _*_, _≤_}
 use mathlib.Core.Path.{_≡_}
 use lib.ListN.{length, getD}

@@ -1,4 +1,4 @@
--- `bond::factors::left_and_carry` meets its contract. Assumes nothing.
+-- `bond::factors::left_and_carry`: the columns are gathered and the left factor made; where it is finite the carry is made and looked at (factors-stop, factors-end).
 use native.Mathlib.Omega.{arith}
 use borrow.Author.Needs.{needs}
 use Rattle.bond.proofs.Finished.{rows-most, factors-stop, factors-end}

@@ -1,4 +1,4 @@
--- `bond::factors::left_factor` meets its contract. Assumes nothing.
+-- `bond::factors::left_factor`: the product, finished, is the left factor (left-is), which is then looked at.
 use native.Mathlib.Nat.{mul-le-mul-left}
 use native.Mathlib.Omega.{arith}
 use lib.ListN.{length-append}

@@ -1,4 +1,4 @@
--- `bond::factors::multiply` meets its contract. Assumes nothing.
+-- `bond::factors::multiply`: the core is copied and the product written over its front (multiply-is).
 use native.Mathlib.Nat.{mul-le-mul-left}
 use native.Mathlib.Omega.{arith}
 use borrow.Author.Needs.{needs}

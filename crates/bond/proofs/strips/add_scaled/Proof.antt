@@ -1,4 +1,4 @@
--- `bond::strips::add_scaled` meets its contract. Assumes nothing.
+-- `bond::strips::add_scaled`: the invariant: the first t sums have their term (addedIn).
 use Prim.Native.Nat.{ℕ, _+_, _-_, _≤_}
 use mathlib.Core.Path.{_≡_}
 use lib.ListN.{length}

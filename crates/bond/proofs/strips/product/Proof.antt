@@ -1,4 +1,4 @@
--- `bond::strips::product` meets its contract. Assumes nothing.
+-- `bond::strips::product`: the invariant: the first i rows are stored, and after the last the product is (rows-done).
 use Prim.Native.Nat.{ℕ, _-_, _*_, _≤_}
 use mathlib.Core.Path.{_≡_}
 use lib.ListN.{length}

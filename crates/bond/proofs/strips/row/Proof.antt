@@ -1,4 +1,4 @@
--- `bond::strips::row` meets its contract. Assumes nothing.
+-- `bond::strips::row`: three loops, by eights, by fours and one by one, with one invariant: the first j entries of the row are stored (row-more, row-whole).
 use Prim.Native.Nat.{_-_, _≤_}
 use mathlib.Core.Path.{_≡_}
 use native.Mathlib.Omega.{arith}

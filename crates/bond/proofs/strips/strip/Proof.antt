@@ -1,4 +1,4 @@
--- `bond::strips::strip` meets its contract. Assumes nothing.
+-- `bond::strips::strip`: the invariant: the strip's sums have the first k terms (sumsTo); then they are stored (strip-end).
 use Prim.Native.Nat.{_-_, _≤_}
 use mathlib.Core.Path.{_≡_}
 use Rattle.lists.proofs.Turns.{turns}

@@ -1,4 +1,4 @@
--- `bond::sweeps::apply_jacobi_rotation` meets its contract. Assumes nothing.
+-- `bond::sweeps::apply_jacobi_rotation`: matrix and basis are turned, then looked at in this order: the first that is not finite stops it (turned-stop, turned-end).
 use borrow.Author.Needs.{needs}
 use Rattle.bond.proofs.Rotations.{turned-stop, turned-end}
 use Rattle.bond.proofs.sweeps.apply_jacobi_rotation.Statement.{statement}

@@ -1,4 +1,4 @@
--- `bond::sweeps::clear` meets its contract. Assumes nothing.
+-- `bond::sweeps::clear`: two entries set to zero: the definition.
 use borrow.Author.Needs.{needs}
 use Rattle.cutform.specs.Sweeps.{cleared}
 use Rattle.bond.proofs.sweeps.clear.Statement.{statement}

@@ -1,4 +1,4 @@
--- `bond::sweeps::diagonalize` meets its contract. Assumes nothing.
+-- `bond::sweeps::diagonalize`: the invariant: what is left of the sweeps is the sweeps from here; settled, still, stopped or done, each is a case of the definition.
 use Prim.Native.Nat.{_-_, _≤_}
 use mathlib.Core.Path.{_≡_}
 use lib.ListN.{length}

@@ -1,4 +1,4 @@
--- `bond::sweeps::jacobi_sweep` meets its contract. Assumes nothing.
+-- `bond::sweeps::jacobi_sweep`: the invariant: what is left of the sweep is the sweep from row p (sweep-rows); a row that is not finite stops it (stagings).
 use Prim.Native.Nat.{_-_, _≤_}
 use mathlib.Core.Path.{_≡_}
 use lib.ListN.{length}

@@ -1,4 +1,4 @@
--- `bond::sweeps::number_at` meets its contract. Assumes nothing.
+-- `bond::sweeps::number_at`: entry (i, j) lies within the list (exacts).
 use borrow.Author.Needs.{needs}
 use Rattle.lists.proofs.Cells.{exacts}
 use Rattle.bond.proofs.sweeps.number_at.Statement.{statement}

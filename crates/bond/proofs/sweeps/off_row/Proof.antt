@@ -1,4 +1,4 @@
--- `bond::sweeps::off_row` meets its contract. Assumes nothing.
+-- `bond::sweeps::off_row`: the invariant: the sum has the entries before column q (from-more).
 use Prim.Native.Nat.{ℕ, _+_, _-_, _≤_}
 use mathlib.Core.Path.{_≡_}
 use lib.Ieee.{Float}

@@ -1,4 +1,4 @@
--- `bond::sweeps::off_sum` meets its contract. Assumes nothing.
+-- `bond::sweeps::off_sum`: the invariant: the sum has the first p rows, and after the last all of them (off-rows).
 use Prim.Native.Nat.{_-_, _≤_}
 use mathlib.Core.Path.{_≡_, sym, _∙_}
 use Rattle.lists.specs.Lists.{iter}

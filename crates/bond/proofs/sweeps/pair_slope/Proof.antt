@@ -1,4 +1,4 @@
--- `bond::sweeps::pair_slope` meets its contract. Assumes nothing.
+-- `bond::sweeps::pair_slope`: the slope of three entries, read one after the other.
 use borrow.Author.Needs.{needs}
 use Rattle.bond.proofs.sweeps.pair_slope.Statement.{statement}
 use Rattle.bond.proofs.sweeps.pair_slope.Tie as tie

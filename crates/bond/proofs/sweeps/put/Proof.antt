@@ -1,4 +1,4 @@
--- `bond::sweeps::put` meets its contract. Assumes nothing.
+-- `bond::sweeps::put`: entry (i, j) lies within the list (exacts).
 use borrow.Author.Needs.{needs}
 use Rattle.lists.proofs.Cells.{exacts}
 use Rattle.bond.proofs.sweeps.put.Statement.{statement}

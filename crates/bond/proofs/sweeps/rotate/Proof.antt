@@ -1,4 +1,4 @@
--- `bond::sweeps::rotate` meets its contract. Assumes nothing.
+-- `bond::sweeps::rotate`: a pair that is skipped stays (rotate-skip); any other is turned by its slope, tangent and cosine (rotate-go).
 use Rattle.lists.proofs.Turns.{turns}
 use Rattle.bond.proofs.Rotations.{rotate-skip, rotate-go}
 use Rattle.bond.proofs.sweeps.rotate.Statement.{statement}

@@ -1,4 +1,4 @@
--- `bond::sweeps::settled` meets its contract. Assumes nothing.
+-- `bond::sweeps::settled`: the sum that `off_sum` gives, compared as the definition does.
 use borrow.Author.Needs.{needs}
 use Rattle.cutform.specs.Sweeps.{settled}
 use Rattle.bond.proofs.sweeps.settled.Statement.{statement}

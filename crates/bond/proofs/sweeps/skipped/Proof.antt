@@ -1,4 +1,4 @@
--- `bond::sweeps::skipped` meets its contract. Assumes nothing.
+-- `bond::sweeps::skipped`: the entry that `number_at` gives, compared as the definition does.
 use borrow.Author.Needs.{needs}
 use Rattle.cutform.specs.Sweeps.{skipped}
 use Rattle.bond.proofs.sweeps.skipped.Statement.{statement}

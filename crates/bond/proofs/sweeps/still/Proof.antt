@@ -1,4 +1,4 @@
--- `bond::sweeps::still` meets its contract. Assumes nothing.
+-- `bond::sweeps::still`: the invariant: the flag says whether the first p rows are still, and after the last whether all are (still-rows).
 use Prim.Native.Nat.{_-_, _≤_}
 use mathlib.Core.Path.{_≡_, sym, _∙_}
 use Rattle.lists.specs.Lists.{iter}

@@ -1,4 +1,4 @@
--- `bond::sweeps::still_row` meets its contract. Assumes nothing.
+-- `bond::sweeps::still_row`: the invariant: the flag says whether the pairs before column q are skipped (from-more).
 use Prim.Native.Nat.{ℕ, _+_, _-_, _≤_}
 use mathlib.Core.Path.{_≡_}
 use mathlib.Core.Bool.{Bool, _&&_}

@@ -1,4 +1,4 @@
--- `bond::sweeps::sweep_row` meets its contract. Assumes nothing.
+-- `bond::sweeps::sweep_row`: the invariant: what is left of the row is the row from column q; a pair that is not finite stops it (stagings).
 use Prim.Native.Nat.{ℕ, _+_, _-_, _≤_}
 use mathlib.Core.Path.{_≡_}
 use lib.ListN.{length}

@@ -1,4 +1,4 @@
--- `bond::sweeps::turn_columns` meets its contract. Assumes nothing.
+-- `bond::sweeps::turn_columns`: two columns are pairs n apart (turn-columns-is).
 use borrow.Author.Needs.{needs}
 use Rattle.bond.proofs.Rotations.{turn-columns-is}
 use Rattle.bond.proofs.sweeps.turn_columns.Statement.{statement}

@@ -1,4 +1,4 @@
--- `bond::sweeps::turn_gram` meets its contract. Assumes nothing.
+-- `bond::sweeps::turn_gram`: columns turned, rows turned, then the pair cleared: the definition, step by step.
 use borrow.Author.Needs.{needs}
 use Rattle.bond.proofs.sweeps.turn_gram.Statement.{statement}
 use Rattle.bond.proofs.sweeps.turn_gram.Tie as tie

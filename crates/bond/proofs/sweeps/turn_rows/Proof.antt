@@ -1,4 +1,4 @@
--- `bond::sweeps::turn_rows` meets its contract. Assumes nothing.
+-- `bond::sweeps::turn_rows`: two rows are pairs side by side, and lie within the list (exact-row, exact-end, turn-rows-is).
 use native.Mathlib.Nat.{mul-le-mul-right}
 use native.Mathlib.Omega.{arith}
 use borrow.Author.Needs.{needs}

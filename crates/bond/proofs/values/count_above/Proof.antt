@@ -1,4 +1,4 @@
--- `bond::values::count_above` meets its contract. Assumes nothing.
+-- `bond::values::count_above`: the invariant: k counts the first j numbers that are above x (count-more).
 use Prim.Native.Nat.{ℕ, _-_, _≤_}
 use mathlib.Core.Path.{_≡_}
 use lib.Ieee.{lt}

@@ -1,4 +1,4 @@
--- `bond::values::count_equal` meets its contract. Assumes nothing.
+-- `bond::values::count_equal`: the invariant: k counts the first j numbers that are equal to x (count-more).
 use Prim.Native.Nat.{ℕ, _-_, _≤_}
 use mathlib.Core.Path.{_≡_}
 use lib.Ieee.{eq}

@@ -1,4 +1,4 @@
--- `bond::values::keep_all` meets its contract. Assumes nothing.
+-- `bond::values::keep_all`: values that are not finite stop it (chosen-stop); otherwise they have an order and a rank (chosen-end).
 use Rattle.bond.proofs.Chosen.{chosen-stop, chosen-end, stored-finite}
 use borrow.Author.Needs.{needs}
 use Rattle.bond.proofs.values.keep_all.Statement.{statement}

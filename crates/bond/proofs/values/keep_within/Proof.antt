@@ -1,4 +1,4 @@
--- `bond::values::keep_within` meets its contract. Assumes nothing.
+-- `bond::values::keep_within`: the fronts of the lists hold what `keep_all` leaves in them (chosen-front).
 use Prim.Native.Nat.{_*_}
 use mathlib.Core.Path.{_∙_}
 use Rattle.lists.proofs.Parts.{span-length}

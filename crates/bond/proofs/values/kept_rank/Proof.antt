@@ -1,4 +1,4 @@
--- `bond::values::kept_rank` meets its contract. Assumes nothing.
+-- `bond::values::kept_rank`: the count of the values above the threshold, at least one (kept-one, kept-more).
 use borrow.Author.Needs.{needs}
 use Rattle.cutform.proofs.Ranked.{kept-one, kept-more}
 use Rattle.bond.proofs.values.kept_rank.Statement.{statement}

@@ -1,4 +1,4 @@
--- `bond::values::order` meets its contract. Assumes nothing.
+-- `bond::values::order`: the invariant: the first i indices stand at their places, each within the list (rank-lt); after the last this is the order (order-is).
 use Prim.Native.Nat.{ℕ, _-_, _≤_}
 use mathlib.Core.Path.{_≡_}
 use mathlib.Core.List.{List}

@@ -1,4 +1,4 @@
--- `bond::values::place_of` meets its contract. Assumes nothing.
+-- `bond::values::place_of`: the count of those above, plus the count of equal ones before: the definition.
 use borrow.Author.Needs.{needs}
 use Rattle.cutform.specs.Values.{placeIn}
 use Rattle.bond.proofs.values.place_of.Statement.{statement}

@@ -1,4 +1,4 @@
--- `bond::values::singular` meets its contract. Assumes nothing.
+-- `bond::values::singular`: the two cases of the test are those of the definition (picks).
 use borrow.Author.Needs.{needs}
 use Rattle.lists.proofs.Picks.{picks}
 use Rattle.cutform.specs.Values.{singularOf}

@@ -1,4 +1,4 @@
--- `bond::values::singular_values` meets its contract. Assumes nothing.
+-- `bond::values::singular_values`: the invariant: the first i values are the roots of the diagonal's, and after the last all are (fill-all).
 use Prim.Native.Nat.{ℕ, _-_, _≤_}
 use mathlib.Core.Path.{_≡_}
 use mathlib.Core.List.{List}

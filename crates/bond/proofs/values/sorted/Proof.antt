@@ -1,4 +1,4 @@
--- `bond::values::sorted` meets its contract. Assumes nothing.
+-- `bond::values::sorted`: the invariant: the first r values are read in the order, whose indices are within the list (order-lt); after the last they are sorted (sorted-is).
 use Prim.Native.Nat.{ℕ, _-_, _≤_}
 use mathlib.Core.Path.{_≡_}
 use mathlib.Core.List.{List}

@@ -1,4 +1,4 @@
--- `bond::values::threshold` meets its contract. Assumes nothing.
+-- `bond::values::threshold`: the two cases of the test are those of the definition (picks).
 use borrow.Author.Needs.{needs}
 use Rattle.lists.proofs.Picks.{picks}
 use Rattle.cutform.specs.Values.{thresholdOf}

@@ -1,4 +1,4 @@
--- `chainfile::body::first_bad_core` meets its contract. Assumes nothing.
+-- `chainfile::body::first_bad_core`: the invariant: the first k cores are finite (Passed) and the next body's start is known; the first that is not is the one found.
 use borrow.Author.Needs.{needs}
 use Prim.Native.Nat.{ℕ, _≤_, _-_}
 use mathlib.Core.Path.{_≡_}

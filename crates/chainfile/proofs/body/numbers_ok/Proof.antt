@@ -1,4 +1,4 @@
--- `chainfile::body::numbers_ok` meets its contract. Assumes nothing.
+-- `chainfile::body::numbers_ok`: the first core that is not finite is the one refused, and none is found where all are (cores-found).
 use borrow.Author.Needs.{needs}
 use Rattle.chainfile.proofs.Bodies.{cores-found}
 use Rattle.chainfile.proofs.body.numbers_ok.Statement.{statement}

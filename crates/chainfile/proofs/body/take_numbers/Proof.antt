@@ -1,4 +1,4 @@
--- `chainfile::body::take_numbers` meets its contract. Assumes nothing.
+-- `chainfile::body::take_numbers`: the numbers of the bodies fill the front, and zeros the rest (numbers-ask, numbers-taken).
 use borrow.Author.Needs.{needs}
 use Rattle.chainfile.proofs.Bodies.{numbers-ask, numbers-taken}
 use Rattle.chainfile.proofs.body.take_numbers.Statement.{statement}

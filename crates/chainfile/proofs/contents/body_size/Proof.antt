@@ -1,4 +1,4 @@
--- `chainfile::contents::body_size` meets its contract. Assumes nothing.
+-- `chainfile::contents::body_size`: a size that fits times eight bytes, without wrapping (bodies).
 use borrow.Author.Needs.{needs}
 use Rattle.chainfile.proofs.Headers.{bodies}
 use Rattle.chainfile.proofs.contents.body_size.Statement.{statement}

@@ -1,4 +1,4 @@
--- `chainfile::contents::entries_ok` meets its contract. Assumes nothing.
+-- `chainfile::contents::entries_ok`: the invariant: the first k entries stand and the next body's start is known (AtEntry); the first that does not is the one refused (entries-stop).
 use borrow.Author.Needs.{needs}
 use Prim.Native.Nat.{_-_}
 use Rattle.chainfile.proofs.Tables.{AtEntry, entries-none, entries-stop, entry-sized, entries-more, entries-done, start-fits}

@@ -1,4 +1,4 @@
--- `chainfile::contents::entry_ok` meets its contract. Assumes nothing.
+-- `chainfile::contents::entry_ok`: the tests of an entry in the order of the definition (entered).
 use borrow.Author.Needs.{needs}
 use Rattle.chainfile.proofs.Headers.{entered}
 use Rattle.chainfile.proofs.contents.entry_ok.Statement.{statement}

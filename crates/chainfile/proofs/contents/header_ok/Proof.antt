@@ -1,4 +1,4 @@
--- `chainfile::contents::header_ok` meets its contract. Assumes nothing.
+-- `chainfile::contents::header_ok`: the tests of the header in the order of the definition (headed).
 use borrow.Author.Needs.{needs}
 use Rattle.chainfile.proofs.Headers.{headed}
 use Rattle.chainfile.proofs.contents.header_ok.Statement.{statement}

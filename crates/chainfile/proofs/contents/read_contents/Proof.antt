@@ -1,4 +1,4 @@
--- `chainfile::contents::read_contents` meets its contract. Assumes nothing.
+-- `chainfile::contents::read_contents`: a header that stands is long enough for the number of axes (header-long, header-few), and then the table is read (contents-read).
 use borrow.Author.Needs.{needs}
 use native.Mathlib.Omega.{arith}
 use Rattle.chainfile.proofs.Tables.{contents-stop, header-long, header-few, contents-read}

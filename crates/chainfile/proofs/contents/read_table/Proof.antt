@@ -1,4 +1,4 @@
--- `chainfile::contents::read_table` meets its contract. Assumes nothing.
+-- `chainfile::contents::read_table`: too short a table is refused, and a longer one is judged by `table_ok` on the shape it gives (table-asks, tabled).
 use borrow.Author.Needs.{needs}
 use Rattle.chainfile.proofs.Tables.{table-asks, tabled}
 use Rattle.chainfile.proofs.contents.read_table.Statement.{statement}

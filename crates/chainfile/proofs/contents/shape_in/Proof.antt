@@ -1,4 +1,4 @@
--- `chainfile::contents::shape_in` meets its contract. Assumes nothing.
+-- `chainfile::contents::shape_in`: the sizes at three places of each entry are the shape (shape-made).
 use borrow.Author.Needs.{needs}
 use Rattle.chainfile.proofs.Tables.{shape-made}
 use Rattle.chainfile.proofs.contents.shape_in.Statement.{statement}

@@ -1,4 +1,4 @@
--- `chainfile::contents::sizes_at` meets its contract. Assumes nothing.
+-- `chainfile::contents::sizes_at`: the invariant: the first k sizes are read, and zeros follow (fit-more).
 use borrow.Author.Needs.{needs}
 use Prim.Native.Nat.{ℕ, _≤_, _-_, _+_}
 use mathlib.Core.Path.{_≡_}

@@ -1,4 +1,4 @@
--- `chainfile::contents::table_ok` meets its contract. Assumes nothing.
+-- `chainfile::contents::table_ok`: one check after the other: the first that refuses is the answer (then-stops, then-passes).
 use borrow.Author.Needs.{needs}
 use Rattle.answers.proofs.Checks.{then-stops, then-passes}
 use Rattle.fileform.specs.Reading.{tableOk}

@@ -1,4 +1,4 @@
--- `chainfile::making::entry_bytes` meets its contract. Assumes nothing.
+-- `chainfile::making::entry_bytes`: the bytes of the sizes and of the start, one behind the other, are the entry (entry-made).
 use borrow.Author.Needs.{needs}
 use Rattle.chainfile.proofs.Makes.{entry-made}
 use Rattle.chainfile.proofs.making.entry_bytes.Statement.{statement}

@@ -1,4 +1,4 @@
--- `chainfile::making::header_bytes` meets its contract. Assumes nothing.
+-- `chainfile::making::header_bytes`: the mark, the number of axes and zeros are the header (header-made).
 use borrow.Author.Needs.{needs}
 use Rattle.chainfile.proofs.Makes.{header-made}
 use Rattle.chainfile.proofs.making.header_bytes.Statement.{statement}

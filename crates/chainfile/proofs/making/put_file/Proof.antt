@@ -1,4 +1,4 @@
--- `chainfile::making::put_file` meets its contract. Assumes nothing.
+-- `chainfile::making::put_file`: header, table and bodies are placed one behind the other, and together are the file (file-made).
 use borrow.Author.Needs.{needs}
 use Rattle.chainfile.proofs.Makes.{header-room, table-room, bodies-room, file-made}
 use Rattle.chainfile.proofs.making.put_file.Statement.{statement}

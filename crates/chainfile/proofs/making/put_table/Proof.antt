@@ -1,4 +1,4 @@
--- `chainfile::making::put_table` meets its contract. Assumes nothing.
+-- `chainfile::making::put_table`: the invariant: the first k entries stand and the next body's start is known (table-more), and after the last the table does (table-done).
 use borrow.Author.Needs.{needs}
 use native.Mathlib.Omega.{arith}
 use Prim.Native.Nat.{_≤_, _-_}

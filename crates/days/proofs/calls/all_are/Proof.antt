@@ -1,4 +1,4 @@
--- `days::calls::all_are` meets its contract. Assumes nothing.
+-- `days::calls::all_are`: memory safety alone: i stays within the list, and no more is promised.
 use borrow.Author.Needs.{needs}
 use Prim.Native.Nat.{_-_, _≤_}
 use lib.ListN.{length}

@@ -1,4 +1,4 @@
--- `days::turns::same_zones` meets its contract. Assumes nothing.
+-- `days::turns::same_zones`: memory safety alone: k stays within the axes, and no more is promised.
 use borrow.Author.Needs.{needs}
 use Prim.Native.Nat.{_-_, _≤_}
 use Rattle.shape.specs.Limits.{mostAxes}

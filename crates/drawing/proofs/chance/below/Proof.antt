@@ -1,4 +1,4 @@
--- `drawing::chance::below` meets its contract. Assumes nothing.
+-- `drawing::chance::below`: a remainder is below its divisor (mod-lt).
 use Prim.Native.Nat.{_<_}
 use native.Mathlib.Nat.{mod-lt}
 use native.Mathlib.Omega.{arith}

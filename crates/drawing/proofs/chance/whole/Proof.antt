@@ -1,4 +1,4 @@
--- `drawing::chance::whole` meets its contract. Assumes nothing.
+-- `drawing::chance::whole`: memory safety alone: a number of at most 2 ^ 32 is exact as a float.
 use Prim.Native.Nat.{_^_}
 use native.Mathlib.Omega.{arith}
 use lib.Dec.{le→leb}

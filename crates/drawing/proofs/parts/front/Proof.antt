@@ -1,4 +1,4 @@
--- `drawing::parts::front` meets its contract. Assumes nothing.
+-- `drawing::parts::front`: a front that is no longer than the list has the length asked for (length-take-le).
 use mathlib.Core.Path.{sym}
 use native.Mathlib.Omega.{arith}
 use borrow.Table.Elements.{length-take-le}

@@ -1,4 +1,4 @@
--- `drawing::plans::shape` meets its contract. Assumes nothing.
+-- `drawing::plans::shape`: memory safety alone: the lists keep their lengths, and no more is promised.
 use Prim.Native.Nat.{_-_}
 use mathlib.Core.Path.{_≡_}
 use lib.ListN.{length}

@@ -1,4 +1,4 @@
--- `drawing::plans::starts` meets its contract. Assumes nothing.
+-- `drawing::plans::starts`: a shape that passed its check has the sizes that the offsets ask for (fits-shaped).
 use Rattle.shape.proofs.Shaped.{fits-shaped}
 use borrow.Author.Needs.{needs}
 use Rattle.drawing.proofs.plans.starts.Statement.{statement}

@@ -1,4 +1,4 @@
--- `pair::halves::form` by the two stages, each told as the call's verdict. Assumes nothing.
+-- `pair::halves::form`: the left half first, then the right: the first that is not finite is the answer (left-stop, right-stop), else both stand (right-end).
 use borrow.Author.Needs.{needs}
 use Prim.Native.Nat.{_-_}
 use Rattle.pair.proofs.FormedHalves.{left-stop, right-end}

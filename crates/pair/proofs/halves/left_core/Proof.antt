@@ -1,4 +1,4 @@
--- `pair::halves::left_core` meets its contract. Assumes nothing.
+-- `pair::halves::left_core`: the invariant: the first rows are stored, and after the last the front is the left half (rows-front), which is then looked at (front-stored).
 use Rattle.lists.proofs.Turns.{turns}
 use Prim.Native.Nat.{ℕ, _-_, _*_, _≤_}
 use mathlib.Core.Path.{_≡_}

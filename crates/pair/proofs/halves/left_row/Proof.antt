@@ -1,4 +1,4 @@
--- `pair::halves::left_row` meets its contract. Assumes nothing.
+-- `pair::halves::left_row`: the invariant: the first k entries of the row are stored; the places fit since a column of the list ends within it (exact-row, exact-lt).
 use Rattle.lists.proofs.Turns.{turns}
 use Prim.Native.Nat.{ℕ, _-_, _*_, _≤_}
 use mathlib.Core.Path.{_≡_}

@@ -1,4 +1,4 @@
--- `pair::halves::right_core` meets its contract. Assumes nothing.
+-- `pair::halves::right_core`: the invariant: the first k rows are stored, and after the last the front is the right half (rows-front), which is then looked at (front-stored).
 use Rattle.lists.proofs.Turns.{turns}
 use Prim.Native.Nat.{ℕ, _-_, _*_, _≤_}
 use mathlib.Core.Path.{_≡_}

@@ -1,4 +1,4 @@
--- `pair::halves::right_row` meets its contract. Assumes nothing.
+-- `pair::halves::right_row`: the invariant: the first i entries of the row are stored.
 use Rattle.lists.proofs.Turns.{turns}
 use Prim.Native.Nat.{ℕ, _-_, _*_, _≤_}
 use mathlib.Core.Path.{_≡_}

@@ -1,4 +1,4 @@
--- `pair::parts::cut` meets its contract. Assumes nothing.
+-- `pair::parts::cut`: a rank that is too large is refused (cut-wide); otherwise the halves are formed of the kept columns in their order (kept-columns, cut-end).
 use borrow.Author.Needs.{needs}
 use Prim.Native.Nat.{_-_}
 use mathlib.Core.Path.{_∙_, sym, ap}
@@ -25,22 +25,30 @@ part-form-end-2 c =
 
 form-requires : tie.Need-form-requires
 form-requires c κs =
-    let ordered = lent-again _ (c .before .before .before .before .before .before .before .before .before .ranked .last .1 .1 .1 .0) _ _ (c .before .before .before .before .before .before .before .before .js2 .given) (c .before .before .before .before .before .before .before .before .before .before .before .before .before .before .before .before .before .pre .0 .columns) ∙ c .before .before .before .before .before .before .before .before .before .ranked .ensures .0 in
-    let most = rank-within _ _ _ _ (c .before .before .before .before .before .before .before .before .before .ranked .ensures .2) (c .before .before .before .before .before .before .before .before .before .before .before .before .before .before .before .before .before .pre .0 .some) in (
-      c .before .before .before .before .before .before .before .before .before .before .before .before .before .before .before .before .before .pre .1,
-      c .before .before .before .before .before .before .before .before .before .before .before .before .before .before .before .before .before .pre .2,
-      lent-some _ (c .before .before .before .before .before .before .before .before .before .ranked .last .1 .1 .1 .0) _ _ (c .before .before .before .before .before .before .before .before .js2 .given) (c .before .before .before .before .before .before .before .before .before .before .before .before .before .before .before .before .before .pre .0 .columns) _ most,
-      kept-columns _ _ (c .before .before .before .before .before .before .before .before .before .before .before .before .before .before .before .before .before .pre .3) (c .before .before .before .before .before .before .before .before .before .before .before .before .before .before .before .before .before .pre .4) _ ordered _ most,
-      lent-some _ (c .before .before .before .before .before .before .before .before .before .ranked .last .1 .1 .1 .1 .0) _ _ (c .before .before .before .before .before .before .before .ss2 .given) (c .before .before .before .before .before .before .before .before .before .before .before .before .before .before .before .before .before .pre .0 .columns) _ most,
-      le-trans (mul-le-mul (c .before .before .before .before .before .before .before .before .before .before .before .before .before .before .before .before .before .pre .0 .rows) (c .before .before .before .before .before .before .if1 .left)) (c .before .before .before .before .before .before .before .before .before .before .before .before .before .before .before .before .before .pre .5),
-      le-trans (mul-le-mul (c .before .before .before .before .before .before .if1 .left) (c .before .before .before .before .before .before .before .before .before .before .before .before .before .before .before .before .before .pre .0 .columns)) (c .before .before .before .before .before .before .before .before .before .before .before .before .before .before .before .before .before .pre .6),
+    let at-6 = c .before .before .before .before .before .before in
+    let at-9 = at-6 .before .before .before in
+    let start = at-9 .before .before .before .before .before .before .before .before in
+    let ordered = lent-again _ (at-9 .ranked .last .1 .1 .1 .0) _ _ (at-6 .before .before .js2 .given) (start .pre .0 .columns) ∙ at-9 .ranked .ensures .0 in
+    let most = rank-within _ _ _ _ (at-9 .ranked .ensures .2) (start .pre .0 .some) in (
+      start .pre .1,
+      start .pre .2,
+      lent-some _ (at-9 .ranked .last .1 .1 .1 .0) _ _ (at-6 .before .before .js2 .given) (start .pre .0 .columns) _ most,
+      kept-columns _ _ (start .pre .3) (start .pre .4) _ ordered _ most,
+      lent-some _ (at-9 .ranked .last .1 .1 .1 .1 .0) _ _ (at-6 .before .ss2 .given) (start .pre .0 .columns) _ most,
+      le-trans (mul-le-mul (start .pre .0 .rows) (at-6 .if1 .left)) (start .pre .5),
+      le-trans (mul-le-mul (at-6 .if1 .left) (start .pre .0 .columns)) (start .pre .6),
     )
 
 returns-2 : tie.Need-returns-2
 returns-2 c =
-    let ordered = lent-again _ (c .before .before .before .before .before .before .before .before .before .before .before .before .before .before .before .ranked .last .1 .1 .1 .0) _ _ (c .before .before .before .before .before .before .before .before .before .before .before .before .before .before .js2 .given) (c .before .before .before .before .before .before .before .before .before .before .before .before .before .before .before .before .before .before .before .before .before .before .before .pre .0 .columns) in
-    let values = lent-again _ (c .before .before .before .before .before .before .before .before .before .before .before .before .before .before .before .ranked .last .1 .1 .1 .1 .0) _ _ (c .before .before .before .before .before .before .before .before .before .before .before .before .before .ss2 .given) (c .before .before .before .before .before .before .before .before .before .before .before .before .before .before .before .before .before .before .before .before .before .before .before .pre .0 .columns) in
-    rw (c .paired-as .ensures) (cut-end _ _ _ _ _ _ _ (ordered ∙ c .before .before .before .before .before .before .before .before .before .before .before .before .before .before .before .ranked .ensures .0) (values ∙ c .before .before .before .before .before .before .before .before .before .before .before .before .before .before .before .ranked .ensures .1) _ (c .before .before .before .before .before .before .before .before .before .before .before .before .before .before .before .ranked .ensures .2 ∙ ap (keptRank _ _) (sym values)) (c .before .before .before .before .before .before .before .before .before .before .before .before .if1 .left) _ _ (c .before .before .before .before .before .form .ensures))
+    let at-12 = c .before .before .before .before .before .before .before .before .before .before .before .before in
+    let at-15 = at-12 .before .before .before in
+    let start = at-15 .before .before .before .before .before .before .before .before in
+    let ordered = lent-again _ (at-15 .ranked .last .1 .1 .1 .0) _ _ (at-12 .before .before .js2 .given) (start .pre .0 .columns) in
+    let values = lent-again _ (at-15 .ranked .last .1 .1 .1 .1 .0) _ _ (at-12 .before .ss2 .given) (start .pre .0 .columns) in
+    rw (c .paired-as .ensures)
+    (cut-end _ _ _ _ _ _ _ (ordered ∙ at-15 .ranked .ensures .0) (values ∙ at-15 .ranked .ensures .1) _
+    (at-15 .ranked .ensures .2 ∙ ap (keptRank _ _) (sym values)) (at-12 .if1 .left) _ _ (c .before .before .before .before .before .form .ensures))
 
 pub cut-spec : {M : Type 1} → statement M
 cut-spec = tie.close (tie.spec

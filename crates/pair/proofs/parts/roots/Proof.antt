@@ -1,4 +1,4 @@
--- `pair::parts::roots` meets its contract. Assumes nothing.
+-- `pair::parts::roots`: the invariant: the first i numbers are rooted (maps-more), and after the last all are (maps-done).
 use Rattle.lists.proofs.Turns.{turns}
 use Prim.Native.Nat.{_-_, _≤_}
 use mathlib.Core.Path.{_≡_}

@@ -1,4 +1,4 @@
--- `pair::parts::split` by its stage, told as the call's verdict. Assumes nothing.
+-- `pair::parts::split`: columns that do not stay finite stop it (split-stop); otherwise the fronts of the lists hold basis and values, and are cut (cut-same, split-end).
 use borrow.Author.Needs.{needs}
 use Prim.Native.Nat.{_-_}
 use mathlib.Core.Path.{_∙_, ap}

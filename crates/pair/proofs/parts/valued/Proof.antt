@@ -1,4 +1,4 @@
--- `pair::parts::valued` meets its contract. Assumes nothing.
+-- `pair::parts::valued`: from the unit matrix the columns are made orthogonal; where that stops it stops (valued-stop), and the values are the roots of the sums of squares (valued-end).
 use borrow.Author.Needs.{needs}
 use Prim.Native.Nat.{_-_}
 use Rattle.passes.proofs.Rotated.{held-first}

@@ -1,4 +1,4 @@
--- `pair::refusals::finite` meets its contract. Assumes nothing.
+-- `pair::refusals::finite`: the tests in the order of the definition: the first that fails is the answer (ask-no), and one that passed is left behind (ask-yes).
 use borrow.Author.Needs.{needs}
 use Prim.Native.Nat.{_-_}
 use Rattle.lists.proofs.Asked.{test-wrong, test-right}

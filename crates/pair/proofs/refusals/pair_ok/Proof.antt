@@ -1,4 +1,4 @@
--- `pair::refusals::pair_ok` meets its contract. Assumes nothing.
+-- `pair::refusals::pair_ok`: sizes, lengths, numbers: the first check that refuses is the answer (size-stops, length-stops, finite-ends).
 use borrow.Author.Needs.{needs}
 use Prim.Native.Nat.{_-_}
 use Rattle.answers.proofs.Checks.{verdict-passed}

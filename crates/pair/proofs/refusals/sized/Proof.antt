@@ -1,4 +1,4 @@
--- `pair::refusals::sized` meets its contract. Assumes nothing.
+-- `pair::refusals::sized`: the tests in the order of the definition: the first that fails is the answer (ask-no), and one that passed is left behind (ask-yes).
 use borrow.Author.Needs.{needs}
 use Prim.Native.Nat.{_-_, _*_}
 use mathlib.Core.Path.{sym, ap, _∙_}

@@ -1,4 +1,4 @@
--- `pair::refusals::sizes_ok` meets its contract. Assumes nothing.
+-- `pair::refusals::sizes_ok`: three tests, one after the other.
 use borrow.Author.Needs.{needs}
 use Prim.Native.Nat.{_-_}
 use Rattle.pairform.specs.Call.{sizesOk}

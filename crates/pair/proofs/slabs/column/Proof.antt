@@ -1,4 +1,4 @@
--- `pair::slabs::column` meets its contract. Assumes nothing.
+-- `pair::slabs::column`: the invariant: the first rows of the column are stored.
 use Rattle.lists.proofs.Turns.{turns}
 use Prim.Native.Nat.{ℕ, _-_, _*_, _≤_}
 use mathlib.Core.Path.{_≡_}

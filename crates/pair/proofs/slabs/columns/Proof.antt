@@ -1,4 +1,4 @@
--- `pair::slabs::columns` meets its contract. Assumes nothing.
+-- `pair::slabs::columns`: the rows of the slab are made in a local and looked at; where all are finite they are transposed (columns-stop, columns-end).
 use borrow.Author.Needs.{needs}
 use Prim.Native.Nat.{_-_}
 use native.Mathlib.Omega.{arith}

@@ -1,4 +1,4 @@
--- `pair::slabs::number` meets its contract. Assumes nothing.
+-- `pair::slabs::number`: the invariant: the sum has the first im terms.
 use Rattle.lists.proofs.Turns.{turns}
 use Prim.Native.Nat.{ℕ, _-_, _≤_}
 use mathlib.Core.Path.{_≡_}

@@ -1,4 +1,4 @@
--- `pair::slabs::plus_product` meets its contract. Assumes nothing.
+-- `pair::slabs::plus_product`: the two cases of the test are those of the definition.
 use borrow.Author.Needs.{needs}
 use Prim.Native.Nat.{_-_}
 use Rattle.lists.specs.Lists.{pick}

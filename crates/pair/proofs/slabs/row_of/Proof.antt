@@ -1,4 +1,4 @@
--- `pair::slabs::row_of` meets its contract. Assumes nothing.
+-- `pair::slabs::row_of`: the invariant: the first col entries of the row are stored.
 use Rattle.lists.proofs.Turns.{turns}
 use Prim.Native.Nat.{_-_, _*_, _≤_}
 use mathlib.Core.Path.{_≡_}

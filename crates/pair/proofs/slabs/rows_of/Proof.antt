@@ -1,4 +1,4 @@
--- `pair::slabs::rows_of` meets its contract. Assumes nothing.
+-- `pair::slabs::rows_of`: the invariant: the first rows are stored, and after the last the front is the slab (rows-front).
 use Rattle.lists.proofs.Turns.{turns}
 use Prim.Native.Nat.{ℕ, _-_, _*_, _≤_}
 use mathlib.Core.Path.{_≡_}

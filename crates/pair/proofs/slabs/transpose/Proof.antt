@@ -1,4 +1,4 @@
--- `pair::slabs::transpose` meets its contract. Assumes nothing.
+-- `pair::slabs::transpose`: the invariant: the first col columns are stored, and after the last all is (rows-whole).
 use Rattle.lists.proofs.Turns.{turns}
 use Prim.Native.Nat.{ℕ, _-_, _*_, _≤_}
 use mathlib.Core.Path.{_≡_}

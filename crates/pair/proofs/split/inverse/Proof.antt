@@ -1,4 +1,4 @@
--- `pair::split::inverse` meets its contract. Assumes nothing.
+-- `pair::split::inverse`: the two cases of the test are those of the definition.
 use borrow.Author.Needs.{needs}
 use Prim.Native.Nat.{_-_}
 use Rattle.lists.specs.Lists.{pick}

@@ -1,4 +1,4 @@
--- `pair::split::rescaled` meets its contract. Assumes nothing.
+-- `pair::split::rescaled`: the code is the definition, with what `inverse` gives.
 use borrow.Author.Needs.{needs}
 use Prim.Native.Nat.{_-_}
 use Rattle.pairform.specs.Numbers.{inverse}

@@ -1,4 +1,4 @@
--- `passes::careful::apply_jacobi_rotation` meets its contract. Assumes nothing.
+-- `passes::careful::apply_jacobi_rotation`: columns and basis are turned and looked at (turned-stop, turned-end); elsewhere nothing changed, so the two columns' sums of squares tell.
 use borrow.Author.Needs.{needs}
 use Prim.Native.Nat.{_-_}
 use native.Mathlib.Omega.{arith}

@@ -1,4 +1,4 @@
--- `passes::careful::orthogonalize` meets its contract. Assumes nothing.
+-- `passes::careful::orthogonalize`: the invariant: what is left is the passes from here, and sums of squares and columns stay in step (Held); quiet, stopped or done, each is a case of the definition.
 use Rattle.lists.proofs.Turns.{turns}
 use Prim.Native.Nat.{_-_, _≤_}
 use mathlib.Core.Path.{_≡_, refl}
@@ -30,9 +30,11 @@ returns c =
 
 returns-2 : tie.Need-returns-2 Inv-loop μ-loop
 returns-2 c =
-    let at-10 = c .before .before .before .before .before .before .before .before .before .before in (
+    let at-10 = c .before .before .before .before .before .before .before .before .before .before in
+    let at-14 = at-10 .before .before .before .before in (
       rw (c .passes-are2 .ensures)
-          (passes-stop _ _ _ _ _ _ _ (c .before .before .before .before .before .before .before .before .before .before .before .before .before .before .before .before .loop .inv .5) (c .before .before .before .before .before .before .before .before .before .before .before .before .before .before .before .loop-test .taken) (c .before .before .before .before .before .before .before .before .before .before .before .before .before .before .if1 .left) _ _ (at-10 .pass .ensures .0) _ _ (c .before .before .stage .given .1)),
+          (passes-stop _ _ _ _ _ _ _ (at-14 .before .before .loop .inv .5) (at-14 .before .loop-test .taken) (at-14 .if1 .left) _ _ (at-10 .pass .ensures .0) _ _
+          (c .before .before .stage .given .1)),
       at-10 .pass .ensures .1,
     )
 

@@ -1,4 +1,4 @@
--- `passes::careful::pass` meets its contract. Assumes nothing.
+-- `passes::careful::pass`: the invariant: what is left of the pass is the pass from row p, and sums of squares and columns stay in step (Held); a row that is not finite stops it (stage-stop).
 use Rattle.lists.proofs.Turns.{turns}
 use Prim.Native.Nat.{_-_, _≤_}
 use mathlib.Core.Path.{_≡_, refl}
@@ -22,9 +22,10 @@ loop-holds c = (search turns, refl, refl, refl, c .before .before .before .pre, 
 
 returns : tie.Need-returns Inv-loop μ-loop
 returns c =
-    let at-10 = c .before .before .before .before .before .before .before .before .before .before in (
+    let at-10 = c .before .before .before .before .before .before .before .before .before .before in
+    let at-14 = at-10 .before .before .before .before in (
       rw (c .turn-is .ensures)
-          (stage-stop _ _ _ _ _ (c .before .before .before .before .before .before .before .before .before .before .before .before .before .before .before .loop .inv .5) (c .before .before .before .before .before .before .before .before .before .before .before .before .before .before .loop-test .taken) _ _ (at-10 .pass-row .ensures .0) _ _ (c .before .before .stage .given .1)),
+          (stage-stop _ _ _ _ _ (at-14 .before .loop .inv .5) (at-14 .loop-test .taken) _ _ (at-10 .pass-row .ensures .0) _ _ (c .before .before .stage .given .1)),
       at-10 .pass-row .ensures .1,
     )
 

@@ -1,4 +1,4 @@
--- `passes::careful::pass_row` meets its contract. Assumes nothing.
+-- `passes::careful::pass_row`: the invariant: what is left of the row is the row from column q, and sums of squares and columns stay in step (Held); a pair that is not finite stops it (stage-stop).
 use Rattle.lists.proofs.Turns.{turns}
 use Prim.Native.Nat.{ℕ, _+_, _-_, _≤_}
 use mathlib.Core.Path.{_≡_, refl}
@@ -26,9 +26,10 @@ loop-holds c = (search turns, search turns, refl, refl, refl, c .before .before 
 returns : tie.Need-returns Inv-loop μ-loop
 unfolding passRow
 returns c =
-    let at-10 = c .before .before .before .before .before .before .before .before .before .before in (
+    let at-10 = c .before .before .before .before .before .before .before .before .before .before in
+    let at-14 = at-10 .before .before .before .before in (
       rw (c .turn-is .ensures)
-          (stage-stop _ _ _ _ _ (c .before .before .before .before .before .before .before .before .before .before .before .before .before .before .before .loop .inv .6) (c .before .before .before .before .before .before .before .before .before .before .before .before .before .before .loop-test .taken) _ _ (at-10 .rotate .ensures .0) _ _ (c .before .before .stage .given .1)),
+          (stage-stop _ _ _ _ _ (at-14 .before .loop .inv .6) (at-14 .loop-test .taken) _ _ (at-10 .rotate .ensures .0) _ _ (c .before .before .stage .given .1)),
       at-10 .rotate .ensures .1,
     )
 

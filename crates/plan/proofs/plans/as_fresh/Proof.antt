@@ -1,4 +1,4 @@
--- `plan::plans::as_fresh` meets its contract. Assumes nothing.
+-- `plan::plans::as_fresh`: a fresh run that is refused is not the plan's (not-accepted); one that is accepted is compared by `same_kept` (accepted-tells).
 use borrow.Author.Needs.{needs}
 use native.Mathlib.Omega.{arith}
 use Prim.Native.Nat.{ℕ}

@@ -1,4 +1,4 @@
--- `plan::plans::fresh` meets its contract. Assumes nothing.
+-- `plan::plans::fresh`: the answer is made of what `fresh_run` leaves.
 use borrow.Author.Needs.{needs}
 use mathlib.Core.Path.{ap}
 use Rattle.plan.specs.Answers.{freshAnswer}

@@ -1,4 +1,4 @@
--- `plan::plans::new_axis` meets its contract. Assumes nothing.
+-- `plan::plans::new_axis`: the answer is made of what `replace_axis` leaves.
 use borrow.Author.Needs.{needs}
 use mathlib.Core.Path.{ap}
 use Rattle.plan.specs.Answers.{replaceAnswer}

@@ -1,4 +1,4 @@
--- `plan::print::blanks` meets its contract. Assumes nothing.
+-- `plan::print::blanks`: memory safety alone: the loop counts, and no more is promised.
 use borrow.Author.Needs.{needs}
 use Prim.Native.Nat.{_-_}
 use Rattle.plan.proofs.print.blanks.Statement.{statement}

@@ -1,4 +1,4 @@
--- `plan::table::zones` meets its contract. Assumes nothing.
+-- `plan::table::zones`: memory safety alone: z stays within the axes, and no more is promised.
 use borrow.Author.Needs.{needs}
 use Prim.Native.Nat.{_≤_, _-_}
 use Rattle.plan.proofs.table.zones.Statement.{statement}

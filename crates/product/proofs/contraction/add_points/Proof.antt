@@ -1,4 +1,4 @@
--- `product::contraction::add_points` meets its contract. Assumes nothing.
+-- `product::contraction::add_points`: the invariant: the sums have the terms of the first i points (pointsIn).
 use Prim.Native.Nat.{_-_, _≤_}
 use mathlib.Core.Path.{_≡_}
 use lib.ListN.{length}

@@ -1,4 +1,4 @@
--- `product::contraction::add_weighed` meets its contract. Assumes nothing.
+-- `product::contraction::add_weighed`: the invariant: the first t sums have their term (addedIn).
 use Prim.Native.Nat.{ℕ, _+_, _-_, _≤_}
 use mathlib.Core.Path.{_≡_}
 use lib.ListN.{length}

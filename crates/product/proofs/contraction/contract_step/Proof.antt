@@ -1,4 +1,4 @@
--- `product::contraction::contract_step` meets its contract. Assumes nothing.
+-- `product::contraction::contract_step`: three loops, by eights, by fours and one by one, with one invariant: the first j sums are stored (front-more), and in the end all (contract-end).
 use Prim.Native.Nat.{_-_, _≤_}
 use mathlib.Core.Path.{_≡_}
 use native.Mathlib.Omega.{arith}

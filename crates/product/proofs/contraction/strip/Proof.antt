@@ -1,4 +1,4 @@
--- `product::contraction::strip` meets its contract. Assumes nothing.
+-- `product::contraction::strip`: the invariant: the strip's sums have the terms of the first a rows (sumsTo); then they are stored (strip-end).
 use Prim.Native.Nat.{_*_, _-_, _≤_}
 use mathlib.Core.Path.{_≡_}
 use lib.ListN.{length}

@@ -1,4 +1,4 @@
--- `product::contraction::sum_axis` meets its contract. Assumes nothing.
+-- `product::contraction::sum_axis`: the new sums are made in a local, looked at, and copied over the old ones (axis-end).
 use native.Mathlib.Omega.{arith}
 use lib.ListN.{length-take}
 use Rattle.lists.proofs.Turns.{turns}

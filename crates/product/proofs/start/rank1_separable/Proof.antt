@@ -1,4 +1,4 @@
--- `product::start::rank1_separable` meets its contract. Assumes nothing.
+-- `product::start::rank1_separable`: the checks passed give the copy its lengths, and a refusal leaves the chain as it was (starts-checked).
 use borrow.Author.Needs.{needs}
 use Rattle.product.proofs.Starts.{starts-checked}
 use Rattle.product.proofs.start.rank1_separable.Statement.{statement}

@@ -1,4 +1,4 @@
--- `product::start::start_finite` meets its contract. Assumes nothing.
+-- `product::start::start_finite`: the first axis with a number that is not finite is the one refused (starts-finite).
 use borrow.Author.Needs.{needs}
 use Rattle.product.proofs.Starts.{starts-finite}
 use Rattle.product.proofs.start.start_finite.Statement.{statement}

@@ -1,4 +1,4 @@
--- `product::start::start_of` meets its contract. Assumes nothing.
+-- `product::start::start_of`: the code is the definition, unfolded.
 use borrow.Author.Needs.{needs}
 use mathlib.Core.Path.{ap}
 use Rattle.answers.specs.declared.Verdict.the-variants.{Fits}

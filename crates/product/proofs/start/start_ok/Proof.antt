@@ -1,4 +1,4 @@
--- `product::start::start_ok` meets its contract. Assumes nothing.
+-- `product::start::start_ok`: one check after the other: the first that refuses is the answer (then-stops, then-passes), and one that passed gives the next what it asks.
 use borrow.Author.Needs.{needs}
 use Rattle.answers.proofs.Checks.{then-stops, then-passes}
 use Rattle.sumform.specs.Start.{startOk}

@@ -1,4 +1,4 @@
--- `product::start::start_sized` meets its contract. Assumes nothing.
+-- `product::start::start_sized`: the number of axes first, then the sizes in their order (within-most, starts-sized).
 use borrow.Author.Needs.{needs}
 use Rattle.shape.proofs.Verdicts.{within-most}
 use Rattle.product.proofs.Starts.{starts-sized}

@@ -1,4 +1,4 @@
--- `product::sums::axis_sums` meets its contract. Assumes nothing.
+-- `product::sums::axis_sums`: the core and the weights of zone k lie within their lists (core-ends, points-end), and `sum_axis` on them is the contraction (axis-made).
 use borrow.Author.Needs.{needs}
 use Rattle.product.proofs.sums.axis_sums.Reads as reads
 use Rattle.product.proofs.sums.axis_sums.Lts as lts

@@ -1,4 +1,4 @@
--- `product::sums::keep` meets its contract. Assumes nothing.
+-- `product::sums::keep`: a fill with zeros and a copy over its front are the slot's new content (kept-is).
 use borrow.Author.Needs.{needs}
 use Rattle.product.proofs.sums.keep.Reads as reads
 use Rattle.product.proofs.sums.keep.Lts as lts

@@ -1,4 +1,4 @@
--- `product::sums::keep_sums` meets its contract. Assumes nothing.
+-- `product::sums::keep_sums`: slot k lies within the list (slot-ends), and what is put there leaves the rest as it was (slot-kept).
 use borrow.Author.Needs.{needs}
 use Rattle.product.proofs.sums.keep_sums.Reads as reads
 use Rattle.product.proofs.sums.keep_sums.Lts as lts

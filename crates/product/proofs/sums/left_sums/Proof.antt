@@ -1,4 +1,4 @@
--- `product::sums::left_sums` meets its contract. Assumes nothing.
+-- `product::sums::left_sums`: zone 0 begins with one (left-first), and any other with the sums held in the slot before it (left-held).
 use borrow.Author.Needs.{needs}
 use Rattle.product.proofs.sums.left_sums.Reads as reads
 use Rattle.product.proofs.sums.left_sums.Lts as lts

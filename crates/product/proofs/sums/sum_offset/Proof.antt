@@ -1,4 +1,4 @@
--- `product::sums::sum_offset` meets its contract. Assumes nothing.
+-- `product::sums::sum_offset`: the invariant: the total is the offset of slot j.
 use Rattle.product.proofs.sums.sum_offset.Reads as reads
 use Rattle.product.proofs.sums.sum_offset.Lts as lts
 use borrow.Author.Needs.{needs}

@@ -1,4 +1,4 @@
--- `product::sums::sum_zone` by its stage, told as the call's verdict. Assumes nothing.
+-- `product::sums::sum_zone`: one turn of the walk: sums that are not finite stop it (turn-stops), and any others are kept in their slot (turn-keeps).
 use borrow.Author.Needs.{needs}
 use Rattle.product.proofs.Slotted.{left-asks, own-asks}
 use Rattle.product.proofs.Turning.{turn-stops, turn-keeps}

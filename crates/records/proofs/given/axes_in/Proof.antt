@@ -1,4 +1,4 @@
--- `records::given::axes_in` meets its contract. Assumes nothing.
+-- `records::given::axes_in`: the invariant: the first k records are made (made-more), and after the last all are (made-all).
 use mathlib.Core.Path.{_≡_, refl}
 use Prim.Native.Nat.{_-_, _≤_}
 use lib.ListN.{length, length-set}

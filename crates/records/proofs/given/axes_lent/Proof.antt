@@ -1,4 +1,4 @@
--- `records::given::axes_lent` meets its contract. Assumes nothing.
+-- `records::given::axes_lent`: the invariant: the first k axes are those lent (tabs-more), and after the last the list is the gathered one (lent-done).
 use mathlib.Core.Path.{_≡_, refl}
 use Prim.Native.Nat.{_-_, _≤_}
 use lib.ListN.{length, length-set}
@@ -22,8 +22,14 @@ loop-holds c = (search needs, (search needs, refl))
 
 loop-again : tie.Need-loop-again Inv-loop μ-loop
 loop-again c =
-    let i = c .before .before .before .before .args in
-    (search needs, (simp length-set (c .before .before .loop .inv .1 .0), tabs-more (axisAt (lentOf (i .count) (i .xs))) (c .before .before .before .no-axes .result) (c .before .before .loop .k) _ _ (c .before .before .loop .inv .1 .1) (search needs) (c .axis-lent .ensures)))
+    let i = c .before .before .before .before .args in (
+      search needs,
+      (
+        simp length-set (c .before .before .loop .inv .1 .0),
+        tabs-more (axisAt (lentOf (i .count) (i .xs))) (c .before .before .before .no-axes .result)
+            (c .before .before .loop .k) _ _ (c .before .before .loop .inv .1 .1) (search needs) (c .axis-lent .ensures),
+      ),
+    )
 
 returns : tie.Need-returns Inv-loop μ-loop
 returns c =

@@ -1,4 +1,4 @@
--- `records::given::axis_lent` meets its contract. Assumes nothing.
+-- `records::given::axis_lent`: before the count an axis is the record's (lent-at), and from it on a blank one (lent-past).
 use borrow.Author.Needs.{needs}
 use Rattle.records.proofs.Lent.{lent-at, lent-past}
 use Rattle.records.proofs.given.axis_lent.Statement.{statement}

@@ -1,4 +1,4 @@
--- `records::held::axes_out` meets its contract. Assumes nothing.
+-- `records::held::axes_out`: the invariant: the first k records are made (made-more), and after the last all are (made-all).
 use mathlib.Core.Path.{_≡_, refl}
 use Prim.Native.Nat.{_-_, _≤_}
 use lib.ListN.{length, length-set}

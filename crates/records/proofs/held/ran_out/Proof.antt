@@ -1,4 +1,4 @@
--- `records::held::ran_out` meets its contract. Assumes nothing.
+-- `records::held::ran_out`: refusal and run by their own functions, put together (ran-as).
 use borrow.Author.Needs.{needs}
 use Rattle.records.proofs.Runs.{ran-as}
 use Rattle.records.proofs.held.ran_out.Statement.{statement}

@@ -1,4 +1,4 @@
--- `records::told::figure_out` meets its contract. Assumes nothing.
+-- `records::told::figure_out`: the refusal by its own function, and the value as it is.
 use mathlib.Core.Path.{ap}
 use Rattle.records.specs.declared.told.CRefusal.{CRefusal}
 use borrow.Author.Needs.{needs}

@@ -1,4 +1,4 @@
--- `records::told::paired_out` meets its contract. Assumes nothing.
+-- `records::told::paired_out`: the refusal by its own function, and rank and passes as they are.
 use mathlib.Core.Path.{ap}
 use Rattle.records.specs.declared.told.CRefusal.{CRefusal}
 use borrow.Author.Needs.{needs}

@@ -1,4 +1,4 @@
--- `records::told::read_out` meets its contract. Assumes nothing.
+-- `records::told::read_out`: refusal and shape by their own functions, put together (formed-as).
 use Rattle.records.proofs.Refusals.{formed-as}
 use borrow.Author.Needs.{needs}
 use Rattle.records.proofs.told.read_out.Statement.{statement}

@@ -1,4 +1,4 @@
--- `records::told::refusal_of` meets its contract. Assumes nothing.
+-- `records::told::refusal_of`: the two cases of the verdict are those of the definition.
 use borrow.Author.Needs.{needs}
 use mathlib.Core.Path.{ap, sym, _∙_}
 use Rattle.records.specs.Told.{refusalOf}

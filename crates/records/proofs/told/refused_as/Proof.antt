@@ -1,4 +1,4 @@
--- `records::told::refused_as` meets its contract. Assumes nothing.
+-- `records::told::refused_as`: number and place by their own functions, put together (told-as).
 use borrow.Author.Needs.{needs}
 use Rattle.records.proofs.Refusals.{told-as}
 use Rattle.records.proofs.told.refused_as.Statement.{statement}

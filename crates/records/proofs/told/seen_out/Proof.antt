@@ -1,4 +1,4 @@
--- `records::told::seen_out` meets its contract. Assumes nothing.
+-- `records::told::seen_out`: the two cases of what was seen are those of the definition.
 use mathlib.Core.Path.{ap, sym}
 use Rattle.records.specs.Told.{seenOut}
 use borrow.Author.Needs.{needs}

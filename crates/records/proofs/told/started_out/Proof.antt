@@ -1,4 +1,4 @@
--- `records::told::started_out` meets its contract. Assumes nothing.
+-- `records::told::started_out`: refusal and shape by their own functions, put together (formed-as).
 use Rattle.records.proofs.Refusals.{formed-as}
 use borrow.Author.Needs.{needs}
 use Rattle.records.proofs.told.started_out.Statement.{statement}

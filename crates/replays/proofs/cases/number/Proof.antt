@@ -1,4 +1,4 @@
--- `replays::cases::number` meets its contract. Assumes nothing.
+-- `replays::cases::number`: a word that is a NaN's pattern is not made a float (no-nan-word).
 use borrow.Author.Needs.{needs}
 use Rattle.replays.proofs.Patterns.{no-nan-word}
 use Rattle.replays.proofs.cases.number.Statement.{statement}

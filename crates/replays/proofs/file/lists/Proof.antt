@@ -1,4 +1,4 @@
--- `replays::file::lists` meets its contract. Assumes nothing.
+-- `replays::file::lists`: the text is no longer than its buffer (text-counts).
 use borrow.Author.Needs.{needs}
 use Rattle.listing.proofs.Grows.{text-counts}
 use Rattle.replays.proofs.file.lists.Statement.{statement}

@@ -1,4 +1,4 @@
--- `replays::file::same_bytes` meets its contract. Assumes nothing.
+-- `replays::file::same_bytes`: memory safety alone: i stays within the list, and no more is promised.
 use Prim.Native.Nat.{_-_, _≤_}
 use lib.ListN.{length}
 use borrow.Author.Needs.{needs}

@@ -1,4 +1,4 @@
--- `replays::step::records` meets its contract. Assumes nothing.
+-- `replays::step::records`: memory safety alone: the list keeps its length, and no more is promised.
 use Prim.Native.Nat.{_-_}
 use mathlib.Core.Path.{_≡_}
 use lib.ListN.{length}

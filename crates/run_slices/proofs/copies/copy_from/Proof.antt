@@ -1,4 +1,4 @@
--- `run_slices::copies::copy_from` meets its contract. Assumes nothing.
+-- `run_slices::copies::copy_from`: from `at` on the list is copied over, and what is before stays (copied-from).
 use borrow.Author.Needs.{needs}
 use Rattle.run_slices.proofs.Copied.{copied-from}
 use Rattle.run_slices.proofs.copies.copy_from.Statement.{statement}

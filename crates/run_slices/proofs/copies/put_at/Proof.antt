@@ -1,4 +1,4 @@
--- `run_slices::copies::put_at` meets its contract. Assumes nothing.
+-- `run_slices::copies::put_at`: a part in the middle is replaced, and what is before and behind it stays (put-part).
 use borrow.Author.Needs.{needs}
 use Rattle.run_slices.proofs.Copied.{put-part}
 use Rattle.run_slices.proofs.copies.put_at.Statement.{statement}

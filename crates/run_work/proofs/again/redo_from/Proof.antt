@@ -1,4 +1,4 @@
--- `run_work::again::redo_from` meets its contract. Assumes nothing.
+-- `run_work::again::redo_from`: a step that refuses is the answer (work-stops); otherwise the sums over what the step left are (sums-stand, work-judged).
 use borrow.Author.Needs.{needs}
 use native.Mathlib.Omega.{arith}
 use Rattle.run_work.proofs.Work.{few-axes, sums-stand, work-stops, work-judged}

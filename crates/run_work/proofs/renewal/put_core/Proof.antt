@@ -1,4 +1,4 @@
--- `run_work::renewal::put_core` meets its contract. Assumes nothing.
+-- `run_work::renewal::put_core`: the core of zone z lies within the source (core-fits), and putting it there leaves the rest as it was (core-put).
 use borrow.Author.Needs.{needs}
 use native.Mathlib.Nat.{le-refl}
 use Rattle.run_work.proofs.Sources.{core-fits, core-put}

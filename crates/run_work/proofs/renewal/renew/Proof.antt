@@ -1,4 +1,4 @@
--- `run_work::renewal::renew` meets its contract. Assumes nothing.
+-- `run_work::renewal::renew`: `worked`, and then the scratch is cleared.
 use borrow.Author.Needs.{needs}
 use mathlib.Core.Path.{ap, _∙_}
 use Rattle.lists.specs.Floats.{zeros}

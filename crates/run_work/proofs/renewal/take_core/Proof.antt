@@ -1,4 +1,4 @@
--- `run_work::renewal::take_core` meets its contract. Assumes nothing.
+-- `run_work::renewal::take_core`: the sources from zone z on, with the part over the first of them, are those of the source with the part put in (core-taken).
 use borrow.Author.Needs.{needs}
 use native.Mathlib.Omega.{arith}
 use Rattle.run_work.proofs.Sources.{core-fits, core-taken}

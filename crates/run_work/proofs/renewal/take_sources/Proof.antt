@@ -1,4 +1,4 @@
--- `run_work::renewal::take_sources` meets its contract. Assumes nothing.
+-- `run_work::renewal::take_sources`: the sources from zone z on lie within the list (source-fits), and are taken to the same places (sources-taken).
 use borrow.Author.Needs.{needs}
 use Rattle.run_work.proofs.Sources.{source-starts, source-start-fits, source-fits, sources-taken}
 use Rattle.run_work.proofs.renewal.take_sources.Statement.{statement}

@@ -1,4 +1,4 @@
--- `run_work::renewal::worked` meets its contract. Assumes nothing.
+-- `run_work::renewal::worked`: carry and sum taken give `redo_from` what it asks (redo-asks); a refusal leaves the run as it was (renew-stops), otherwise all three lists are committed (renew-fits).
 use borrow.Author.Needs.{needs}
 use mathlib.Core.Path.{_∙_}
 use Rattle.run_work.proofs.Renews.{carry-asks, sum-asks, redo-asks, commit-asks, renew-stops, renew-fits}

@@ -1,4 +1,4 @@
--- `run_work::weights::commit` meets its contract. Assumes nothing.
+-- `run_work::weights::commit`: the part is put among the weights (part-in), the sums copied over from zone z on, and the figure read from the last (figure-in).
 use borrow.Author.Needs.{needs}
 use native.Mathlib.Omega.{arith}
 use mathlib.Core.Path.{ap, _∙_}

@@ -1,4 +1,4 @@
--- `run_work::weights::resummed` meets its contract. Assumes nothing.
+-- `run_work::weights::resummed`: sums that are not finite leave all as it was (resum-stops); otherwise weights, sums and figure are committed (resum-ends).
 use borrow.Author.Needs.{needs}
 use mathlib.Core.Path.{sym}
 use native.Mathlib.Nat.{le-of-eq}

@@ -1,4 +1,4 @@
--- `run_work::weights::sums_anew` meets its contract. Assumes nothing.
+-- `run_work::weights::sums_anew`: with the part among the weights the zones stand (stands), and the sums from z on are made beside the held ones (summed-front).
 use borrow.Author.Needs.{needs}
 use native.Mathlib.Omega.{arith}
 use Rattle.shape.proofs.Offsets.{all-points-most}

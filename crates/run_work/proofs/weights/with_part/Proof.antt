@@ -1,4 +1,4 @@
--- `run_work::weights::with_part` meets its contract. Assumes nothing.
+-- `run_work::weights::with_part`: the weights copied, and the part over those of zone z, are the weights with the part put in (front-in).
 use borrow.Author.Needs.{needs}
 use native.Mathlib.Omega.{arith}
 use Rattle.run_work.proofs.Placed.{part-ends, front-in}

@@ -1,4 +1,4 @@
--- `shift::bands::band` meets its contract. Assumes nothing.
+-- `shift::bands::band`: the invariant: x is the sum of the first m bands (bandIn), whose weights and starts are in the list (rooms).
 use Prim.Native.Nat.{_≤_, _-_}
 use mathlib.Core.Path.{_≡_}
 use Rattle.lists.specs.Floats.{sumOn}

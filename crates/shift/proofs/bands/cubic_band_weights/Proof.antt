@@ -1,4 +1,4 @@
--- `shift::bands::cubic_band_weights` meets its contract. Assumes nothing.
+-- `shift::bands::cubic_band_weights`: the code is the definition, unfolded.
 use mathlib.Core.Path.{refl}
 use Rattle.stepform.specs.Weights.{cubicBandWeights}
 use Rattle.shift.proofs.bands.cubic_band_weights.Statement.{statement}

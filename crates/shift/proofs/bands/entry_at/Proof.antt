@@ -1,4 +1,4 @@
--- `shift::bands::entry_at` meets its contract. Assumes nothing.
+-- `shift::bands::entry_at`: the band ahead, then the band behind on top of it: the definition, unfolded.
 use borrow.Author.Needs.{needs}
 use Rattle.shift.specs.Starts.{entryIn}
 use Rattle.shift.proofs.bands.entry_at.Statement.{statement}

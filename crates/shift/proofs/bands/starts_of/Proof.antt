@@ -1,4 +1,4 @@
--- `shift::bands::starts_of` meets its contract. Assumes nothing.
+-- `shift::bands::starts_of`: each of the four places fits (size-fits, start-fits), and is the start that the shift by the whole part has (starts-are).
 use borrow.Author.Needs.{needs}
 use Rattle.numbers.proofs.Reach.{parts-whole}
 use Rattle.shift.proofs.Starts.{starts-are, start-fits, size-fits}

@@ -1,4 +1,4 @@
--- `shift::bands::weights_of` meets its contract. Assumes nothing.
+-- `shift::bands::weights_of`: the weights at the fraction that `fraction` gives.
 use borrow.Author.Needs.{needs}
 use Rattle.shift.proofs.bands.weights_of.Statement.{statement}
 use Rattle.shift.proofs.bands.weights_of.Tie as tie

@@ -1,4 +1,4 @@
--- `steps::shifts::move_from` meets its contract. Assumes nothing.
+-- `steps::shifts::move_from`: the invariant: the zones from z to k are shifted (Shifting); one that is not finite stops it (moving-stop), and after the last all are scaled (moving-done).
 use borrow.Author.Needs.{needs}
 use mathlib.Core.Path.{_≡_, refl, _∙_}
 use Rattle.steps.proofs.Passes.{stands-on, rooms-on, reach-of, onward-both, Shifting, shifting-none, onward-on, shifting-more, moving-stop, moving-done}

@@ -1,4 +1,4 @@
--- `view::CoreView::get` meets its contract: a walk of its MIR, by hand. The view is taken apart, and `entry_at` is called on the slice and the numbers.
+-- `view::CoreView::get`: a walk of its MIR by hand: the view is taken apart, and `entry_at` is called on the slice and the numbers.
 -- Assumes nothing.
 use mathlib.Core.Path.{_≡_, refl}
 use Prim.Native.Nat.{ℕ, _<_, _^_}
@@ -70,7 +70,8 @@ module _ {M : Type 1} (𝓤 : URA M) (H : Heap 𝓤) (A : Atoms 𝓤) (mem : Mem
   abbrev EntryAt : Contract 𝓤
   EntryAt = tripleOf 𝓤 H A entry-at.signature (entry-at.spec 𝓤 H A mem run)
 
-module _ {M : Type 1} (𝓤 : URA M) (H : Heap 𝓤) (A : Atoms 𝓤) (W : Given 𝓤 H A) (mem : Memory → SProp 𝓤) (run : Routine → Fun 𝓤) (κ : Lft) (q : Share) (d : CoreView) (il im ir : ℕ) (il-fits : il < 2 ^ 64) (im-fits : im < 2 ^ 64) (ir-fits : ir < 2 ^ 64) where
+module _ {M : Type 1} (𝓤 : URA M) (H : Heap 𝓤) (A : Atoms 𝓤) (W : Given 𝓤 H A) (mem : Memory → SProp 𝓤) (run : Routine → Fun 𝓤)
+    (κ : Lft) (q : Share) (d : CoreView) (il im ir : ℕ) (il-fits : il < 2 ^ 64) (im-fits : im < 2 ^ 64) (ir-fits : ir < 2 ^ 64) where
   -- the machine values of the view and of its slice
   abbrev mach : Val
   mach = T′.lowered d
@@ -123,7 +124,15 @@ module _ {M : Type 1} (𝓤 : URA M) (H : Heap 𝓤) (A : Atoms 𝓤) (W : Given
       move ! (1 ∷ []) $ fsplit ! $ use1 W (‵ Own ⊛ ‵ Own) (LL.copy D (T′.the-copy (namedLft 1 0 tt (κ, tt))) 𝓤 H A W .twice d (mach ∷ [])) $ split ! $
       -- [Own; Own; the indices; the token]
       use1 W (given (mach ∷ [] ≡ mach ∷ []) (‵ (all-own (D .parts) L vd))) (own-open 𝓤 H A W D L vd mach) $ learn ! (λ _. use1 W (‵ (ownAt (D .parts) L 0 (d .chain)) ⊛ ‵ (rest (D .parts) L 0 vd)) (own-out 𝓤 H A W (D .parts) L 0 vd) $ split ! $
-      move ! (1 ∷ []) $ drop ! $ nothing ! $ owned ! usize (Is usize) (uint-makes 𝓤 H A W w64) ir _ (refl, ir-fits) $ fjoin ! $ owned ! usize (Is usize) (uint-makes 𝓤 H A W w64) im _ (refl, im-fits) $ fjoin ! $ owned ! usize (Is usize) (uint-makes 𝓤 H A W w64) il _ (refl, il-fits) $ fjoin ! $ owned ! usize (Is usize) (uint-makes 𝓤 H A W w64) (d .rr) _ (refl, rr-fits) $ fjoin ! $ owned ! usize (Is usize) (uint-makes 𝓤 H A W w64) (d .n) _ (refl, n-fits) $ fjoin ! $ owned ! usize (Is usize) (uint-makes 𝓤 H A W w64) (d .rl) _ (refl, rl-fits) $ fjoin ! $ owned ! usize (Is usize) (uint-makes 𝓤 H A W w64) (d .start) _ (refl, start-fits) $ fjoin ! $ move ! (1 ∷ 0 ∷ []) $ fjoin ! $
+      move ! (1 ∷ []) $ drop ! $ nothing ! $
+      owned ! usize (Is usize) (uint-makes 𝓤 H A W w64) ir _ (refl, ir-fits) $ fjoin ! $
+      owned ! usize (Is usize) (uint-makes 𝓤 H A W w64) im _ (refl, im-fits) $ fjoin ! $
+      owned ! usize (Is usize) (uint-makes 𝓤 H A W w64) il _ (refl, il-fits) $ fjoin ! $
+      owned ! usize (Is usize) (uint-makes 𝓤 H A W w64) (d .rr) _ (refl, rr-fits) $ fjoin ! $
+      owned ! usize (Is usize) (uint-makes 𝓤 H A W w64) (d .n) _ (refl, n-fits) $ fjoin ! $
+      owned ! usize (Is usize) (uint-makes 𝓤 H A W w64) (d .rl) _ (refl, rl-fits) $ fjoin ! $
+      owned ! usize (Is usize) (uint-makes 𝓤 H A W w64) (d .start) _ (refl, start-fits) $ fjoin ! $
+      move ! (1 ∷ 0 ∷ []) $ fjoin ! $
       -- [what the callee is passed; Own; the indices; the token]
       move ! (3 ∷ 0 ∷ []) $ use2 W (raw (EntryAt 𝓤 H A mem run .pre to)) asked $ frame ! $ done !)
 
@@ -154,14 +163,27 @@ module _ {M : Type 1} (𝓤 : URA M) (H : Heap 𝓤) (A : Atoms 𝓤) (W : Given
         assigns ! (of-opd ! (load ! (from ! (fld ! refl (stop !))) (look-in ! 16 (sub ! 3 refl (whole !))))) (from ! (stop !)) (init ! 2 refl (tt, wt .1 .1 .1 .1 .0)) $
         assigns ! (of-opd ! (load ! (from ! (fld ! refl (stop !))) (look-in ! 16 (sub ! 4 refl (whole !))))) (from ! (stop !)) (init ! 0 refl (tt, wt .1 .1 .1 .1 .1 .0)) $
         move ! (20 ∷ []) $ use1 W (raw (EntryAt 𝓤 H A mem run .pre to) ⊛ ‵ All) (apart (wt .1 .1 .0 .fits) (wt .1 .1 .1 .0 .fits) (wt .1 .1 .1 .1 .0 .fits) (wt .1 .1 .1 .1 .1 .0 .fits)) $ split ! $
-        calls-at ! fm (EntryAt 𝓤 H A mem run) known to (and-then ! (load ! (from ! (stop !)) (look ! 10 refl)) (and-then ! (load ! (from ! (stop !)) (look ! 8 refl)) (and-then ! (load ! (from ! (stop !)) (look ! 6 refl)) (and-then ! (load ! (from ! (stop !)) (look ! 4 refl)) (and-then ! (load ! (from ! (stop !)) (look ! 2 refl)) (and-then ! (load ! (from ! (stop !)) (look ! 16 refl)) (and-then ! (load ! (from ! (stop !)) (look ! 14 refl)) (and-then ! (load ! (from ! (stop !)) (look ! 12 refl)) (no-more !))))))))) (λ u.
-        use1 W (later (some (λ (x : Seen). ((‵ (flft κ q) ⊛ ‵ ftrue) ⊛ ‵ (E.the-row .own x (u ∷ []))) ⊛ raw (ensured 𝓤 H A entry-at.ended (entry-at.clauses 𝓤 H A mem run) (κ, tt) (d .chain, (d .start, (d .rl, (d .n, (d .rr, (il, (im, (ir, tt)))))))) tt x)))) (id⊢ 𝓤 _) $ await ! tt $ pick ! (λ x.
+        calls-at ! fm (EntryAt 𝓤 H A mem run) known to
+        (and-then ! (load ! (from ! (stop !)) (look ! 10 refl))
+        (and-then ! (load ! (from ! (stop !)) (look ! 8 refl))
+        (and-then ! (load ! (from ! (stop !)) (look ! 6 refl))
+        (and-then ! (load ! (from ! (stop !)) (look ! 4 refl))
+        (and-then ! (load ! (from ! (stop !)) (look ! 2 refl))
+        (and-then ! (load ! (from ! (stop !)) (look ! 16 refl))
+        (and-then ! (load ! (from ! (stop !)) (look ! 14 refl))
+        (and-then ! (load ! (from ! (stop !)) (look ! 12 refl)) (no-more !)))))))))
+        (λ u.
+        use1 W (later (some (λ (x : Seen). ((‵ (flft κ q) ⊛ ‵ ftrue) ⊛ ‵ (E.the-row .own x (u ∷ [])))
+        ⊛ raw (ensured 𝓤 H A entry-at.ended (entry-at.clauses 𝓤 H A mem run) (κ, tt) (d .chain, (d .start, (d .rl, (d .n, (d .rr, (il, (im, (ir, tt)))))))) tt x))))
+        (id⊢ 𝓤 _) $ await ! tt $ pick ! (λ x.
         split ! $ move ! (1 ∷ []) $ use1 W (raw (fact 𝓤 (x ≡ found))) (said x) $ heard ! (x ≡ found) (λ e. split ! $ move ! (1 ∷ []) $
         -- [the result; the token; what the parameters own; _9; …; room for _0; …]
         peeks ! E.the-row (Is E.the-row) (shows 𝓤 H A E.the-row) x (u ∷ []) (λ is.
         land ! (from ! (stop !)) (init ! 21 refl (EL.lawful E.the-type E′.the-laws 𝓤 H A W tt .typed x _ is .0)) $
         returns ! (look ! 21 refl) $ forget ! 3 refl $ forget ! 5 refl $ forget ! 7 refl $ forget ! 9 refl $ forget ! 11 refl $ forget ! 13 refl $ forget ! 15 refl $ forget ! 17 refl $ forget ! 19 refl $ forget ! 21 refl $
-        move ! (21 ∷ 22 ∷ []) $ free1 ! $ move ! (19 ∷ 20 ∷ []) $ free1 ! $ move ! (17 ∷ 18 ∷ []) $ free1 ! $ move ! (15 ∷ 16 ∷ []) $ free1 ! $ move ! (13 ∷ 14 ∷ []) $ free1 ! $ move ! (11 ∷ 12 ∷ []) $ free1 ! $ move ! (9 ∷ 10 ∷ []) $ free1 ! $ move ! (7 ∷ 8 ∷ []) $ free1 ! $ move ! (5 ∷ 6 ∷ []) $ free1 ! $ move ! (3 ∷ 4 ∷ []) $ free1 ! $ free0 ! $ by ! (exits x u e)))))))))))))))
+        move ! (21 ∷ 22 ∷ []) $ free1 ! $ move ! (19 ∷ 20 ∷ []) $ free1 ! $ move ! (17 ∷ 18 ∷ []) $ free1 ! $ move ! (15 ∷ 16 ∷ []) $ free1 ! $ move ! (13 ∷ 14 ∷ []) $ free1 ! $
+        move ! (11 ∷ 12 ∷ []) $ free1 ! $ move ! (9 ∷ 10 ∷ []) $ free1 ! $ move ! (7 ∷ 8 ∷ []) $ free1 ! $ move ! (5 ∷ 6 ∷ []) $ free1 ! $ move ! (3 ∷ 4 ∷ []) $ free1 ! $ free0 ! $
+        by ! (exits x u e)))))))))))))))
 
 module _ {M : Type 1} (𝓤 : URA M) (H : Heap 𝓤) (A : Atoms 𝓤) (W : Given 𝓤 H A) (mem : Memory → SProp 𝓤) (run : Routine → Fun 𝓤) where
   get-walks : (C : Calls 𝓤 H) (Λ : Loops 𝓤 H) → FmC 𝓤 H (W .laws) C → Triple 𝓤 (C #view·entry-at) (EntryAt 𝓤 H A mem run)
@@ -170,7 +192,9 @@ module _ {M : Type 1} (𝓤 : URA M) (H : Heap 𝓤) (A : Atoms 𝓤) (W : Given
       walked 𝓤 H A get.ended stayed (get.clauses 𝓤 H A mem run) (WpFn 𝓤 H C Λ code.function)
       (λ κs. (LL.vals (T.the-type (namedLft 1 0 tt κs)) (T′.the-laws (namedLft 1 0 tt κs)), (uint-vals w64, (uint-vals w64, (uint-vals w64, tt)))))
       (λ κs. (LL.tells (T.the-type (namedLft 1 0 tt κs)) (T′.the-laws (namedLft 1 0 tt κs)), (uint-tells w64, (uint-tells w64, (uint-tells w64, tt)))))
-      (λ κs qs bounds a g are. via 𝓤 _ (fst∗ 𝓤 _ (emp 𝓤)) (walk 𝓤 H A W mem run (κs .0) (qs .0) (a .0) (a .1 .0) (a .1 .1 .0) (a .1 .1 .1 .0) (are .1 .0 .1) (are .1 .1 .0 .1) (are .1 .1 .1 .0 .1) C Λ fm known (LL.lawful (T.the-type (namedLft 1 0 tt κs)) (T′.the-laws (namedLft 1 0 tt κs)) 𝓤 H A W .typed (a .0) _ (are .0) .0)))
+      (λ κs qs bounds a g are. via 𝓤 _ (fst∗ 𝓤 _ (emp 𝓤))
+      (walk 𝓤 H A W mem run (κs .0) (qs .0) (a .0) (a .1 .0) (a .1 .1 .0) (a .1 .1 .1 .0) (are .1 .0 .1) (are .1 .1 .0 .1) (are .1 .1 .1 .0 .1) C Λ fm known
+      (LL.lawful (T.the-type (namedLft 1 0 tt κs)) (T′.the-laws (namedLft 1 0 tt κs)) 𝓤 H A W .typed (a .0) _ (are .0) .0)))
 
 get-meets : {M : Type 1} (𝓤 : URA M) (H : Heap 𝓤) (A : Atoms 𝓤) (W : Given 𝓤 H A) (mem : Memory → SProp 𝓤) (run : Routine → Fun 𝓤) (𝓣 : Tables 𝓤 H)
     → Triple 𝓤 (𝓣 .C #view·entry-at) (EntryAt 𝓤 H A mem run)

@@ -1,4 +1,4 @@
--- `zones::chains::uyavsker_entry_of` meets its contract. Assumes nothing.
+-- `zones::chains::uyavsker_entry_of`: the record turned into the core's shape, the call, and its answer turned back (passed).
 use borrow.Author.Needs.{needs}
 use Rattle.shape.specs.declared.Shape.{Shape}
 use Rattle.view.specs.View.{viewOf, seen}

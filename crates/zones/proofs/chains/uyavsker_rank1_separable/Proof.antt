@@ -1,4 +1,4 @@
--- `zones::chains::uyavsker_rank1_separable` meets its contract. Assumes nothing.
+-- `zones::chains::uyavsker_rank1_separable`: the record turned into the core's shape, the call, and its answer turned back (starts-as).
 use borrow.Author.Needs.{needs}
 use Rattle.shape.specs.declared.Shape.{Shape}
 use Rattle.sumform.specs.Start.{startCall}

@@ -1,4 +1,4 @@
--- `zones::chains::uyavsker_shape_check` meets its contract. Assumes nothing.
+-- `zones::chains::uyavsker_shape_check`: the record turned into the core's shape, the call, and its answer turned back (passed).
 use borrow.Author.Needs.{needs}
 use Rattle.answers.specs.Outcome.{verdictOf}
 use Rattle.shape.specs.declared.Shape.{Shape}

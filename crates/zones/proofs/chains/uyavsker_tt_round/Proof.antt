@@ -1,4 +1,4 @@
--- `zones::chains::uyavsker_tt_round` meets its contract. Assumes nothing.
+-- `zones::chains::uyavsker_tt_round`: the record turned into the core's shape, the call, and its answer turned back (ends-as).
 use borrow.Author.Needs.{needs}
 use Rattle.shape.specs.declared.Shape.{Shape}
 use Rattle.cutform.specs.Call.{roundCall}

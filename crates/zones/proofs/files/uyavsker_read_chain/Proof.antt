@@ -1,4 +1,4 @@
--- `zones::files::uyavsker_read_chain` meets its contract. Assumes nothing.
+-- `zones::files::uyavsker_read_chain`: the call, and its answer turned into a record (reads-as).
 use borrow.Author.Needs.{needs}
 use Rattle.zones.proofs.Faces.{reads-as}
 use Rattle.zones.proofs.files.uyavsker_read_chain.Statement.{statement}

@@ -1,4 +1,4 @@
--- `zones::files::uyavsker_write_chain` meets its contract. Assumes nothing.
+-- `zones::files::uyavsker_write_chain`: the record turned into the core's shape, the call, and its answer turned back (writes-as).
 use borrow.Author.Needs.{needs}
 use Rattle.shape.specs.declared.Shape.{Shape}
 use Rattle.fileform.specs.Writing.{writeCall}

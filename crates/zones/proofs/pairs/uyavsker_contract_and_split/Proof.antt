@@ -1,4 +1,4 @@
--- `zones::pairs::uyavsker_contract_and_split` meets its contract. Assumes nothing.
+-- `zones::pairs::uyavsker_contract_and_split`: both records turned into the core's sizes, the call, and its answer turned back (splits-as).
 use borrow.Author.Needs.{needs}
 use Rattle.pairform.specs.declared.Sizes.{Sizes}
 use Rattle.pairform.specs.Call.{coreOf, pairCall}

@@ -1,4 +1,4 @@
--- `zones::replacing::uyavsker_replace_axis` meets its contract. Assumes nothing.
+-- `zones::replacing::uyavsker_replace_axis`: run and axis turned into the core's, the call, and its answer turned back (axis-replaced-as).
 use borrow.Author.Needs.{needs}
 use Rattle.stepform.specs.declared.Axis.{Axis}
 use Rattle.runform.specs.declared.Run.{Run}
@@ -9,8 +9,11 @@ use Rattle.zones.proofs.replacing.uyavsker_replace_axis.Tie as tie
 
 returns : tie.Need-returns
 returns c =
-    let i = c .before .before .before .before .before .before .before .before .before .before .before .before .before .before .before .before .before .before .before .before .before .before .args in
-    axis-replaced-as (λ (k : Run) (x : Axis). replaceAxisCall k (i .z) x (i .source .now) (i .weights .now) (i .chain .now) (i .carries .now) (i .sums .now) (i .scratch .now)) _ _ _ _ _ _ _ _ _ _ _ _ (c .before .before .before .before .before .before .before .before .before .before .before .before .before .before .before .run-in .ensures) (c .before .before .before .before .before .before .before .before .before .before .before .before .before .before .axis-in .ensures) (c .before .before .before .before .before .before .before .before .before .replace-axis .ensures) (c .ran-out .ensures)
+    let at-9 = c .before .before .before .before .before .before .before .before .before in
+    let at-14 = at-9 .before .before .before .before .before in
+    let i = at-14 .before .before .before .before .before .before .before .before .args in
+    axis-replaced-as (λ (k : Run) (x : Axis). replaceAxisCall k (i .z) x (i .source .now) (i .weights .now) (i .chain .now) (i .carries .now) (i .sums .now) (i .scratch .now)) _ _ _ _ _ _ _ _ _ _ _ _
+    (at-14 .before .run-in .ensures) (at-14 .axis-in .ensures) (at-9 .replace-axis .ensures) (c .ran-out .ensures)
 
 pub uyavsker-replace-axis-spec : {M : Type 1} → statement M
 uyavsker-replace-axis-spec = tie.close (tie.spec (λ c κs. search needs) (λ c κs. search needs) (λ c κs. search needs) (λ c κs. search needs) (λ c. search needs) (λ c. search needs) (λ c. search needs) (λ c. search needs) returns)

@@ -1,4 +1,4 @@
--- `zones::replacing::uyavsker_replace_weights` meets its contract. Assumes nothing.
+-- `zones::replacing::uyavsker_replace_weights`: the run turned into the core's, the call, and its answer turned back (replaces-as).
 use borrow.Author.Needs.{needs}
 use Rattle.runform.specs.declared.Run.{Run}
 use Rattle.runform.specs.Call.{replaceWeightsCall}
@@ -8,8 +8,11 @@ use Rattle.zones.proofs.replacing.uyavsker_replace_weights.Tie as tie
 
 returns : tie.Need-returns
 returns c =
-    let i = c .before .before .before .before .before .before .before .before .before .before .before .before .before .before .before .before .before .before .before .args in
-    replaces-as (λ (k : Run). replaceWeightsCall k (i .z) (i .source .now) (i .weights .now) (i .chain .now) (i .carries .now) (i .sums .now) (i .part .now) (i .scratch .now)) _ _ _ _ _ _ _ _ _ _ (c .before .before .before .before .before .before .before .before .before .before .before .run-in .ensures) (c .before .before .before .before .before .before .before .replace-weights .ensures) (c .ran-out .ensures)
+    let at-7 = c .before .before .before .before .before .before .before in
+    let at-11 = at-7 .before .before .before .before in
+    let i = at-11 .before .before .before .before .before .before .before .before .args in
+    replaces-as (λ (k : Run). replaceWeightsCall k (i .z) (i .source .now) (i .weights .now) (i .chain .now) (i .carries .now) (i .sums .now) (i .part .now) (i .scratch .now)) _ _ _ _ _ _ _ _ _ _
+    (at-11 .run-in .ensures) (at-7 .replace-weights .ensures) (c .ran-out .ensures)
 
 pub uyavsker-replace-weights-spec : {M : Type 1} → statement M
 uyavsker-replace-weights-spec = tie.close (tie.spec (λ c κs. search needs) (λ c κs. search needs) (λ c κs. search needs) (λ c. search needs) (λ c. search needs) (λ c. search needs) returns)

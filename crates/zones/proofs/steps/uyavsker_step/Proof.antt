@@ -1,4 +1,4 @@
--- `zones::steps::uyavsker_step` meets its contract. Assumes nothing.
+-- `zones::steps::uyavsker_step`: shape, settings and axes turned into the core's, the call over the axes lent (step-lent), and its answer turned back (steps-as).
 use borrow.Author.Needs.{needs}
 use mathlib.Core.List.{List}
 use Rattle.shape.specs.declared.Shape.{Shape}
@@ -12,8 +12,10 @@ use Rattle.zones.proofs.steps.uyavsker_step.Tie as tie
 
 returns : tie.Need-returns
 returns c =
-    let i = c .before .before .before .before .before .before .before .before .before .before .before .before .before .before .args in
-    steps-as (λ (x : Shape) (t : Settings) (k : List Axis). stepOver t x (i .count) k (i .chain .now) (i .scratch .now)) _ _ _ _ _ _ _ _ _ _ _ (c .before .before .before .before .before .before .before .before .before .before .shape-in .ensures) (c .before .before .before .before .before .before .before .before .before .settings-in .ensures) (c .before .before .before .before .before .before .before .before .axes-lent .ensures)
+    let at-8 = c .before .before .before .before .before .before .before .before in
+    let i = at-8 .before .before .before .before .before .before .args in
+    steps-as (λ (x : Shape) (t : Settings) (k : List Axis). stepOver t x (i .count) k (i .chain .now) (i .scratch .now)) _ _ _ _ _ _ _ _ _ _ _
+    (at-8 .before .before .shape-in .ensures) (at-8 .before .settings-in .ensures) (at-8 .axes-lent .ensures)
     (step-lent (settingsIn (i .set)) (shapeIn (i .s)) (i .count) (i .xs .axis) (i .chain .now) (i .scratch .now)) (c .before .before .before .before .before .step-over .ensures) (c .rounded-out .ensures)
 
 pub uyavsker-step-spec : {M : Type 1} → statement M
