@@ -8,7 +8,7 @@ returns : tie.Need-returns
 returns c =
     let shaped = c .before .before .before in
     run-in-as (shaped .before .before .before .before .before .args .r) _ _ _ _
-        (shaped .shape-in .ensures) (c .before .before .axes-in .ensures) (c .before .settings-in .ensures) (c .bonds-in .ensures)
+    (shaped .shape-in .ensures) (c .before .before .axes-in .ensures) (c .before .settings-in .ensures) (c .bonds-in .ensures)
 
 pub run-in-spec : {M : Type 1} → statement M
 run-in-spec = tie.close (tie.spec (λ c κs. search needs) (λ c κs. search needs) (λ c κs. search needs) (λ c κs. search needs) returns)
