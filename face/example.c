@@ -45,7 +45,7 @@ static void print_file(uyavsker_shape shape, const double *chain)
 }
 
 static const uyavsker_shape one_zone = {.d = 1, .left = {1}, .n = {4}, .right = {1}};
-static const uyavsker_settings settings = {.tau = 1, .c = 0, .eps = 0};
+static const uyavsker_settings settings = {.tau = 1, .c = 0, .cutting = {.eps = 0}};
 static const uyavsker_axes axes = {.axis = {{.a = 0.25, .b = 0, .xmin = 0, .xmax = 3}}};
 
 static void print_step(void)
@@ -84,11 +84,11 @@ int main(void)
     print_figure(shape, chain);
     print_file(shape, chain);
     uyavsker_rounded rounded =
-        uyavsker_tt_round(shape, 0, chain, ENTRIES, scratch, UYAVSKER_SCRATCH(ENTRIES));
+        uyavsker_tt_round(shape, (uyavsker_cutting){.eps = 0}, chain, ENTRIES, scratch, UYAVSKER_SCRATCH(ENTRIES));
     if (refused(rounded.refusal))
         return 1;
     print_numbers("rounded", chain, ENTRIES);
-    printf("sweeps %zu, settled %s\n", rounded.sweeps[0], rounded.settled[0] ? "yes" : "no");
+    printf("sweeps %zu, settled %s\n", rounded.bonds[0].sweeps, rounded.bonds[0].settled ? "yes" : "no");
     print_figure(rounded.shape, chain);
     print_step();
     print_run();

@@ -40,6 +40,11 @@ static bool same_shape(const uyavsker_shape *a, const uyavsker_shape *b)
         && same_sizes(a->right, b->right, ZONES);
 }
 
+static bool same_bond(const uyavsker_bond *a, const uyavsker_bond *b)
+{
+    return a->rank == b->rank && a->sweeps == b->sweeps && a->settled == b->settled;
+}
+
 static bool same_axis(const uyavsker_axis *a, const uyavsker_axis *b)
 {
     return a->a == b->a && a->b == b->b && a->xmin == b->xmin && a->xmax == b->xmax;
@@ -162,18 +167,19 @@ static void expect_rounded(size_t times, double entry(size_t, size_t, size_t, si
 {
     put_cores(wanted.chain, &kept, &kept, entry);
     memset(wanted.scratch, 0, sizeof wanted.scratch);
-    bool counts = true;
+    bool said = true;
     for (size_t k = 0; k < LAST; k++) {
         bool all = sweeps_all(k) && (times == 1 || kept_rank(k) > 1);
-        counts = counts && rounded.sweeps[k] == (all ? 50 : 0) && rounded.settled[k] == !all;
+        const uyavsker_bond bond = {.rank = kept_rank(k), .sweeps = all ? 50 : 0, .settled = !all};
+        said = said && same_bond(&rounded.bonds[k], &bond);
     }
-    expect(same_shape(&rounded.shape, &kept) && counts, what);
+    expect(same_shape(&rounded.shape, &kept) && said, what);
     expect(same(lent.chain, wanted.chain, NUMBERS) && same(lent.scratch, wanted.scratch, UYAVSKER_SCRATCH(NUMBERS)), what);
 }
 
 static uyavsker_refusal round_ladder(const size_t *lengths)
 {
-    rounded = uyavsker_tt_round(source, ladder_settings.eps, lent.chain, lengths[0], lent.scratch, lengths[1]);
+    rounded = uyavsker_tt_round(source, ladder_settings.cutting, lent.chain, lengths[0], lent.scratch, lengths[1]);
     return rounded.refusal;
 }
 
@@ -185,7 +191,7 @@ static uyavsker_refusal step_ladder(const size_t *lengths)
 
 static uyavsker_refusal evolve_ladder(const size_t *lengths)
 {
-    const uyavsker_course course = {.t_final = 8, .steps = 2, .c = -0.5, .eps = 0x1p-5};
+    const uyavsker_course course = {.t_final = 8, .steps = 2, .c = -0.5, .cutting = {.eps = 0x1p-5}};
     rounded = uyavsker_evolve(source, course, axes, lengths[0], lent.chain, lengths[1], lent.scratch, lengths[2]);
     return rounded.refusal;
 }
@@ -244,11 +250,10 @@ static void expect_record(const char *what)
     const uyavsker_run *run = &ran.run;
     bool alike = true;
     for (size_t k = 0; k < ZONES; k++)
-        alike = alike && same_axis(&run->axes[k], &given.axes[k]);
-    expect(alike && same_shape(&run->shape, &given.shape), what);
-    expect(run->settings.tau == given.settings.tau && run->settings.c == given.settings.c && run->settings.eps == given.settings.eps, what);
-    expect(same_sizes(run->ranks, given.ranks, ZONES) && same_sizes(run->sweeps, given.sweeps, ZONES), what);
-    expect(memcmp(run->settled, given.settled, sizeof run->settled) == 0 && run->figure == given.figure, what);
+        alike = alike && same_axis(&run->axes[k], &given.axes[k]) && same_bond(&run->bonds[k], &given.bonds[k]);
+    expect(alike && same_shape(&run->shape, &given.shape) && run->figure == given.figure, what);
+    expect(run->settings.tau == given.settings.tau && run->settings.c == given.settings.c, what);
+    expect(run->settings.cutting.eps == given.settings.cutting.eps, what);
 }
 
 /* What is given to a fresh run, and behind it what no call has written yet. */
@@ -315,9 +320,9 @@ static void fresh_runs(void)
     want_sums();
     expect(as_wanted(), "slices of fresh_run");
     for (size_t k = 0; k < LAST; k++) {
-        given.ranks[k] = kept_rank(k);
-        given.sweeps[k] = sweeps_all(k) ? 50 : 0;
-        given.settled[k] = !sweeps_all(k);
+        given.bonds[k].rank = kept_rank(k);
+        given.bonds[k].sweeps = sweeps_all(k) ? 50 : 0;
+        given.bonds[k].settled = !sweeps_all(k);
     }
     given.figure = wanted.sums[SUMS - 1];
     expect_record("record of fresh_run");
@@ -330,9 +335,9 @@ static void give_written_run(void)
     give_ladder();
     zone = LAST;
     for (size_t k = 0; k < ZONES; k++) {
-        given.ranks[k] = kept_rank(k);
-        given.sweeps[k] = 100 + k;
-        given.settled[k] = k % 4 == 1;
+        given.bonds[k].rank = kept_rank(k);
+        given.bonds[k].sweeps = 100 + k;
+        given.bonds[k].settled = k % 4 == 1;
     }
     given.figure = -7.5;
     memcpy(lent.carries + CARRIES - 4, (double[]){2, 3, 5, 7}, 4 * sizeof(double));
@@ -418,7 +423,7 @@ static void slices_of_one_length(void)
     const size_t lengths[] = {6, 3, 6, 4, 3, UYAVSKER_SCRATCH(6)};
     const size_t with_part[] = {6, 3, 6, 4, 3, 4, UYAVSKER_SCRATCH(6)};
     give_ladder();
-    given = (uyavsker_run){.shape = two_zones(2, 2, 1), .ranks = {2}, .settled = {true}, .figure = 11};
+    given = (uyavsker_run){.shape = two_zones(2, 2, 1), .bonds = {{.rank = 2, .settled = true}}, .figure = 11};
     memset(&axes, 0, sizeof axes);
     memcpy(lent.source, (double[]){3, 0, 0, 4, 1, 1}, 6 * sizeof(double));
     memcpy(lent.weights, (double[]){1, 2, 1}, 3 * sizeof(double));

@@ -23,27 +23,34 @@ AT(uyavsker_axis, xmax, 24);
 
 SIZE(uyavsker_axes, 512);
 
+SIZE(uyavsker_cutting, 8);
+AT(uyavsker_cutting, eps, 0);
+
 SIZE(uyavsker_settings, 24);
 AT(uyavsker_settings, tau, 0);
 AT(uyavsker_settings, c, 8);
-AT(uyavsker_settings, eps, 16);
+AT(uyavsker_settings, cutting, 16);
 
 SIZE(uyavsker_course, 32);
 AT(uyavsker_course, t_final, 0);
 AT(uyavsker_course, steps, 8);
 AT(uyavsker_course, c, 16);
-AT(uyavsker_course, eps, 24);
+AT(uyavsker_course, cutting, 24);
 
 SIZE(uyavsker_sizes, 24);
 AT(uyavsker_sizes, left, 0);
 AT(uyavsker_sizes, n, 8);
 AT(uyavsker_sizes, right, 16);
 
-SIZE(uyavsker_rounded, 552);
+SIZE(uyavsker_bond, 24);
+AT(uyavsker_bond, rank, 0);
+AT(uyavsker_bond, sweeps, 8);
+AT(uyavsker_bond, settled, 16);
+
+SIZE(uyavsker_rounded, 792);
 AT(uyavsker_rounded, refusal, 0);
 AT(uyavsker_rounded, shape, 16);
-AT(uyavsker_rounded, sweeps, 408);
-AT(uyavsker_rounded, settled, 536);
+AT(uyavsker_rounded, bonds, 408);
 
 SIZE(uyavsker_figure, 24);
 AT(uyavsker_figure, refusal, 0);
@@ -62,15 +69,13 @@ SIZE(uyavsker_seen, 16);
 AT(uyavsker_seen, inside, 0);
 AT(uyavsker_seen, value, 8);
 
-SIZE(uyavsker_run, 1208);
+SIZE(uyavsker_run, 1320);
 AT(uyavsker_run, shape, 0);
 AT(uyavsker_run, axes, 392);
 AT(uyavsker_run, settings, 904);
-AT(uyavsker_run, ranks, 928);
-AT(uyavsker_run, sweeps, 1056);
-AT(uyavsker_run, settled, 1184);
-AT(uyavsker_run, figure, 1200);
+AT(uyavsker_run, bonds, 928);
+AT(uyavsker_run, figure, 1312);
 
-SIZE(uyavsker_ran, 1224);
+SIZE(uyavsker_ran, 1336);
 AT(uyavsker_ran, refusal, 0);
 AT(uyavsker_ran, run, 16);

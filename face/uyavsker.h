@@ -74,11 +74,16 @@ typedef struct {
     uyavsker_axis axis[UYAVSKER_MOST_AXES];
 } uyavsker_axes;
 
+/* How a cut is made: kept is what lies above eps times the largest value. */
+typedef struct {
+    double eps;
+} uyavsker_cutting;
+
 /* The lone settings of a step. */
 typedef struct {
     double tau;
     double c;
-    double eps;
+    uyavsker_cutting cutting;
 } uyavsker_settings;
 
 /* Steps one after another: how far, in how many, and the lone settings of each. */
@@ -86,7 +91,7 @@ typedef struct {
     double t_final;
     size_t steps;
     double c;
-    double eps;
+    uyavsker_cutting cutting;
 } uyavsker_course;
 
 /* The sizes of one core. */
@@ -98,12 +103,19 @@ typedef struct {
 
 /* ---- what a call answers ---- */
 
-/* The chain's shape at the end; for each of the d - 1 bonds the sweeps made, and whether the sum is below 1e-30 then. */
+/* What is said of a bond: the rank kept, the sweeps made, and whether the sum is below 1e-30 at their end. `settled` holds
+ * nothing but true and false. */
+typedef struct {
+    size_t rank;
+    size_t sweeps;
+    bool settled;
+} uyavsker_bond;
+
+/* The chain's shape at the end, and what is said of each of the d - 1 bonds; blank behind them, and after a refusal. */
 typedef struct {
     uyavsker_refusal refusal;
     uyavsker_shape shape;
-    size_t sweeps[UYAVSKER_MOST_AXES];
-    bool settled[UYAVSKER_MOST_AXES];
+    uyavsker_bond bonds[UYAVSKER_MOST_AXES];
 } uyavsker_rounded;
 
 /* The figure, +0 where it is refused. */
@@ -131,15 +143,12 @@ typedef struct {
     double value;
 } uyavsker_seen;
 
-/* A kept run but for its five slices: what it is made from; for bond k the kept rank, the sweeps made and whether the sum is
- * below 1e-30 at the end; the figure. `settled` holds nothing but true and false. */
+/* A kept run but for its five slices: what it is made from; what is said of bond k; the figure. */
 typedef struct {
     uyavsker_shape shape;
     uyavsker_axis axes[UYAVSKER_MOST_AXES];
     uyavsker_settings settings;
-    size_t ranks[UYAVSKER_MOST_AXES];
-    size_t sweeps[UYAVSKER_MOST_AXES];
-    bool settled[UYAVSKER_MOST_AXES];
+    uyavsker_bond bonds[UYAVSKER_MOST_AXES];
     double figure;
 } uyavsker_run;
 
@@ -172,7 +181,7 @@ uyavsker_figure uyavsker_inner_separable(uyavsker_shape shape, const double *cha
                                          const double *weights, size_t weights_len);
 
 /* Rounds a chain, which ends packed at the front of its slice, the rest +0. */
-uyavsker_rounded uyavsker_tt_round(uyavsker_shape shape, double eps, double *chain, size_t chain_len,
+uyavsker_rounded uyavsker_tt_round(uyavsker_shape shape, uyavsker_cutting cutting, double *chain, size_t chain_len,
                                    double *scratch, size_t scratch_len);
 
 /* ---- steps; the first `count` axis records are read, and count is d ---- */

@@ -69,7 +69,7 @@ pub fn replace(run: &Run, zone: usize, new: &Part, scratch: usize) -> Option<Ref
     let mut found = table::shape(s);
     if s.d <= 16 {
         for k in 1..s.d {
-            let rank = run.record.ranks[k - 1];
+            let rank = run.record.bonds[k - 1].rank;
             found.when(rank == 0 || rank > s.right[k - 1], 3, k - 1);
         }
     }

@@ -1,6 +1,6 @@
 //! A kept run as the Rust's own functions make it: the work from a zone on, over whatever the run holds left of it.
 use crate::chains::{cores_of, lists_of};
-use crate::port::{Record, Shape};
+use crate::port::{Bond, Record, Shape};
 use crate::table::{self, part};
 use oracle::calls::{self, Bonds, Refused};
 use oracle::counted::same;
@@ -57,13 +57,13 @@ impl Run {
         if k == 0 {
             1
         } else {
-            self.record.ranks[k - 1]
+            self.record.bonds[k - 1].rank
         }
     }
 
     fn right_rank(&self, k: usize) -> usize {
         if k + 1 < self.shape().d {
-            self.record.ranks[k]
+            self.record.bonds[k].rank
         } else {
             self.shape().right[k]
         }
@@ -83,7 +83,7 @@ impl Run {
     pub fn kept_carry(&self, k: usize) -> &[f64] {
         let s = self.shape();
         let used = if k + 1 < s.d {
-            self.record.ranks[k] * s.right[k]
+            self.record.bonds[k].rank * s.right[k]
         } else {
             0
         };
@@ -137,9 +137,11 @@ fn step_from(run: &mut Run, z: usize) -> Result<(), Refused> {
         if k + 1 < s.d {
             let mut bond = Bonds::default();
             calls::cut(core, k, rule.eps_round, &mut bond)?;
-            made.record.ranks[k] = core.r_right;
-            made.record.sweeps[k] = bond.sweeps[0];
-            made.record.settled[k] = bond.settled[0];
+            made.record.bonds[k] = Bond {
+                rank: core.r_right,
+                sweeps: bond.sweeps[0],
+                settled: bond.settled[0],
+            };
             put(
                 &mut made.carries,
                 |k| carry_size(&s, k),
@@ -198,7 +200,11 @@ pub fn fresh(inputs: &Run) -> Result<Run, Refused> {
         "a run's cores are not the step's"
     );
     assert!(
-        made.record.sweeps.starts_with(&bonds.sweeps),
+        made.record
+            .bonds
+            .iter()
+            .zip(&bonds.sweeps)
+            .all(|(bond, sweeps)| bond.sweeps == *sweeps),
         "a run's sweeps are not the step's"
     );
     assert!(
@@ -214,9 +220,7 @@ pub fn blank(inputs: &Run) -> Run {
     run.chain = vec![0.0; table::entries(&s)];
     run.carries = vec![0.0; (0..s.d).map(|k| carry_size(&s, k)).sum()];
     run.sums = vec![0.0; (0..s.d).map(|k| sum_size(&s, k)).sum()];
-    run.record.ranks = [0; 16];
-    run.record.sweeps = [0; 16];
-    run.record.settled = [false; 16];
+    run.record.bonds = [Bond::default(); 16];
     run.record.figure = 0.0;
     run
 }

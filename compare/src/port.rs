@@ -28,6 +28,10 @@ pub struct Shape {
 #[repr(C)]
 pub struct Axes([[f64; 4]; 16]);
 
+/// How a cut is made: eps.
+#[repr(C)]
+pub struct Cutting(pub f64);
+
 /// tau, c and eps
 #[repr(C)]
 pub struct Settings(pub [f64; 3]);
@@ -45,14 +49,22 @@ pub struct Course {
 #[repr(C)]
 pub struct Sizes(pub [usize; 3]);
 
+/// What is said of a bond.
+#[repr(C)]
+#[derive(Clone, Copy, Debug, Default, PartialEq)]
+pub struct Bond {
+    pub rank: usize,
+    pub sweeps: usize,
+    pub settled: bool,
+}
+
 /// What a rounding, a step and an evolve answer.
 #[repr(C)]
 #[derive(Clone, Debug, PartialEq)]
 pub struct Rounded {
     refusal: Told,
     pub shape: Shape,
-    pub sweeps: [usize; 16],
-    pub settled: [bool; 16],
+    pub bonds: [Bond; 16],
 }
 
 impl Rounded {
@@ -63,8 +75,7 @@ impl Rounded {
                 place: place as usize,
             },
             shape,
-            sweeps: [0; 16],
-            settled: [false; 16],
+            bonds: [Bond::default(); 16],
         }
     }
 }
@@ -103,9 +114,7 @@ pub struct Record {
     pub tau: f64,
     pub c: f64,
     pub eps: f64,
-    pub ranks: [usize; 16],
-    pub sweeps: [usize; 16],
-    pub settled: [bool; 16],
+    pub bonds: [Bond; 16],
     pub figure: f64,
 }
 
@@ -136,7 +145,7 @@ extern "C" {
     fn uyavsker_entry_of(chain: Read<f64>, n: usize, s: Shape, k: usize, il: usize, im: usize, ir: usize) -> Seen;
     fn uyavsker_rank1_separable(s: Shape, vectors: Read<f64>, n: usize, chain: Written<f64>, m: usize) -> Formed;
     fn uyavsker_inner_separable(s: Shape, chain: Read<f64>, n: usize, weights: Read<f64>, m: usize) -> Figure;
-    fn uyavsker_tt_round(s: Shape, eps: f64, chain: Written<f64>, n: usize, scratch: Written<f64>, m: usize) -> Rounded;
+    fn uyavsker_tt_round(s: Shape, cutting: Cutting, chain: Written<f64>, n: usize, scratch: Written<f64>, m: usize) -> Rounded;
     fn uyavsker_step(s: Shape, set: Settings, axes: Axes, count: usize, chain: Written<f64>, n: usize, scratch: Written<f64>, m: usize) -> Rounded;
     fn uyavsker_evolve(s: Shape, course: Course, axes: Axes, count: usize, chain: Written<f64>, n: usize, scratch: Written<f64>, m: usize) -> Rounded;
     fn uyavsker_contract_and_split(l: Sizes, r: Sizes, eps: f64, left: Read<f64>, n: usize, right: Read<f64>, m: usize,
@@ -191,7 +200,7 @@ pub fn inner_separable(s: &Shape, chain: &[f64], weights: &[f64]) -> (Refusal, f
 #[rustfmt::skip]
 pub fn tt_round(s: &Shape, eps: f64, chain: &mut [f64], scratch: &mut [f64]) -> Rounded {
     unsafe {
-        uyavsker_tt_round(s.clone(), eps, chain.as_mut_ptr(), chain.len(), scratch.as_mut_ptr(), scratch.len())
+        uyavsker_tt_round(s.clone(), Cutting(eps), chain.as_mut_ptr(), chain.len(), scratch.as_mut_ptr(), scratch.len())
     }
 }
 

@@ -2,7 +2,7 @@
 use crate::case::{demand, numbered, Case, Refusal};
 use crate::chains::{cores_of, flat, scratch_for, shape_of};
 use crate::lent::{self, Lent};
-use crate::port::{self, Rounded, Shape};
+use crate::port::{self, Bond, Rounded, Shape};
 use crate::{chains, spoil, table};
 use oracle::calls::{self, Bonds};
 use oracle::draw::{self, Most};
@@ -24,7 +24,11 @@ fn answer(s: &Shape, want: &Result<Ended, Refusal>) -> Rounded {
             (told.shape.left[k], told.shape.right[k]) = (c.r_left, c.r_right);
         }
         for (k, made) in end.bonds.sweeps.iter().enumerate() {
-            (told.sweeps[k], told.settled[k]) = (*made, end.bonds.settled[k]);
+            told.bonds[k] = Bond {
+                rank: end.cores[k].r_right,
+                sweeps: *made,
+                settled: end.bonds.settled[k],
+            };
         }
     }
     told

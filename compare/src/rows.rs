@@ -2,7 +2,7 @@
 use crate::chains::{flat, scratch_for, shape_of};
 use crate::clock::Clock;
 use crate::model::{self, Run};
-use crate::port::{self, Course, Record, Shape};
+use crate::port::{self, Bond, Course, Record, Shape};
 use crate::{files, table};
 use oracle::draw::{self, Manner};
 use oracle::random::{ten_to, Random};
@@ -201,9 +201,7 @@ fn run<const D: usize, const N: usize, const R: usize>() -> Run {
         tau: TAU,
         c: 0.05,
         eps: EPS,
-        ranks: [0; 16],
-        sweeps: [0; 16],
-        settled: [false; 16],
+        bonds: [Bond::default(); 16],
         figure: 0.0,
     };
     let (source, weights) = (flat(&cores), weights(&cores).concat());

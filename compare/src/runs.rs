@@ -4,7 +4,7 @@ use crate::case::{demand, numbered, Refusal, Told};
 use crate::chains::{flat, scratch_for, shape_of};
 use crate::lent::{self, Lent, Word};
 use crate::model::{self, carry_size, sum_size, Part, Run};
-use crate::port::{self, Record};
+use crate::port::{self, Bond, Record};
 use crate::rounds::scratch_ends;
 use crate::{asked, chains, spoil, table};
 use oracle::draw::{self, Most};
@@ -29,9 +29,7 @@ fn inputs(r: &mut Random, most: &Most) -> Run {
         tau,
         c: rule.c,
         eps: rule.eps_round,
-        ranks: [0; 16],
-        sweeps: [0; 16],
-        settled: [false; 16],
+        bonds: [Bond::default(); 16],
         figure: 0.0,
     };
     model::blank(&Run {
@@ -72,10 +70,10 @@ fn write_to(r: &mut Random, run: &mut Run) {
         1 => spoil::number(r, &mut run.carries),
         2 => spoil::number(r, &mut run.sums),
         3 => run.record.figure = r.of(&[1.0, f64::NAN, f64::INFINITY]),
-        4 => run.record.ranks[k] = r.of(&[0, 1, 1, 2, 3, 8, 9, usize::MAX]),
-        5 => run.record.ranks[k] = run.record.ranks[k].saturating_sub(1),
-        6 => run.record.sweeps[k] = r.of(&[0, 51, usize::MAX]),
-        7 => run.record.settled[k] ^= true,
+        4 => run.record.bonds[k].rank = r.of(&[0, 1, 1, 2, 3, 8, 9, usize::MAX]),
+        5 => run.record.bonds[k].rank = run.record.bonds[k].rank.saturating_sub(1),
+        6 => run.record.bonds[k].sweeps = r.of(&[0, 51, usize::MAX]),
+        7 => run.record.bonds[k].settled ^= true,
         8 => {
             let kept = [&mut run.chain, &mut run.carries, &mut run.sums];
             kept.into_iter()
@@ -127,7 +125,7 @@ fn same_record(x: &Record, y: &Record) -> bool {
     x.shape == y.shape
         && same_bits(x.axes.as_flattened(), y.axes.as_flattened())
         && same_bits(&lone(x), &lone(y))
-        && (x.ranks, x.sweeps, x.settled) == (y.ranks, y.sweeps, y.settled)
+        && x.bonds == y.bonds
         && x.figure.same(y.figure)
 }
 
@@ -218,7 +216,7 @@ fn fresh(
     let mut scratch = lent::room(r, "scratch", scratch);
     let got = port::fresh_run(&run.record, slices.parts(), scratch.part());
     let mut bare = run.record.clone();
-    (bare.ranks, bare.sweeps, bare.settled, bare.figure) = ([0; 16], [0; 16], [false; 16], 0.0);
+    (bare.bonds, bare.figure) = ([Bond::default(); 16], 0.0);
     held(&bare, &got, &slices, &scratch, want)?;
     let left = slices.left(got.1);
     if want.is_ok() {

@@ -13,6 +13,7 @@ use lib.Ieee.Bits.{ofBits-toBits}
 use borrow.Author.Count.{below-more}
 use borrow.Author.Tests.{not-true}
 use Rattle.lists.proofs.Tests.{both, and-yes, eqb-is, eqb-yes, same-test}
+use Rattle.cutform.specs.declared.Bond.{Bond}
 use Rattle.comparing.specs.Same.{Tells}
 
 -- ---- what an answer tells; whatever X is, there is one such answer
@@ -46,18 +47,27 @@ same-bits x y f g e = sym (ofBits-toBits binary64 x f) ∙ ap (ofBits binary64) 
 pub bits-tell : (x y : Float) (m n : ℕ) → T (fits binary64 x) → T (fits binary64 y) → m ≡ toBits binary64 x → n ≡ toBits binary64 y → Tells (eqb m n) (x ≡ y)
 bits-tell x y m n f g p q = record { only = λ e. same-bits x y f g (sym p ∙ eqb-is m n e ∙ q); always = λ e. eqb-yes m n (p ∙ ap (toBits binary64) e ∙ sym q) }
 
--- ---- two flags
-pub same-flag : (x y : Bool) → not (Bool·beq x y) ≡ false → x ≡ y
-same-flag true true e = refl
-same-flag true false e = absurd (true≢false e)
-same-flag false true e = absurd (true≢false e)
-same-flag false false e = refl
+-- ---- two bonds, field by field
+counts-tell : (m n : ℕ) → Tells (eqb m n) (m ≡ n)
+counts-tell m n = record { only = λ e. eqb-is m n e; always = λ e. eqb-yes m n e }
 
-pub other-flag : (x y : Bool) → not (Bool·beq x y) ≡ true → x ≡ y → ⊥
-other-flag true true e h = true≢false (sym e)
-other-flag true false e h = true≢false h
-other-flag false true e h = true≢false (sym h)
-other-flag false false e h = true≢false (sym e)
+flags-tell : (x y : Bool) → Tells (Bool·beq x y) (x ≡ y)
+flags-tell true true = tells-yes refl
+flags-tell true false = tells-no true≢false
+flags-tell false true = tells-no (λ e. true≢false (sym e))
+flags-tell false false = tells-yes refl
+
+same-fields : (a b : Bond) → a .rank ≡ b .rank → a .sweeps ≡ b .sweeps → a .settled ≡ b .settled → a ≡ b
+same-fields a b e f g =
+    ap (λ (x : ℕ). record { rank = x; sweeps = a .sweeps; settled = a .settled }) e
+    ∙ ap (λ (x : ℕ). record { rank = b .rank; sweeps = x; settled = a .settled }) f
+    ∙ ap (λ (x : Bool). record { rank = b .rank; sweeps = b .sweeps; settled = x }) g
+
+pub bonds-tell : (a b : Bond) → Tells ((eqb (a .rank) (b .rank) && eqb (a .sweeps) (b .sweeps)) && Bool·beq (a .settled) (b .settled)) (a ≡ b)
+bonds-tell a b =
+    tells-as (tells-both (tells-both (counts-tell (a .rank) (b .rank)) (counts-tell (a .sweeps) (b .sweeps))) (flags-tell (a .settled) (b .settled)))
+    (λ w. same-fields a b (w .0 .0) (w .0 .1) (w .1))
+    (λ e. ((ap (λ (x : Bond). x .rank) e, ap (λ (x : Bond). x .sweeps) e), ap (λ (x : Bond). x .settled) e))
 
 -- ---- a loop over two lists: the first i of a and b agree
 pub record Agreed {A : Type 0} (o : A) (a b : List A) (i : ℕ) : Type 0 where

@@ -12,9 +12,7 @@ pub record Tells (answer : Bool) (X : Type 0) : Type 0 where
 
 -- they keep the same; their inputs are not compared
 pub record SameRecord (a b : Run) : Type 0 where
-  pub ranks : a .ranks ≡ b .ranks
-  pub sweeps : a .sweeps ≡ b .sweeps
-  pub settled : a .settled ≡ b .settled
+  pub bonds : a .bonds ≡ b .bonds
   pub figure : a .figure ≡ b .figure
 
 -- and so do their lists, each beside the other's

@@ -26,12 +26,18 @@ pub fn same_numbers(a: &[f64], b: &[f64]) -> bool
     true
 }
 
-fn same_counts(a: [usize; shape::MOST_AXES], b: [usize; shape::MOST_AXES]) -> bool
+fn same_bond(a: cutform::Bond, b: cutform::Bond) -> bool
+    ensures { λ r. ⌜ Tells r (a ≡ b) ⌝ }
+{
+    (a.rank == b.rank) & (a.sweeps == b.sweeps) & (a.settled == b.settled)
+}
+
+fn same_bonds(a: [cutform::Bond; shape::MOST_AXES], b: [cutform::Bond; shape::MOST_AXES]) -> bool
     ensures { λ r. ⌜ Tells r (a ≡ b) ⌝ }
 {
     let mut k = 0;
     while k < shape::MOST_AXES {
-        if a[k] != b[k] {
+        if !same_bond(a[k], b[k]) {
             return false;
         }
         k += 1;
@@ -39,36 +45,13 @@ fn same_counts(a: [usize; shape::MOST_AXES], b: [usize; shape::MOST_AXES]) -> bo
     true
 }
 
-fn same_flags(a: [bool; shape::MOST_AXES], b: [bool; shape::MOST_AXES]) -> bool
-    ensures { λ r. ⌜ Tells r (a ≡ b) ⌝ }
-{
-    let mut k = 0;
-    while k < shape::MOST_AXES {
-        if a[k] != b[k] {
-            return false;
-        }
-        k += 1;
-    }
-    true
-}
-
-// Whether two records keep the same ranks, sweeps, flags and figure.
+// Whether two records keep the same bonds and figure.
 pub fn same_record(a: runform::Run, b: runform::Run) -> bool
     ensures { λ r. ⌜ Tells r (SameRecord a b) ⌝ }
 {
-    let ranks = a.ranks;
-    let other_ranks = b.ranks;
-    if !same_counts(ranks, other_ranks) {
-        return false;
-    }
-    let sweeps = a.sweeps;
-    let other_sweeps = b.sweeps;
-    if !same_counts(sweeps, other_sweeps) {
-        return false;
-    }
-    let settled = a.settled;
-    let other_settled = b.settled;
-    if !same_flags(settled, other_settled) {
+    let bonds = a.bonds;
+    let other_bonds = b.bonds;
+    if !same_bonds(bonds, other_bonds) {
         return false;
     }
     same_number(a.figure, b.figure)

@@ -148,7 +148,13 @@ pub fn fresh(r: runform::Run, n: Lengths, held: &mut [f64; HELD]) -> Ended {
     ending(ran, &scratch, n.scratch)
 }
 
-pub fn core(q: asks::Ask, r: runform::Run, n: Lengths, part: &[f64], held: &mut [f64; HELD]) -> Ended {
+pub fn core(
+    q: asks::Ask,
+    r: runform::Run,
+    n: Lengths,
+    part: &[f64],
+    held: &mut [f64; HELD],
+) -> Ended {
     let mut source = list(held, 0, n.source);
     let mut chain = list(held, CHAIN, n.chain);
     let mut carries = list(held, CARRIES, n.carries);

@@ -109,13 +109,12 @@ fn lent_wrong(r: runform::Run, held: [f64; calls::HELD], t: Tally) -> Tally {
 fn day(seed: usize, s: shape::Shape, t: Tally) -> Tally {
     let mut held = [calls::MARK; calls::HELD];
     chance::fill(seed ^ 1, 1.0, &mut held[..calls::CHAIN]);
+    let none = bond::no_bond();
     let run = runform::Run {
         shape: s,
         axes: plans::records(seed ^ 2),
         set: plans::settings(chance::next(seed ^ 4)),
-        ranks: [0; shape::MOST_AXES],
-        sweeps: [0; shape::MOST_AXES],
-        settled: [false; shape::MOST_AXES],
+        bonds: [none; shape::MOST_AXES],
         figure: 0.0,
     };
     let n = calls::lengths_of(s, drawing::asks::NO_LIST);

@@ -54,7 +54,12 @@ fn expected(q: asks::Ask, set: stepform::Settings, fresh: calls::Told) -> calls:
 
 // ---- the fresh run
 // The run with a new record that is in order, or its lists with a new part.
-fn renewed(q: asks::Ask, r: runform::Run, part: &[f64], held: &mut [f64; calls::HELD]) -> runform::Run {
+fn renewed(
+    q: asks::Ask,
+    r: runform::Run,
+    part: &[f64],
+    held: &mut [f64; calls::HELD],
+) -> runform::Run {
     let mut run = r;
     let mut xs = r.axes;
     let s = r.shape;
@@ -83,24 +88,32 @@ fn renewed(q: asks::Ask, r: runform::Run, part: &[f64], held: &mut [f64; calls::
 }
 
 // ---- what others wrote
+// What is said of a bond, with a rank that none can have; `right` is the source's there.
+fn spoilt_bond(q: asks::Ask, b: cutform::Bond, right: usize) -> cutform::Bond {
+    let mut t = b;
+    if q.flaw == asks::RANK_ZERO {
+        t.rank = 0;
+    }
+    if q.flaw == asks::RANK_ABOVE {
+        t.rank = std::num::wrapping_add_usize(right, 1);
+    }
+    t
+}
+
 // The record as others wrote to it.
 fn spoilt(q: asks::Ask, r: runform::Run) -> runform::Run {
     let mut t = r;
     let mut s = r.shape;
     let mut xs = r.axes;
     let set = r.set;
+    let mut bonds = r.bonds;
     let k = q.spot;
     if k < shape::MOST_AXES {
         xs[k] = asks::spoilt_axis(q, xs[k]);
         if q.flaw == asks::SIZE_AND_ZONE {
             s.n[k] = 0;
         }
-        if q.flaw == asks::RANK_ZERO {
-            t.ranks[k] = 0;
-        }
-        if q.flaw == asks::RANK_ABOVE {
-            t.ranks[k] = std::num::wrapping_add_usize(s.right[k], 1);
-        }
+        bonds[k] = spoilt_bond(q, bonds[k], s.right[k]);
     }
     if q.flaw == asks::FIGURE {
         t.figure = q.wrong;
@@ -108,6 +121,7 @@ fn spoilt(q: asks::Ask, r: runform::Run) -> runform::Run {
     t.shape = s;
     t.axes = xs;
     t.set = asks::spoilt_settings(q, set);
+    t.bonds = bonds;
     t
 }
 
@@ -200,7 +214,9 @@ fn same_run(a: runform::Run, b: runform::Run) -> bool {
     let s = a.set;
     let t = b.set;
     let times = comparing::same_number(s.tau, t.tau) & comparing::same_number(s.c, t.c);
-    let settings = times & comparing::same_number(s.eps, t.eps);
+    let way = s.cutting;
+    let other_way = t.cutting;
+    let settings = times & comparing::same_number(way.eps, other_way.eps);
     settings & same_zones(a, b) & comparing::same_record(a, b)
 }
 
@@ -329,14 +345,14 @@ fn zone_clear(
 // The same of all zones.
 fn room_clear(r: runform::Run, held: &[f64; calls::HELD]) -> bool {
     let s = r.shape;
-    let ranks = r.ranks;
+    let bonds = r.bonds;
     let mut left = 1;
     let mut all = true;
     for k in 0..shape::MOST_AXES {
         if k < s.d {
             let mut kept = 1;
             if k + 1 < s.d {
-                kept = ranks[k];
+                kept = bonds[k].rank;
             }
             let zone = zone_clear(s, k, left, s.n[k], s.right[k], kept, held);
             all = all & zone;
@@ -350,9 +366,8 @@ fn room_clear(r: runform::Run, held: &[f64; calls::HELD]) -> bool {
 // The record as it is before a fresh run.
 fn blank(r: runform::Run) -> runform::Run {
     let mut t = r;
-    t.ranks = [0; shape::MOST_AXES];
-    t.sweeps = [0; shape::MOST_AXES];
-    t.settled = [false; shape::MOST_AXES];
+    let none = bond::no_bond();
+    t.bonds = [none; shape::MOST_AXES];
     t.figure = 0.0;
     t
 }

@@ -279,6 +279,7 @@ pub fn write_part(q: Ask, part: &mut [f64]) {
 // One lone setting: tau, eps, or c where it isn't finite.
 pub fn spoilt_settings(q: Ask, set: stepform::Settings) -> stepform::Settings {
     let mut t = set;
+    let mut cutting = set.cutting;
     let k = chance::below(q.seed, 3);
     if q.flaw == LONE_NOT_FINITE {
         if k == 0 {
@@ -288,16 +289,17 @@ pub fn spoilt_settings(q: Ask, set: stepform::Settings) -> stepform::Settings {
             t.c = q.wrong;
         }
         if k == 2 {
-            t.eps = q.wrong;
+            cutting.eps = q.wrong;
         }
     }
     if (q.flaw == LONE_BELOW_ZERO) | (q.flaw == TWO_SETTINGS) {
         if k == 0 {
             t.tau = -0.5;
         } else {
-            t.eps = -0.5;
+            cutting.eps = -0.5;
         }
     }
+    t.cutting = cutting;
     t
 }
 

@@ -55,7 +55,7 @@ pub fn settings(x: usize) -> stepform::Settings {
     stepform::Settings {
         tau: chance::whole(x, 9) / 8.0,
         c: chance::number(x / 128),
-        eps: cutoffs[k],
+        cutting: cutform::Cutting { eps: cutoffs[k] },
     }
 }
 

@@ -89,7 +89,7 @@ pub step : OneEnd step-call.ended (λ M 𝓤. step-call.clauses 𝓤)
 step = record { plain = λ w κs a. refl; one = λ κs a r r' e e' p q. (cc, cc) }
 
 pub evolve : OneEnd evolve-call.ended (λ M 𝓤. evolve-call.clauses 𝓤)
-    (λ κs a r e. let p = a .1 .0 in Leaves (evolveCall (p .«t_final») (p .steps) (p .c) (p .eps) (a .0) (now (a .1 .1 .0)) (now (a .1 .1 .1 .0)) (now (a .1 .1 .1 .1 .0))) r (now (e .1 .1 .1 .0)) (now (e .1 .1 .1 .1 .0)))
+    (λ κs a r e. let p = a .1 .0 in Leaves (evolveCall (p .«t_final») (p .steps) (p .c) (p .cutting) (a .0) (now (a .1 .1 .0)) (now (a .1 .1 .1 .0)) (now (a .1 .1 .1 .1 .0))) r (now (e .1 .1 .1 .0)) (now (e .1 .1 .1 .1 .0)))
     (λ κs e. now (e .1 .1 .1 .0) ∷ now (e .1 .1 .1 .1 .0) ∷ [])
 evolve = record { plain = λ w κs a. refl; one = λ κs a r r' e e' p q. (cc, cc) }
 

@@ -19,10 +19,10 @@ use Rattle.zones.proofs.chains.uyavsker_rank1_separable as rank1-separable-call
 use Rattle.zones.proofs.chains.uyavsker_rank1_separable.Reads as rank1-separable-reads
 use Rattle.zones.proofs.chains.uyavsker_tt_round as tt-round-call
 use Rattle.zones.proofs.chains.uyavsker_tt_round.Reads as tt-round-reads
-use Rattle.zones.proofs.steps.uyavsker_step as step-call
-use Rattle.zones.proofs.steps.uyavsker_step.Reads as step-reads
-use Rattle.zones.proofs.steps.uyavsker_evolve as evolve-call
-use Rattle.zones.proofs.steps.uyavsker_evolve.Reads as evolve-reads
+use Rattle.zones.proofs.courses.uyavsker_step as step-call
+use Rattle.zones.proofs.courses.uyavsker_step.Reads as step-reads
+use Rattle.zones.proofs.courses.uyavsker_evolve as evolve-call
+use Rattle.zones.proofs.courses.uyavsker_evolve.Reads as evolve-reads
 use Rattle.zones.proofs.pairs.uyavsker_contract_and_split as contract-and-split-call
 use Rattle.zones.proofs.pairs.uyavsker_contract_and_split.Reads as contract-and-split-reads
 use Rattle.zones.proofs.replacing.uyavsker_fresh_run as fresh-run-call

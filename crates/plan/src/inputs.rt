@@ -158,17 +158,16 @@ pub fn plan() -> crate::plans::Plan {
         n: [4, 5, 3, 6, 3, 0, 0, 0, 0, 0, 0, 0, 0, 0, 0, 0],
         right: [2, 3, 2, 2, 1, 0, 0, 0, 0, 0, 0, 0, 0, 0, 0, 0],
     };
+    let none = bond::no_bond();
     let run = runform::Run {
         shape,
         axes: [axis(0.04); shape::MOST_AXES],
         set: stepform::Settings {
             tau: 0.25,
             c: 0.0,
-            eps: 0.000001,
+            cutting: cutform::Cutting { eps: 0.000001 },
         },
-        ranks: [0; shape::MOST_AXES],
-        sweeps: [0; shape::MOST_AXES],
-        settled: [false; shape::MOST_AXES],
+        bonds: [none; shape::MOST_AXES],
         figure: 0.0,
     };
     crate::plans::Plan {

@@ -18,10 +18,11 @@ fn name(z: usize) {
 fn bond(r: runform::Run, z: usize)
     requires { ⌜ z < mostAxes ⌝ }
 {
-    print::column(r.ranks[z], 11);
-    print::column(r.sweeps[z], 8);
+    let b = r.bonds[z];
+    print::column(b.rank, 11);
+    print::column(b.sweeps, 8);
     say(b"  ");
-    print::yes(r.settled[z]);
+    print::yes(b.settled);
 }
 
 fn row(r: runform::Run, z: usize)

@@ -1,10 +1,12 @@
 -- What a call answers as C has it, field by field. Definitions only.
 use mathlib.Core.Bool.{true, false}
+use mathlib.Core.List.{map}
 use Rattle.numbers.specs.Arithmetic.{zero64}
 use Rattle.answers.specs.declared.Verdict.{Verdict}
 use Rattle.answers.specs.declared.Verdict.the-variants.{Fits, Refused}
 use Rattle.answers.specs.Table.{numberOf, placeOf}
 use Rattle.shape.specs.declared.Shape.{Shape}
+use Rattle.cutform.specs.declared.Bond.{Bond}
 use Rattle.cutform.specs.declared.Rounded.{Rounded}
 use Rattle.sumform.specs.declared.Figure.{Figure}
 use Rattle.sumform.specs.declared.Started.{Started}
@@ -14,6 +16,7 @@ use Rattle.view.specs.declared.Seen.{Seen}
 use Rattle.view.specs.declared.Seen.the-variants.{Number, Outside}
 use Rattle.records.specs.declared.given.CShape.{CShape}
 use Rattle.records.specs.declared.told.CRefusal.{CRefusal}
+use Rattle.records.specs.declared.told.CBond.{CBond}
 use Rattle.records.specs.declared.told.CRounded.{CRounded}
 use Rattle.records.specs.declared.told.CFigure.{CFigure}
 use Rattle.records.specs.declared.told.CFormed.{CFormed}
@@ -28,8 +31,11 @@ refusalOf (Refused q) = record { number = numberOf q; place = placeOf q }
 abbrev pub shapeOut : Shape → CShape
 shapeOut s = record { d = s .d; left = s .left; n = s .n; right = s .right }
 
+abbrev pub bondOut : Bond → CBond
+bondOut b = record { rank = b .rank; sweeps = b .sweeps; settled = b .settled }
+
 abbrev pub roundedOut : Rounded → CRounded
-roundedOut w = record { refusal = refusalOf (w .verdict); shape = shapeOut (w .shape); sweeps = w .sweeps; settled = w .settled }
+roundedOut w = record { refusal = refusalOf (w .verdict); shape = shapeOut (w .shape); bonds = map bondOut (w .bonds) }
 
 abbrev pub figureOut : Figure → CFigure
 figureOut w = record { refusal = refusalOf (w .verdict); value = w .value }

@@ -4,7 +4,7 @@ ghost use Prim.Native.Nat.{_<_};
 ghost use mathlib.Core.List.{map};
 ghost use Rattle.shape.specs.Limits.{mostAxes};
 ghost use Rattle.stepform.specs.Axes.{axisAt, gathered};
-ghost use Rattle.records.specs.Given.{shapeIn, axisIn, lentOf, settingsIn, courseIn, sizesIn};
+ghost use Rattle.records.specs.Given.{shapeIn, axisIn, lentOf, cuttingIn, settingsIn, courseIn, sizesIn};
 
 // d cores; core k has the sizes left[k], n[k], right[k].
 #[repr(C)]
@@ -30,12 +30,18 @@ pub struct CAxes {
     pub axis: [CAxis; shape::MOST_AXES],
 }
 
+// How a cut is made.
+#[repr(C)]
+pub struct CCutting {
+    pub eps: f64,
+}
+
 // The lone settings of a step.
 #[repr(C)]
 pub struct CSettings {
     pub tau: f64,
     pub c: f64,
-    pub eps: f64,
+    pub cutting: CCutting,
 }
 
 // Steps one after another: how far, in how many, and the lone settings of each.
@@ -44,7 +50,7 @@ pub struct CCourse {
     pub t_final: f64,
     pub steps: usize,
     pub c: f64,
-    pub eps: f64,
+    pub cutting: CCutting,
 }
 
 // The sizes of one core.
@@ -133,24 +139,32 @@ pub fn axes_lent(xs: [CAxis; shape::MOST_AXES], count: usize) -> [stepform::Axis
     list
 }
 
+pub fn cutting_in(x: CCutting) -> cutform::Cutting
+    ensures { λ r. ⌜ r ≡ cuttingIn x ⌝ }
+{
+    cutform::Cutting { eps: x.eps }
+}
+
 pub fn settings_in(x: CSettings) -> stepform::Settings
     ensures { λ r. ⌜ r ≡ settingsIn x ⌝ }
 {
+    let cutting = x.cutting;
     stepform::Settings {
         tau: x.tau,
         c: x.c,
-        eps: x.eps,
+        cutting: cutting_in(cutting),
     }
 }
 
 pub fn course_in(x: CCourse) -> stepform::Course
     ensures { λ r. ⌜ r ≡ courseIn x ⌝ }
 {
+    let cutting = x.cutting;
     stepform::Course {
         t_final: x.t_final,
         steps: x.steps,
         c: x.c,
-        eps: x.eps,
+        cutting: cutting_in(cutting),
     }
 }
 

@@ -1,20 +1,17 @@
 // A kept run's record, which goes into a call and comes out of it.
 ghost use mathlib.Core.Path.{_≡_};
 ghost use mathlib.Core.List.{map};
-ghost use Rattle.records.specs.Held.{runIn, axisOut, settingsOut, runOut, ranOut};
+ghost use Rattle.records.specs.Held.{bondIn, runIn, axisOut, cuttingOut, settingsOut, runOut, ranOut};
 use crate::given;
 use crate::told;
 
-// Its inputs but for the source chain and the weights; then for bond k the rank, the sweeps made and whether the sum is
-// below 1e-30 at the end, each at place k of its array; and the figure.
+// Its inputs but for the source chain and the weights; then what is said of bond k, at place k; and the figure.
 #[repr(C)]
 pub struct CRun {
     pub shape: given::CShape,
     pub axes: [given::CAxis; shape::MOST_AXES],
     pub set: given::CSettings,
-    pub ranks: [usize; shape::MOST_AXES],
-    pub sweeps: [usize; shape::MOST_AXES],
-    pub settled: [bool; shape::MOST_AXES],
+    pub bonds: [told::CBond; shape::MOST_AXES],
     pub figure: f64,
 }
 
@@ -24,22 +21,50 @@ pub struct CRan {
     pub run: CRun,
 }
 
+fn bond_in(b: told::CBond) -> cutform::Bond
+    ensures { λ r. ⌜ r ≡ bondIn b ⌝ }
+{
+    cutform::Bond {
+        rank: b.rank,
+        sweeps: b.sweeps,
+        settled: b.settled,
+    }
+}
+
+// What stands in the list before its records do.
+fn no_bonds() -> [cutform::Bond; shape::MOST_AXES] {
+    [cutform::Bond {
+        rank: 0,
+        sweeps: 0,
+        settled: false,
+    }; shape::MOST_AXES]
+}
+
+fn bonds_in(bs: [told::CBond; shape::MOST_AXES]) -> [cutform::Bond; shape::MOST_AXES]
+    ensures { λ r. ⌜ r ≡ map bondIn bs ⌝ }
+{
+    let mut list = no_bonds();
+    let mut k = 0;
+    while k < shape::MOST_AXES {
+        let b = bond_in(bs[k]);
+        list[k] = b;
+        k += 1;
+    }
+    list
+}
+
 pub fn run_in(r: CRun) -> runform::Run
     ensures { λ x. ⌜ x ≡ runIn r ⌝ }
 {
     let shape = r.shape;
     let axes = r.axes;
     let set = r.set;
-    let ranks = r.ranks;
-    let sweeps = r.sweeps;
-    let settled = r.settled;
+    let bonds = r.bonds;
     runform::Run {
         shape: given::shape_in(shape),
         axes: given::axes_in(axes),
         set: given::settings_in(set),
-        ranks,
-        sweeps,
-        settled,
+        bonds: bonds_in(bonds),
         figure: r.figure,
     }
 }
@@ -78,13 +103,20 @@ fn axes_out(xs: [stepform::Axis; shape::MOST_AXES]) -> [given::CAxis; shape::MOS
     list
 }
 
+fn cutting_out(x: cutform::Cutting) -> given::CCutting
+    ensures { λ r. ⌜ r ≡ cuttingOut x ⌝ }
+{
+    given::CCutting { eps: x.eps }
+}
+
 fn settings_out(x: stepform::Settings) -> given::CSettings
     ensures { λ r. ⌜ r ≡ settingsOut x ⌝ }
 {
+    let cutting = x.cutting;
     given::CSettings {
         tau: x.tau,
         c: x.c,
-        eps: x.eps,
+        cutting: cutting_out(cutting),
     }
 }
 
@@ -94,16 +126,12 @@ fn run_out(r: runform::Run) -> CRun
     let shape = r.shape;
     let axes = r.axes;
     let set = r.set;
-    let ranks = r.ranks;
-    let sweeps = r.sweeps;
-    let settled = r.settled;
+    let bonds = r.bonds;
     CRun {
         shape: told::shape_out(shape),
         axes: axes_out(axes),
         set: settings_out(set),
-        ranks,
-        sweeps,
-        settled,
+        bonds: told::bonds_out(bonds),
         figure: r.figure,
     }
 }

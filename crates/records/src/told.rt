@@ -1,7 +1,8 @@
 // What a call answers.
 ghost use mathlib.Core.Path.{_≡_};
+ghost use mathlib.Core.List.{map};
 ghost use Rattle.answers.specs.declared.Verdict.the-variants.{Refused};
-ghost use Rattle.records.specs.Told.{refusalOf, shapeOut, roundedOut, figureOut, startedOut, pairedOut, readOut, seenOut};
+ghost use Rattle.records.specs.Told.{refusalOf, shapeOut, bondOut, roundedOut, figureOut, startedOut, pairedOut, readOut, seenOut};
 use crate::given;
 
 // A refusal by its number in the scope's table and its place; number 0 is none.
@@ -11,13 +12,20 @@ pub struct CRefusal {
     pub place: usize,
 }
 
-// The chain's shape at the end; for each bond the sweeps made, and whether the sum is below 1e-30 at the end.
+// What is said of a bond: the rank kept, the sweeps made, and whether the sum is below 1e-30 at their end.
+#[repr(C)]
+pub struct CBond {
+    pub rank: usize,
+    pub sweeps: usize,
+    pub settled: bool,
+}
+
+// The chain's shape at the end, and what is said of each bond.
 #[repr(C)]
 pub struct CRounded {
     pub refusal: CRefusal,
     pub shape: given::CShape,
-    pub sweeps: [usize; shape::MOST_AXES],
-    pub settled: [bool; shape::MOST_AXES],
+    pub bonds: [CBond; shape::MOST_AXES],
 }
 
 // The figure, +0 where it is refused.
@@ -84,18 +92,48 @@ pub fn shape_out(s: shape::Shape) -> given::CShape
     }
 }
 
+fn bond_out(b: cutform::Bond) -> CBond
+    ensures { λ r. ⌜ r ≡ bondOut b ⌝ }
+{
+    CBond {
+        rank: b.rank,
+        sweeps: b.sweeps,
+        settled: b.settled,
+    }
+}
+
+// What stands in the list before its records do.
+fn no_bonds() -> [CBond; shape::MOST_AXES] {
+    [CBond {
+        rank: 0,
+        sweeps: 0,
+        settled: false,
+    }; shape::MOST_AXES]
+}
+
+pub fn bonds_out(bs: [cutform::Bond; shape::MOST_AXES]) -> [CBond; shape::MOST_AXES]
+    ensures { λ r. ⌜ r ≡ map bondOut bs ⌝ }
+{
+    let mut list = no_bonds();
+    let mut k = 0;
+    while k < shape::MOST_AXES {
+        let b = bond_out(bs[k]);
+        list[k] = b;
+        k += 1;
+    }
+    list
+}
+
 pub fn rounded_out(w: cutform::Rounded) -> CRounded
     ensures { λ r. ⌜ r ≡ roundedOut w ⌝ }
 {
     let verdict = w.verdict;
     let shape = w.shape;
-    let sweeps = w.sweeps;
-    let settled = w.settled;
+    let bonds = w.bonds;
     CRounded {
         refusal: refusal_of(verdict),
         shape: shape_out(shape),
-        sweeps,
-        settled,
+        bonds: bonds_out(bonds),
     }
 }
 

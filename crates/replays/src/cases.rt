@@ -124,13 +124,35 @@ pub fn counts(list: [usize; shape::MOST_AXES]) -> bool {
     all
 }
 
-// Whether the flags that follow, 1 and 0, are the first of an array, and none is set behind them.
-pub fn flags(list: [bool; shape::MOST_AXES]) -> bool {
+// The rank that bond k of n was given, and 0 behind them.
+fn given(k: usize, n: usize, rank: usize) -> usize {
+    if k < n {
+        return rank;
+    }
+    0
+}
+
+// Whether the sweeps that follow, how many and each, are those of the first bonds, and 0 behind them; a bond's rank is the shape's.
+pub fn sweeps(list: [cutform::Bond; shape::MOST_AXES], right: [usize; shape::MOST_AXES]) -> bool {
     let n = word();
     let mut all = true;
     let mut k = 0;
     while k < shape::MOST_AXES {
-        all = all & (list[k] == (wanted(k, n, 0) == 1));
+        let b = list[k];
+        let rank = b.rank == given(k, n, right[k]);
+        all = all & rank & (b.sweeps == wanted(k, n, 0));
+        k += 1;
+    }
+    all
+}
+
+// Whether the flags that follow, 1 and 0, are those of the first bonds, and none is set behind them.
+pub fn flags(list: [cutform::Bond; shape::MOST_AXES]) -> bool {
+    let n = word();
+    let mut all = true;
+    let mut k = 0;
+    while k < shape::MOST_AXES {
+        all = all & (list[k].settled == (wanted(k, n, 0) == 1));
         k += 1;
     }
     all

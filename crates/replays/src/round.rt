@@ -1,15 +1,15 @@
 // Roundings.
 
-// The verdict, the shape, the counts, the flags, the chain, and scratch.
+// The verdict, the shape, what is said of the bonds, the chain, and scratch.
 pub fn ended(r: cutform::Rounded, chain: &[f64], scratch: &[f64]) -> bool {
     let verdict = r.verdict;
     let shape = r.shape;
-    let sweeps = r.sweeps;
-    let settled = r.settled;
+    let bonds = r.bonds;
+    let right = shape.right;
     let told = crate::cases::verdict(verdict);
     let shaped = crate::cases::shape_is(shape);
-    let made = crate::cases::counts(sweeps);
-    let small = crate::cases::flags(settled);
+    let made = crate::cases::sweeps(bonds, right);
+    let small = crate::cases::flags(bonds);
     let entries = crate::cases::holds(chain);
     let left = crate::cases::holds(scratch);
     told & shaped & made & small & entries & left
@@ -23,6 +23,7 @@ pub fn agrees() -> bool {
     let eps = crate::cases::number();
     let chain = crate::cases::list(&mut a);
     let scratch = crate::cases::lent(&mut b);
-    let r = rounding::tt_round(s, eps, chain, scratch);
+    let cutting = cutform::Cutting { eps };
+    let r = rounding::tt_round(s, cutting, chain, scratch);
     ended(r, chain, scratch)
 }

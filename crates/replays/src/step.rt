@@ -33,10 +33,11 @@ fn call(
     scratch: &mut [f64],
 ) -> cutform::Rounded {
     if kind == 0 {
+        let cutting = p.cutting;
         let set = stepform::Settings {
             tau: p.t_final,
             c: p.c,
-            eps: p.eps,
+            cutting,
         };
         return evolution::step_over(s, set, xs, count, chain, scratch);
     }
@@ -60,7 +61,7 @@ pub fn agrees() -> bool {
         t_final,
         steps,
         c,
-        eps,
+        cutting: cutform::Cutting { eps },
     };
     let scratch = crate::cases::lent(&mut b);
     let r = call(kind, s, p, xs, count, chain, scratch);

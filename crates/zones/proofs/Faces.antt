@@ -15,6 +15,7 @@ use Rattle.steps.proofs.Gathers.{step-over, evolve-over}
 use Rattle.stepform.specs.declared.Course.{Course}
 use Rattle.records.specs.declared.given.CAxis.{CAxis}
 use Rattle.records.specs.Given.{axisIn, lentOf}
+use Rattle.cutform.specs.declared.Cutting.{Cutting}
 use Rattle.cutform.specs.declared.Rounded.{Rounded}
 use Rattle.cutform.specs.Call.{Ended}
 use Rattle.sumform.specs.declared.Started.{Started}
@@ -35,9 +36,11 @@ use Rattle.zones.specs.Ends.{EndsAs, StartsAs, SplitsAs, ReadsAs, Writes
 pub passed : {X R O : Type 0} (F : X → R) (out : R → O) (x y : X) (r : R) (o : O) → x ≡ y → r ≡ F x → o ≡ out r → o ≡ out (F y)
 passed F out x y r o e f g = g ∙ ap out (f ∙ ap F e)
 
-pub ends-as : (F : Shape → Ended) (x y : Shape) (r : Rounded) (l w : List Float) (o : CRounded) → x ≡ y → record { result = r; chain = l; scratch = w } ≡ F x → o ≡ roundedOut r → EndsAs (F y) o l w
-ends-as F x y r l w o e f g =
-    let h : record { result = r; chain = l; scratch = w } ≡ F y = f ∙ ap F e in
+-- c is how it is cut
+pub ends-as : (F : Shape → Cutting → Ended) (x y : Shape) (c d : Cutting) (r : Rounded) (l w : List Float) (o : CRounded)
+    → x ≡ y → c ≡ d → record { result = r; chain = l; scratch = w } ≡ F x c → o ≡ roundedOut r → EndsAs (F y d) o l w
+ends-as F x y c d r l w o e e' f g =
+    let h : record { result = r; chain = l; scratch = w } ≡ F y d = f ∙ ap (λ (z : Shape). F z c) e ∙ ap (λ (z : Cutting). F y z) e' in
     record {
       result = g ∙ ap (λ (z : Ended). roundedOut (z .result)) h;
       chain = ap (λ (z : Ended). z .chain) h;
@@ -64,9 +67,9 @@ pub step-lent : (t : Settings) (s : Shape) (n : ℕ) (xs : List CAxis) (l w : Li
 step-lent t s n xs l w = ap (λ (k : ℕ). stepOver t s k (gathered (lentOf n xs)) l w) (sym (counted n xs)) ∙ step-over t s (lentOf n xs) l w
 
 pub evolve-lent : (p : Course) (s : Shape) (n : ℕ) (xs : List CAxis) (l w : List Float)
-    → evolveOver (p .«t_final») (p .steps) (p .c) (p .eps) s n (gathered (lentOf n xs)) l w ≡ evolveCall (p .«t_final») (p .steps) (p .c) (p .eps) s (lentOf n xs) l w
+    → evolveOver (p .«t_final») (p .steps) (p .c) (p .cutting) s n (gathered (lentOf n xs)) l w ≡ evolveCall (p .«t_final») (p .steps) (p .c) (p .cutting) s (lentOf n xs) l w
 evolve-lent p s n xs l w =
-    ap (λ (k : ℕ). evolveOver (p .«t_final») (p .steps) (p .c) (p .eps) s k (gathered (lentOf n xs)) l w) (sym (counted n xs)) ∙ evolve-over (p .«t_final») (p .steps) (p .c) (p .eps) s (lentOf n xs) l w
+    ap (λ (k : ℕ). evolveOver (p .«t_final») (p .steps) (p .c) (p .cutting) s k (gathered (lentOf n xs)) l w) (sym (counted n xs)) ∙ evolve-over (p .«t_final») (p .steps) (p .c) (p .cutting) s (lentOf n xs) l w
 
 pub starts-as : (F : Shape → StartEnded) (x y : Shape) (r : Started) (l : List Float) (o : CFormed) → x ≡ y → (r ≡ F x .result) × (l ≡ F x .chain) → o ≡ startedOut r → StartsAs (F y) o l
 starts-as F x y r l o e f g = record {

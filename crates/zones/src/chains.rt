@@ -6,9 +6,10 @@ ghost use Rattle.view.specs.View.{viewOf, seen};
 ghost use Rattle.sumform.specs.Start.{startCall};
 ghost use Rattle.sumform.specs.Call.{innerCall};
 ghost use Rattle.cutform.specs.Call.{roundCall};
-ghost use Rattle.records.specs.Given.{shapeIn};
+ghost use Rattle.records.specs.Given.{shapeIn, cuttingIn};
 ghost use Rattle.records.specs.Told.{refusalOf, figureOut, seenOut};
 ghost use Rattle.zones.specs.Ends.{EndsAs, StartsAs};
+use records::given::CCutting;
 use records::given::CShape;
 use records::told;
 
@@ -62,12 +63,14 @@ pub extern "C" fn uyavsker_inner_separable(
 #[no_mangle]
 pub extern "C" fn uyavsker_tt_round(
     s: CShape,
-    eps: f64,
+    cutting: CCutting,
     chain: &mut [f64],
     scratch: &mut [f64],
 ) -> told::CRounded
-    ensures { λ r. ⌜ EndsAs (roundCall (shapeIn s) eps (now (chain .entry)) (now (scratch .entry))) r (now (chain .exit)) (now (scratch .exit)) ⌝ }
+    ensures { λ r. ⌜ EndsAs (roundCall (shapeIn s) (cuttingIn cutting) (now (chain .entry)) (now (scratch .entry)))
+        r (now (chain .exit)) (now (scratch .exit)) ⌝ }
 {
     let shape = records::given::shape_in(s);
-    told::rounded_out(rounding::tt_round(shape, eps, chain, scratch))
+    let way = records::given::cutting_in(cutting);
+    told::rounded_out(rounding::tt_round(shape, way, chain, scratch))
 }

@@ -1,5 +1,5 @@
 //! A plan of two zones: its figure, its file and its rounding; of one zone: a step, and a run with new weights.
-use uyavsker::{text_of, Axis, Chain, Refusal, Run, Settings, Shape};
+use uyavsker::{text_of, Axis, Chain, Cutting, Refusal, Run, Settings, Shape};
 
 fn print_numbers(name: &str, numbers: &[f64]) {
     let words: Vec<String> = numbers.iter().map(f64::to_string).collect();
@@ -19,7 +19,7 @@ fn print_file(chain: &Chain) -> Result<(), Refusal> {
 const SETTINGS: Settings = Settings {
     tau: 1.0,
     c: 0.0,
-    eps: 0.0,
+    cutting: Cutting { eps: 0.0 },
 };
 
 const AXIS: Axis = Axis {
@@ -53,10 +53,11 @@ fn main() -> Result<(), Refusal> {
     let mut chain = Chain::new(shape, vec![3.0, 0.0, 0.0, 4.0, 1.0, 1.0])?;
     println!("figure {}", chain.inner(&weights)?);
     print_file(&chain)?;
-    let rounded = chain.round(0.0)?;
+    let rounded = chain.round(&SETTINGS.cutting)?;
     print_numbers("rounded", chain.numbers());
-    let settled = if rounded.settled()[0] { "yes" } else { "no" };
-    println!("sweeps {}, settled {settled}", rounded.sweeps()[0]);
+    let bond = rounded.bonds()[0];
+    let settled = if bond.settled { "yes" } else { "no" };
+    println!("sweeps {}, settled {settled}", bond.sweeps);
     println!("figure {}", chain.inner(&weights)?);
     let (one_zone, numbers) = (Shape::new(&[(1, 4, 1)])?, [4.0, 8.0, 16.0, 0.0]);
     print_step(one_zone, &numbers)?;

@@ -1,7 +1,7 @@
 //! The calls over slices that the caller lends. Refusal 5 gives the position of a slice in the order of docs/CALLS.md.
 use crate::layout;
 use crate::raw;
-use crate::records::{listed, Axis, Course, Paired, Rounded, Settings};
+use crate::records::{listed, Axis, Course, Cutting, Paired, Rounded, Settings};
 use crate::refusal::Refusal;
 use crate::shape::{unchecked, Shape};
 
@@ -55,11 +55,11 @@ pub fn inner_separable(shape: &Shape, chain: &[f64], weights: &[f64]) -> Result<
 /// Rounds a chain, bond by bond from the left; it ends packed at the front of its slice, the rest +0.
 pub fn tt_round(
     shape: &Shape,
-    eps: f64,
+    cutting: &Cutting,
     chain: &mut [f64],
     scratch: &mut [f64],
 ) -> Result<Rounded, Refusal> {
-    Rounded::of(raw::tt_round(shape.raw, eps, chain, scratch))
+    Rounded::of(raw::tt_round(shape.raw, *cutting, chain, scratch))
 }
 
 /// One step of a chain, with one record per axis.

@@ -1,6 +1,6 @@
 //! A chain that owns its numbers and the scratch for its calls.
 use crate::calls;
-use crate::records::{Axis, Course, Rounded, Settings};
+use crate::records::{Axis, Course, Cutting, Rounded, Settings};
 use crate::refusal::Refusal;
 use crate::shape::Shape;
 
@@ -80,8 +80,8 @@ impl Chain {
     }
 
     /// Rounds the chain; refused, it is as it was.
-    pub fn round(&mut self, eps: f64) -> Result<Rounded, Refusal> {
-        let rounded = calls::tt_round(&self.shape, eps, &mut self.numbers, &mut self.scratch)?;
+    pub fn round(&mut self, cutting: &Cutting) -> Result<Rounded, Refusal> {
+        let rounded = calls::tt_round(&self.shape, cutting, &mut self.numbers, &mut self.scratch)?;
         Ok(self.packed(rounded))
     }
 

@@ -1,5 +1,5 @@
 //! The records as C has them, with the layout that face/layout.c states too.
-use crate::records::{Axis, Course, Settings};
+use crate::records::{Axis, Bond, Course, Cutting, Settings};
 use std::mem::{offset_of, size_of};
 
 pub const MOST_AXES: usize = 16;
@@ -40,8 +40,7 @@ pub struct Sizes {
 pub struct Rounded {
     pub refusal: Refusal,
     pub shape: Shape,
-    pub sweeps: [usize; MOST_AXES],
-    pub settled: [bool; MOST_AXES],
+    pub bonds: [Bond; MOST_AXES],
 }
 
 #[repr(C)]
@@ -79,9 +78,7 @@ pub struct Run {
     pub shape: Shape,
     pub axes: [Axis; MOST_AXES],
     pub settings: Settings,
-    pub ranks: [usize; MOST_AXES],
-    pub sweeps: [usize; MOST_AXES],
-    pub settled: [bool; MOST_AXES],
+    pub bonds: [Bond; MOST_AXES],
     pub figure: f64,
 }
 
@@ -100,21 +97,22 @@ const _: () = {
     assert!(offset_of!(Axis, xmin) == 16 && offset_of!(Axis, xmax) == 24);
     assert!(size_of::<Axes>() == 512);
     assert!(size_of::<Settings>() == 24 && offset_of!(Settings, c) == 8);
-    assert!(offset_of!(Settings, eps) == 16);
+    assert!(offset_of!(Settings, cutting) == 16 && size_of::<Cutting>() == 8);
     assert!(size_of::<Course>() == 32 && offset_of!(Course, steps) == 8);
-    assert!(offset_of!(Course, c) == 16 && offset_of!(Course, eps) == 24);
+    assert!(offset_of!(Course, c) == 16 && offset_of!(Course, cutting) == 24);
     assert!(size_of::<Sizes>() == 24 && offset_of!(Sizes, n) == 8);
     assert!(offset_of!(Sizes, right) == 16);
-    assert!(size_of::<Rounded>() == 552 && offset_of!(Rounded, shape) == 16);
-    assert!(offset_of!(Rounded, sweeps) == 408 && offset_of!(Rounded, settled) == 536);
+    assert!(size_of::<Bond>() == 24 && offset_of!(Bond, rank) == 0);
+    assert!(offset_of!(Bond, sweeps) == 8 && offset_of!(Bond, settled) == 16);
+    assert!(size_of::<Rounded>() == 792 && offset_of!(Rounded, shape) == 16);
+    assert!(offset_of!(Rounded, bonds) == 408);
     assert!(size_of::<Figure>() == 24 && offset_of!(Figure, value) == 16);
     assert!(size_of::<Formed>() == 408 && offset_of!(Formed, shape) == 16);
     assert!(size_of::<Paired>() == 32 && offset_of!(Paired, rank) == 16);
     assert!(offset_of!(Paired, passes) == 24);
     assert!(size_of::<Seen>() == 16 && offset_of!(Seen, value) == 8);
-    assert!(size_of::<Run>() == 1208 && offset_of!(Run, axes) == 392);
-    assert!(offset_of!(Run, settings) == 904 && offset_of!(Run, ranks) == 928);
-    assert!(offset_of!(Run, sweeps) == 1056 && offset_of!(Run, settled) == 1184);
-    assert!(offset_of!(Run, figure) == 1200);
-    assert!(size_of::<Ran>() == 1224 && offset_of!(Ran, run) == 16);
+    assert!(size_of::<Run>() == 1320 && offset_of!(Run, axes) == 392);
+    assert!(offset_of!(Run, settings) == 904 && offset_of!(Run, bonds) == 928);
+    assert!(offset_of!(Run, figure) == 1312);
+    assert!(size_of::<Ran>() == 1336 && offset_of!(Ran, run) == 16);
 };

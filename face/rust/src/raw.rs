@@ -1,7 +1,7 @@
 //! The functions of the archive, and all unsafe code. What a function asks is that its slices are as long as said and that a
 //! written one overlaps no other, which references ensure.
 use crate::layout::*;
-use crate::records::{Axis, Course, Settings};
+use crate::records::{Axis, Course, Cutting, Settings};
 
 mod c {
     use super::*;
@@ -36,7 +36,7 @@ mod c {
         ) -> Figure;
         pub fn uyavsker_tt_round(
             shape: Shape,
-            eps: f64,
+            cutting: Cutting,
             chain: *mut f64,
             chain_len: usize,
             scratch: *mut f64,
@@ -199,9 +199,18 @@ pub fn inner_separable(shape: Shape, chain: &[f64], weights: &[f64]) -> Figure {
     unsafe { c::uyavsker_inner_separable(shape, x.as_ptr(), x.len(), w.as_ptr(), w.len()) }
 }
 
-pub fn tt_round(shape: Shape, eps: f64, chain: &mut [f64], scratch: &mut [f64]) -> Rounded {
+pub fn tt_round(shape: Shape, cutting: Cutting, chain: &mut [f64], scratch: &mut [f64]) -> Rounded {
     let (x, s) = (chain, scratch);
-    unsafe { c::uyavsker_tt_round(shape, eps, x.as_mut_ptr(), x.len(), s.as_mut_ptr(), s.len()) }
+    unsafe {
+        c::uyavsker_tt_round(
+            shape,
+            cutting,
+            x.as_mut_ptr(),
+            x.len(),
+            s.as_mut_ptr(),
+            s.len(),
+        )
+    }
 }
 
 pub fn step(

@@ -14,13 +14,20 @@ pub struct Axis {
     pub xmax: f64,
 }
 
+/// How a cut is made: kept is what lies above eps times the largest value.
+#[repr(C)]
+#[derive(Clone, Copy, Debug, PartialEq)]
+pub struct Cutting {
+    pub eps: f64,
+}
+
 /// The lone settings of a step.
 #[repr(C)]
 #[derive(Clone, Copy, Debug, PartialEq)]
 pub struct Settings {
     pub tau: f64,
     pub c: f64,
-    pub eps: f64,
+    pub cutting: Cutting,
 }
 
 /// Steps one after another: how far, in how many (1 to 10,000), and the lone settings of each.
@@ -30,7 +37,19 @@ pub struct Course {
     pub t_final: f64,
     pub steps: usize,
     pub c: f64,
-    pub eps: f64,
+    pub cutting: Cutting,
+}
+
+/// What is said of a bond.
+#[repr(C)]
+#[derive(Clone, Copy, Debug, PartialEq, Eq)]
+pub struct Bond {
+    /// The rank that is kept.
+    pub rank: usize,
+    /// The sweeps made.
+    pub sweeps: usize,
+    /// Whether the sum is below 1e-30 at their end.
+    pub settled: bool,
 }
 
 /// What a call that rounds answers.
@@ -38,28 +57,21 @@ pub struct Course {
 pub struct Rounded {
     /// The chain's shape at the end.
     pub shape: Shape,
-    sweeps: [usize; MOST_AXES],
-    settled: [bool; MOST_AXES],
+    bonds: [Bond; MOST_AXES],
 }
 
 impl Rounded {
     pub(crate) fn of(told: layout::Rounded) -> Result<Rounded, Refusal> {
         let rounded = Rounded {
             shape: Shape { raw: told.shape },
-            sweeps: told.sweeps,
-            settled: told.settled,
+            bonds: told.bonds,
         };
         Refusal::or(told.refusal, rounded)
     }
 
-    /// The sweeps made at each bond.
-    pub fn sweeps(&self) -> &[usize] {
-        self.shape.of_bonds(&self.sweeps)
-    }
-
-    /// Whether the sum is below 1e-30 at the end, for each bond.
-    pub fn settled(&self) -> &[bool] {
-        self.shape.of_bonds(&self.settled)
+    /// What is said of each bond.
+    pub fn bonds(&self) -> &[Bond] {
+        self.shape.of_bonds(&self.bonds)
     }
 }
 

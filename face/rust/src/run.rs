@@ -1,7 +1,7 @@
 //! A kept run that owns its slices.
 use crate::layout;
 use crate::raw;
-use crate::records::{listed, Axis, Settings};
+use crate::records::{listed, Axis, Bond, Settings};
 use crate::refusal::Refusal;
 use crate::shape::Shape;
 
@@ -143,22 +143,8 @@ impl Run {
         &self.kept.sums
     }
 
-    /// The rank that each bond keeps.
-    pub fn ranks(&self) -> &[usize] {
-        self.bonds(&self.record.ranks)
-    }
-
-    /// The sweeps made at each bond.
-    pub fn sweeps(&self) -> &[usize] {
-        self.bonds(&self.record.sweeps)
-    }
-
-    /// Whether the sum is below 1e-30 at the end, for each bond.
-    pub fn settled(&self) -> &[bool] {
-        self.bonds(&self.record.settled)
-    }
-
-    fn bonds<'a, T>(&self, entries: &'a [T; crate::MOST_AXES]) -> &'a [T] {
-        self.shape().of_bonds(entries)
+    /// What is said of each bond.
+    pub fn bonds(&self) -> &[Bond] {
+        self.shape().of_bonds(&self.record.bonds)
     }
 }

@@ -41,19 +41,21 @@ fn a_rounding() {
     let shape = shape_of_d();
     let mut chain = D;
     let mut scratch = vec![7.5; shape.scratch()];
-    let rounded = tt_round(&shape, 0.0, &mut chain, &mut scratch).unwrap();
+    let rounded = tt_round(&shape, &Cutting { eps: 0.0 }, &mut chain, &mut scratch).unwrap();
     assert_eq!(chain, [0.0, 1.0, 1.0, 0.0, 4.0, 3.0]);
-    assert_eq!(
-        (rounded.sweeps(), rounded.settled()),
-        (&[0][..], &[true][..])
-    );
+    let bond = Bond {
+        rank: 2,
+        sweeps: 0,
+        settled: true,
+    };
+    assert_eq!(rounded.bonds(), [bond]);
     assert!(scratch.iter().all(|x| *x == 0.0));
 }
 
 #[test]
 fn a_rounding_that_cuts() {
     let mut chain = Chain::new(shape_of_d(), D.to_vec()).unwrap();
-    let rounded = chain.round(0.75).unwrap();
+    let rounded = chain.round(&Cutting { eps: 0.75 }).unwrap();
     assert_eq!(rounded.shape, Shape::new(&[(1, 2, 1), (1, 1, 1)]).unwrap());
     assert_eq!(
         (chain.shape(), chain.numbers()),
@@ -103,7 +105,7 @@ fn a_step() {
     let settings = Settings {
         tau: 1.0,
         c: 0.0,
-        eps: 0.0,
+        cutting: Cutting { eps: 0.0 },
     };
     let mut chain = [4.0, 8.0, 16.0, 0.0];
     let mut scratch = vec![0.0; shape.scratch()];
@@ -124,7 +126,7 @@ fn steps_of_a_course_are_single_steps() {
             t_final: 2.0,
             steps: 2,
             c: 0.5,
-            eps: 0.0,
+            cutting: Cutting { eps: 0.0 },
         },
         &[AXIS],
     )
@@ -132,7 +134,7 @@ fn steps_of_a_course_are_single_steps() {
     let settings = Settings {
         tau: 1.0,
         c: 0.5,
-        eps: 0.0,
+        cutting: Cutting { eps: 0.0 },
     };
     twice.step(&settings, &[AXIS]).unwrap();
     twice.step(&settings, &[AXIS]).unwrap();
@@ -142,7 +144,7 @@ fn steps_of_a_course_are_single_steps() {
             t_final: 2.0,
             steps: 0,
             c: 0.5,
-            eps: 0.0,
+            cutting: Cutting { eps: 0.0 },
         },
         &[AXIS],
     );

@@ -65,16 +65,21 @@ fn a_figure_of_slices_of_one_length() {
     );
 }
 
+// What is said of the ladder's bonds, where `all` says whether all sweeps are made at one.
+fn bonds(all: impl Fn(usize) -> bool) -> Vec<Bond> {
+    let bond = |k| Bond {
+        rank: kept_rank(k),
+        sweeps: if all(k) { 50 } else { 0 },
+        settled: !all(k),
+    };
+    (0..LAST).map(bond).collect()
+}
+
 // Holds what a call answers, and the slices it was lent, to the ladder after so many roundings.
 fn assert_rounded(rounded: &Rounded, lent: (&[f64], &[f64]), times: usize, entry: Entry) {
     let kept = cores(kept_rank);
     let all = |k: usize| sweeps_all(k) && (times == 1 || kept_rank(k) > 1);
-    let sweeps: Vec<usize> = (0..LAST).map(|k| if all(k) { 50 } else { 0 }).collect();
-    let settled: Vec<bool> = (0..LAST).map(|k| !all(k)).collect();
-    assert_eq!(
-        (rounded.sweeps(), rounded.settled()),
-        (&sweeps[..], &settled[..])
-    );
+    assert_eq!(rounded.bonds(), bonds(all));
     assert!(rounded.shape.cores().eq(kept.clone()));
     let mut chain = numbers(&kept, &kept, entry);
     chain.resize(lent.0.len(), 0.0);
@@ -86,7 +91,7 @@ fn assert_rounded(rounded: &Rounded, lent: (&[f64], &[f64]), times: usize, entry
 fn a_rounding() {
     let shape = shape(source_rank);
     let (mut chain, mut scratch) = (source(), counting(shape.scratch(), 5e5));
-    let round = |x: &mut [f64], s: &mut [f64]| tt_round(&shape, SETTINGS.eps, x, s);
+    let round = |x: &mut [f64], s: &mut [f64]| tt_round(&shape, &SETTINGS.cutting, x, s);
     assert_eq!(round(&mut chain[1..], &mut scratch), refused(5, 0));
     assert_eq!(round(&mut chain, &mut scratch[1..]), refused(5, 1));
     let rounded = round(&mut chain, &mut scratch).unwrap();
@@ -115,7 +120,7 @@ fn a_course() {
         t_final: 8.0,
         steps: 2,
         c: SETTINGS.c,
-        eps: SETTINGS.eps,
+        cutting: SETTINGS.cutting,
     };
     let made = |r: &[Axis], x: &mut [f64], s: &mut [f64]| evolve(&shape, &course, r, x, s);
     assert_eq!(made(&records[1..], &mut chain, &mut scratch), refused(5, 0));
@@ -185,16 +190,8 @@ impl Wanted {
     }
 
     fn assert_is(&self, run: &Run) {
-        let ranks: Vec<usize> = (0..LAST).map(kept_rank).collect();
-        let sweeps: Vec<usize> = (0..LAST)
-            .map(|k| if sweeps_all(k) { 50 } else { 0 })
-            .collect();
-        let settled: Vec<bool> = (0..LAST).map(|k| !sweeps_all(k)).collect();
-        assert_eq!((run.ranks(), run.sweeps()), (&ranks[..], &sweeps[..]));
-        assert_eq!(
-            (run.settled(), run.shape()),
-            (&settled[..], shape(source_rank))
-        );
+        assert_eq!(run.bonds(), bonds(sweeps_all));
+        assert_eq!(run.shape(), shape(source_rank));
         assert_eq!((run.axes(), run.settings()), (&self.axes[..], &SETTINGS));
         assert_eq!(
             (run.source(), run.weights()),
@@ -275,7 +272,7 @@ fn a_run_of_slices_of_one_length() {
     let settings = Settings {
         tau: 0.0,
         c: 0.0,
-        eps: 0.0,
+        cutting: Cutting { eps: 0.0 },
     };
     let source = vec![3.0, 0.0, 0.0, 4.0, 1.0, 1.0];
     let mut run = Run::fresh(

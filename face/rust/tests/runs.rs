@@ -1,10 +1,10 @@
 //! Kept runs: what a replacement leaves is the fresh run on the present inputs.
-use uyavsker::{Axis, Refusal, Run, Settings, Shape};
+use uyavsker::{Axis, Cutting, Refusal, Run, Settings, Shape};
 
 const SETTINGS: Settings = Settings {
     tau: 0.5,
     c: 0.25,
-    eps: 1e-12,
+    cutting: Cutting { eps: 1e-12 },
 };
 
 const AXES: [Axis; 3] = [
@@ -50,8 +50,7 @@ fn first() -> Run {
 fn assert_same(run: &Run, other: &Run) {
     assert_eq!(run.figure().to_bits(), other.figure().to_bits());
     assert_eq!(run.stepped(), other.stepped());
-    assert_eq!((run.ranks(), run.sweeps()), (other.ranks(), other.sweeps()));
-    assert_eq!(run.settled(), other.settled());
+    assert_eq!(run.bonds(), other.bonds());
     assert_eq!(
         (run.source(), run.weights()),
         (other.source(), other.weights())
@@ -65,7 +64,7 @@ fn a_fresh_run_is_a_step_and_its_figure() {
     let settings = Settings {
         tau: 1.0,
         c: 0.0,
-        eps: 0.0,
+        cutting: Cutting { eps: 0.0 },
     };
     let axis = Axis {
         a: 0.25,

@@ -6,10 +6,10 @@ use Rattle.days.proofs.turns.room_clear.Statement.{statement}
 use Rattle.days.proofs.turns.room_clear.Tie as tie
 
 abbrev Inv-loop : tie.InvT-loop
-Inv-loop held s ranks left₀ all₀ k₀ left all k = k ≤ mostAxes
+Inv-loop held s bonds left₀ all₀ k₀ left all k = k ≤ mostAxes
 
 abbrev μ-loop : tie.MeasureT-loop
-μ-loop held s ranks left₀ all₀ k₀ left all k = mostAxes - k
+μ-loop held s bonds left₀ all₀ k₀ left all k = mostAxes - k
 
 pub room-clear-spec : {M : Type 1} → statement M
 room-clear-spec = tie.close (tie.spec

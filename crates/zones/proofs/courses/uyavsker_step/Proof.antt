@@ -1,4 +1,4 @@
--- `zones::steps::uyavsker_step`: shape, settings and axes turned into the core's, the call over the axes lent (step-lent), and its answer turned back (steps-as).
+-- `zones::courses::uyavsker_step`: shape, settings and axes turned into the core's, the call over the axes lent (step-lent), and its answer turned back (steps-as).
 use borrow.Author.Needs.{needs}
 use mathlib.Core.List.{List}
 use Rattle.shape.specs.declared.Shape.{Shape}
@@ -7,8 +7,8 @@ use Rattle.stepform.specs.declared.Settings.{Settings}
 use Rattle.stepform.specs.Call.{stepOver}
 use Rattle.records.specs.Given.{shapeIn, settingsIn}
 use Rattle.zones.proofs.Faces.{steps-as, step-lent}
-use Rattle.zones.proofs.steps.uyavsker_step.Statement.{statement}
-use Rattle.zones.proofs.steps.uyavsker_step.Tie as tie
+use Rattle.zones.proofs.courses.uyavsker_step.Statement.{statement}
+use Rattle.zones.proofs.courses.uyavsker_step.Tie as tie
 
 returns : tie.Need-returns
 returns c =

@@ -1,6 +1,6 @@
 // A step, and steps one after another. The axis records come by value, with how many of them are lent.
 ghost use Rattle.stepform.specs.Call.{stepCall, evolveCall};
-ghost use Rattle.records.specs.Given.{shapeIn, lentOf, settingsIn};
+ghost use Rattle.records.specs.Given.{shapeIn, lentOf, cuttingIn, settingsIn};
 ghost use Rattle.zones.specs.Ends.{EndsAs};
 use records::given;
 use records::told;
@@ -33,7 +33,7 @@ pub extern "C" fn uyavsker_evolve(
     chain: &mut [f64],
     scratch: &mut [f64],
 ) -> told::CRounded
-    ensures { λ r. ⌜ EndsAs (evolveCall (p .«t_final») (p .steps) (p .c) (p .eps) (shapeIn s) (lentOf count (xs .axis))
+    ensures { λ r. ⌜ EndsAs (evolveCall (p .«t_final») (p .steps) (p .c) (cuttingIn (p .cutting)) (shapeIn s) (lentOf count (xs .axis))
         (now (chain .entry)) (now (scratch .entry))) r (now (chain .exit)) (now (scratch .exit)) ⌝ }
 {
     let axis = xs.axis;
