@@ -3,6 +3,7 @@ pub mod factors;
 pub mod strips;
 pub mod sweeps;
 pub mod values;
+
 ghost use mathlib.Core.Path.{_≡_};
 ghost use mathlib.Core.List.{_++_};
 ghost use Prim.Native.Nat.{_*_, _≤_};

@@ -2,6 +2,7 @@
 pub mod body;
 pub mod contents;
 pub mod making;
+
 ghost use mathlib.Core.Path.{_≡_};
 ghost use Prim.Native.Nat.{_≤_};
 ghost use lib.ListN.{length};
@@ -15,7 +16,6 @@ use answers::Refusal;
 use answers::Verdict;
 use fileform::Read;
 use shape::Shape;
-
 
 // The file's length, then the room.
 fn lengths_ok(s: Shape, bytes: usize, room: usize) -> Verdict

@@ -1,5 +1,6 @@
 // What a call over a chain asks before it works.
 pub mod settings;
+
 ghost use mathlib.Core.Path.{_≡_};
 ghost use Prim.Native.Nat.{_≤_};
 ghost use lib.ListN.{length};
@@ -59,11 +60,7 @@ pub fn cutting_ok(cutting: cutform::Cutting) -> bool
 }
 
 // Refusal 6: how it is cut, then the first core with a number that isn't finite.
-fn round_finite(
-    s: shape::Shape,
-    cutting: cutform::Cutting,
-    chain: &[f64],
-) -> answers::Verdict
+fn round_finite(s: shape::Shape, cutting: cutform::Cutting, chain: &[f64]) -> answers::Verdict
     requires { ⌜ SizesWithin s ⌝ }
     requires { ⌜ entriesOf s ≤ length (now chain) ⌝ }
     ensures { λ r. ⌜ r ≡ verdictOf (roundFinite s cutting (now (chain .entry))) ⌝ }

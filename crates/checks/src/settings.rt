@@ -75,7 +75,11 @@ pub fn axis_reaches(
 }
 
 // The first axis whose shift is too far, or d.
-fn first_too_far(set: stepform::Settings, s: shape::Shape, xs: [stepform::Axis; shape::MOST_AXES]) -> usize
+fn first_too_far(
+    set: stepform::Settings,
+    s: shape::Shape,
+    xs: [stepform::Axis; shape::MOST_AXES],
+) -> usize
     requires { ⌜ PointsWithin s ⌝ }
     ensures { λ r. ⌜ r ≡ firstNot (axisReaches set s xs) (s .d) ⌝ }
 {

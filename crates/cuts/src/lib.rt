@@ -1,6 +1,7 @@
 // The rounding of the zones from one on, in place: every core stands in the room where its source begins, the carry of each bond
 // in a slot of its own.
 pub mod zone;
+
 ghost use mathlib.Core.Path.{_≡_};
 ghost use mathlib.Core.Bool.{cond};
 ghost use Prim.Native.Nat.{_+_, _-_, _*_, _≤_, _<_};

@@ -4,6 +4,7 @@ pub mod parts;
 pub mod refusals;
 pub mod slabs;
 pub mod split;
+
 ghost use mathlib.Core.Path.{_≡_};
 ghost use Prim.Native.Nat.{_*_, _≤_};
 ghost use lib.ListN.{length, take};
@@ -17,7 +18,6 @@ ghost use Rattle.pairform.specs.Splits.{pairOf};
 ghost use Rattle.pairform.specs.Call.{coreOf, pairOk, pairBy, pairCall};
 ghost use Rattle.pair.specs.Loops.{Lines};
 use pairform::Sizes;
-
 
 // The new cores' numbers, at the fronts of x and y.
 fn pair_of(

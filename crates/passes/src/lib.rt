@@ -3,6 +3,7 @@
 // Two rows of a pass go in step, the second a column behind the first: their four columns differ, so neither waits for the other.
 pub mod careful;
 pub mod counted;
+
 ghost use mathlib.Core.Path.{_≡_};
 ghost use mathlib.Core.Bool.{Bool, true, false, _&&_};
 ghost use Prim.Native.Nat.{_+_, _-_, _*_, _≤_, _<_};

@@ -2,6 +2,7 @@
 pub mod contraction;
 pub mod start;
 pub mod sums;
+
 ghost use mathlib.Core.Path.{_≡_};
 ghost use Prim.Native.Nat.{_≤_};
 ghost use lib.ListN.{length};

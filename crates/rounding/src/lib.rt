@@ -1,5 +1,6 @@
 // Rounding a chain: what the call answers.
 pub mod packing;
+
 ghost use mathlib.Core.Path.{_≡_};
 ghost use Prim.Native.Nat.{_≤_};
 ghost use lib.ListN.{length, replicate, take};
@@ -52,12 +53,7 @@ fn rounded_of(w: cuts::Walked) -> Rounded
 }
 
 // The end of a call that rounds: where nothing was refused the chain is written, and scratch is +0 in any case.
-pub fn finish(
-    s: shape::Shape,
-    w: cuts::Walked,
-    chain: &mut [f64],
-    scratch: &mut [f64],
-) -> Rounded
+pub fn finish(s: shape::Shape, w: cuts::Walked, chain: &mut [f64], scratch: &mut [f64]) -> Rounded
     requires { ⌜ SizesWithin s ⌝ }
     requires { ⌜ (w .verdict ≡ Fits → Inside s (w .shape)) × (entriesOf s ≤ length (now chain)) × (entriesOf s ≤ length (now scratch)) ⌝ }
     ensures { λ r. ⌜ record { result = r; chain = now (chain .exit); scratch = now (scratch .exit) }

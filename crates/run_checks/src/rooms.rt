@@ -22,7 +22,12 @@ fn front_finite(l: &[f64], at: usize, used: usize) -> bool
     lists::all_finite(&l[at..end])
 }
 
-fn core_held(s: shape::Shape, bonds: [cutform::Bond; shape::MOST_AXES], chain: &[f64], k: usize) -> bool
+fn core_held(
+    s: shape::Shape,
+    bonds: [cutform::Bond; shape::MOST_AXES],
+    chain: &[f64],
+    k: usize,
+) -> bool
     requires { ⌜ (SizesWithin s) × (shapeOk s (rankOk s bonds) ≡ done tt) × (k < s .d) × (entriesOf s ≤ length (now chain)) ⌝ }
     ensures { λ r. ⌜ r ≡ coreHeld s bonds (now (chain .entry)) k ⌝ }
 {
@@ -87,7 +92,12 @@ pub fn first_bad_carry(
     k
 }
 
-fn sums_held(s: shape::Shape, bonds: [cutform::Bond; shape::MOST_AXES], sums: &[f64], k: usize) -> bool
+fn sums_held(
+    s: shape::Shape,
+    bonds: [cutform::Bond; shape::MOST_AXES],
+    sums: &[f64],
+    k: usize,
+) -> bool
     requires { ⌜ (SizesWithin s) × (shapeOk s (rankOk s bonds) ≡ done tt) × (k < s .d) × (allSums s ≤ length (now sums)) ⌝ }
     ensures { λ r. ⌜ r ≡ sumsHeld s bonds (now (sums .entry)) k ⌝ }
 {

@@ -1,5 +1,6 @@
 // The shift of one core along its axis, and the scaling of core 0.
 pub mod bands;
+
 ghost use mathlib.Core.Path.{_≡_};
 ghost use mathlib.Core.Bool.{true};
 ghost use Prim.Native.Nat.{_+_, _*_, _<_, _≤_};

@@ -1,6 +1,7 @@
 // A step of the zones from any one on, in place, and steps one after another over a whole chain.
 pub mod moves;
 pub mod shifts;
+
 ghost use mathlib.Core.Path.{_≡_};
 ghost use mathlib.Core.Bool.{true};
 ghost use Prim.Native.Nat.{ℕ, _-_, _≤_, _<_};
