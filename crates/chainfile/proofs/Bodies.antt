@@ -17,7 +17,7 @@ use Rattle.answers.specs.Outcome.{done, verdictOf}
 use Rattle.numbers.specs.Arithmetic.{zero64}
 use Rattle.lists.specs.Lists.{firstNot}
 use Rattle.lists.specs.Slots.{offset, slot, fit}
-use Rattle.lists.specs.Floats.{at, allFinite, zeros}
+use Rattle.lists.specs.Floats.{allFinite, zeros}
 use Rattle.lists.proofs.Tables.{tab-is}
 use Rattle.lists.proofs.Slots.{offset-suc, offset-mono, slot-length, fit-whole}
 use Rattle.lists.proofs.Written.{getD-slot}

@@ -1,6 +1,6 @@
 -- What the inner functions cite: work in place, where core k stands in the room of core k of the source. Definitions for code only.
 use mathlib.Core.Path.{_≡_}
-use Prim.Native.Nat.{ℕ, _+_, _*_, _-_, _≤_, _<_}
+use Prim.Native.Nat.{ℕ, _-_, _≤_, _<_}
 use mathlib.Core.List.{List}
 use lib.ListN.{length, take, drop}
 use lib.Ieee.{Float}

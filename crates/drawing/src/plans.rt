@@ -1,5 +1,4 @@
 // What a day starts with: a shape, axis records and settings, drawn within the limits; and where the parts of its zones stand.
-ghost use Prim.Native.Nat.{_≤_};
 use crate::chance;
 
 // d cores of ranks up to `rank` and sizes up to `points`. What stands in the array places from d on means nothing.

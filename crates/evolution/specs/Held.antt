@@ -1,6 +1,6 @@
 -- The end of a call that steps. Definitions for code only.
 use mathlib.Core.Path.{_≡_}
-use Prim.Native.Nat.{ℕ, _-_}
+use Prim.Native.Nat.{ℕ}
 use mathlib.Core.List.{List}
 use lib.ListN.{length, take, replicate}
 use lib.Ieee.{Float}

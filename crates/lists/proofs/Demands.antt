@@ -6,7 +6,7 @@ use native.Mathlib.Omega.{arith}
 use mathlib.Core.Bool.{Bool, true, false, cond, not, _&&_, true≢false}
 use mathlib.Core.Logic.{⊎-elim}
 use Rattle.answers.specs.declared.Refusal.{Refusal}
-use Rattle.answers.specs.Outcome.{done, refused, Check, _then_, demand, demandEach}
+use Rattle.answers.specs.Outcome.{done, refused, Check, _then_, demandEach}
 use Rattle.answers.proofs.Checks.{demand-no, each-yes, each-from}
 use Rattle.lists.specs.Lists.{firstFrom, first, firstNot}
 use Rattle.lists.proofs.Tests.{not-no, not-yes, and-yes}

@@ -1,8 +1,7 @@
 -- Numbers that are finite by eight sums of every eighth of them. Assumes nothing.
-use mathlib.Core.Path.{_≡_, refl, sym, ap, _∙_, subst}
+use mathlib.Core.Path.{_≡_, refl, sym, ap, _∙_}
 use Prim.Native.Nat.{ℕ, zero, suc, _+_, _*_, _/_, _%_, _<_, _≤_}
 use native.Mathlib.Nat.{not-suc-le-zero, add-zero}
-use native.Mathlib.Numerals.{add-one}
 use native.Mathlib.Omega.{arith}
 use mathlib.Core.Bool.{Bool, true, _&&_}
 use mathlib.Core.List.{List}
@@ -11,7 +10,7 @@ use lib.Ieee.{Float}
 use Rattle.numbers.specs.Arithmetic.{plus, zero64}
 use Rattle.numbers.specs.Finite.{finite}
 use Rattle.lists.specs.Lists.{iter}
-use Rattle.lists.specs.Floats.{at, sumOn, sumTo, allFinite}
+use Rattle.lists.specs.Floats.{at, sumOn, sumTo}
 use Rattle.lists.proofs.Sums.{plus-finite, sum-same}
 use Rattle.lists.proofs.Tests.{both, below-or-not}
 use Rattle.lists.proofs.Seen.{Flag, flag-none, flag-more}

@@ -1,7 +1,7 @@
 -- What walks over parts refuses late where each part does. Assumes nothing.
 use Prim.Native.Nat.{ℕ, suc}
 use mathlib.Core.List.{List, [], _∷_}
-use Rattle.answers.specs.Outcome.{Answer, bind}
+use Rattle.answers.specs.Outcome.{Answer}
 use Rattle.answers.specs.Table.{Late}
 use Rattle.answers.proofs.Late.{late-done, late-bind}
 use Rattle.lists.specs.Walks.{walk, every}

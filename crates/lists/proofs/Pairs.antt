@@ -5,7 +5,7 @@ use native.Mathlib.Numerals.{add-one}
 use mathlib.Core.Bool.{Bool, true, false, _&&_, true≢false}
 use mathlib.Core.List.{List, [], _∷_, _++_}
 use Rattle.answers.specs.Outcome.{Outcome, done, bind}
-use Rattle.answers.proofs.Outcomes.{bind-assoc, bind-eta, bind-cong}
+use Rattle.answers.proofs.Outcomes.{bind-assoc, bind-cong}
 use Rattle.lists.specs.Lists.{listed, tab, flat, joined, pairs, folded, iter, iterFrom}
 use Rattle.lists.specs.Walks.{turning, along}
 use Rattle.lists.proofs.Loops.{iter-same}

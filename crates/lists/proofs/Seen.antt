@@ -7,11 +7,10 @@ use mathlib.Core.List.{List}
 use lib.ListN.{length, getD, drop, drop-of-length-le}
 use lib.Seq.{drop-cons}
 use lib.Ieee.{Float, nan}
-use Rattle.answers.specs.declared.Stage.{Stage}
 use Rattle.answers.specs.declared.Stage.the-variants.{Whole, Spilt}
 use Rattle.answers.specs.Outcome.{stageOf}
 use Rattle.numbers.specs.Finite.{finite}
-use Rattle.lists.specs.Lists.{pick, first}
+use Rattle.lists.specs.Lists.{pick}
 use Rattle.lists.specs.Floats.{at, allFinite, firstNotFinite, stored}
 use Rattle.lists.proofs.Firsts.{Clear, clear-none, clear-more, first-here, first-done}
 

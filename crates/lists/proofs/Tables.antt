@@ -6,7 +6,7 @@ use mathlib.Core.Logic.{⊎-elim}
 use native.Mathlib.Omega.{arith}
 use mathlib.Core.Path.{_≡_, refl, sym, ap, _∙_}
 use mathlib.Core.List.{List, [], _∷_, _++_, map, append-assoc, append-nil}
-use lib.ListN.{length, getD, set, take, drop, length-append, length-set, length-take, take-append-drop, List·getD-append, length-drop, drop-of-length-le}
+use lib.ListN.{length, getD, set, take, drop, length-append, take-append-drop, List·getD-append, length-drop, drop-of-length-le}
 use lib.Seq.{set-at, drop-cons, length-take-le, getD-at, getD-append-add, take-at, drop-append-add, drop-drop}
 use Rattle.lists.proofs.Cells.{cell-lt}
 use Rattle.lists.specs.Lists.{iter, listed, tab, flat, joined, grid}

@@ -1,6 +1,6 @@
 -- Each call's function for C by its name: its contract asks for nothing, and any two ends that it allows are equal. As in Calls.antt. Assumes nothing.
-use mathlib.Core.Path.{_≡_, refl}
-use mathlib.Core.List.{List, [], _∷_}
+use mathlib.Core.Path.{refl}
+use mathlib.Core.List.{[], _∷_}
 use lib.Ieee.{Float}
 use denote.Ref.{now}
 use Rattle.zones.proofs.scalars.uyavsker_root as root-call

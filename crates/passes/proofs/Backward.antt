@@ -2,26 +2,25 @@
 use mathlib.Core.Path.{_≡_, refl, sym, ap, _∙_, subst}
 use Prim.Native.Nat.{ℕ, zero, suc, _+_, _-_, _*_, _<_, _≤_}
 use native.Mathlib.Nat.{le-of-eq, zero-add}
-use native.Mathlib.Numerals.{add-one}
 use native.Mathlib.Omega.{arith}
-use mathlib.Core.Bool.{Bool, true, false, true≢false}
+use mathlib.Core.Bool.{Bool, true, false}
 use mathlib.Core.List.{List}
 use lib.Dec.{eqb}
 use lib.ListN.{length}
 use lib.Ieee.{Float, nan, inf, fin, binary64, neg, sub}
 use lib.Ieee.Fits.{mul-fits}
-use Rattle.numbers.specs.Arithmetic.{plus, minus, times, zero64}
+use Rattle.numbers.specs.Arithmetic.{minus, times, zero64}
 use Rattle.numbers.specs.Finite.{finite}
 use Rattle.numbers.proofs.Swaps.{times-swap}
 use Rattle.answers.specs.Outcome.{Made, done, refused, bind}
 use Rattle.lists.specs.Lists.{pick, iter, iterFrom}
-use Rattle.lists.specs.Floats.{at, cell, sumOn, sumTo, allFinite, stored}
+use Rattle.lists.specs.Floats.{at, cell, sumOn, sumTo, allFinite}
 use Rattle.lists.specs.Walks.{turning}
 use Rattle.lists.proofs.Cells.{cell-lt}
 use Rattle.lists.proofs.Floats.{finite-getD, stored-yes}
 use Rattle.lists.proofs.Sums.{plus-finite, times-finite, sum-finite}
-use Rattle.lists.proofs.Tables.{length-tab, getD-tab, length-grid, getD-grid, grid-is}
-use Rattle.lists.proofs.Tests.{eqb-is, eqb-not, eqb-no, eqb-yes}
+use Rattle.lists.proofs.Tables.{length-grid, getD-grid, grid-is}
+use Rattle.lists.proofs.Tests.{eqb-is, eqb-yes}
 use Rattle.lists.proofs.Pairs.{along-pairs}
 use Rattle.lists.proofs.Loops.{iter-same}
 use Rattle.cutform.specs.Rotation.{tangentOf, slopeOf, cosineOf, turnedAt}

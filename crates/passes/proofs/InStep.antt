@@ -1,16 +1,16 @@
 -- Two rows of a pass in step: turns of four different columns may change places. Assumes nothing.
 use mathlib.Core.Path.{_≡_, refl, sym, ap, _∙_}
-use Prim.Native.Nat.{ℕ, zero, suc, _+_, _-_, _*_, _<_, _≤_}
+use Prim.Native.Nat.{ℕ, zero, suc, _+_, _-_, _<_, _≤_}
 use native.Mathlib.Omega.{arith}
 use mathlib.Core.Bool.{Bool, true, false, _&&_}
 use mathlib.Core.List.{List}
 use lib.Dec.{eqb}
 use lib.Ieee.{Float, nan}
-use Rattle.numbers.specs.Arithmetic.{plus, minus, times}
+use Rattle.numbers.specs.Arithmetic.{times}
 use Rattle.lists.specs.Lists.{pick, iter, iterFrom}
 use Rattle.lists.specs.Floats.{at, cell}
 use Rattle.lists.proofs.Tables.{getD-grid, grid-same}
-use Rattle.lists.proofs.Tests.{eqb-is, eqb-not, eqb-no}
+use Rattle.lists.proofs.Tests.{eqb-is, eqb-no}
 use Rattle.lists.proofs.Sums.{sum-same}
 use Rattle.lists.proofs.Turns.{iter-more, from-none, from-more}
 use Rattle.cutform.specs.Rotation.{tangentOf, slopeOf, cosineOf, turnedAt}

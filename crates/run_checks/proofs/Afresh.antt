@@ -1,6 +1,6 @@
 -- The checks of a fresh run in a row, by what code finds on its way. Assumes nothing.
 use mathlib.Core.Path.{_≡_, refl, sym, ap, _∙_}
-use Prim.Native.Nat.{ℕ, _+_, _-_, _*_}
+use Prim.Native.Nat.{ℕ, _-_}
 use native.Mathlib.Nat.{sub-zero}
 use mathlib.Core.List.{[], _∷_}
 use lib.Dec.{eqb}

@@ -5,7 +5,7 @@ use native.Mathlib.Nat.{zero-add, mul-le-mul, mul-le-mul-right}
 use native.Mathlib.Omega.{arith}
 use mathlib.Core.Bool.{Bool, true, cond, _||_}
 use mathlib.Core.List.{List}
-use lib.ListN.{length, getD, take, drop}
+use lib.ListN.{length, take, drop}
 use lib.Seq.{take-take}
 use lib.Ieee.{Float}
 use mir.Syntax.{w64}

@@ -1,6 +1,6 @@
 -- The checks of a replacement in a row, by what code finds on its way. Assumes nothing.
 use mathlib.Core.Path.{_≡_, refl, sym, ap, _∙_}
-use Prim.Native.Nat.{ℕ, _+_, _-_, _*_, _<_}
+use Prim.Native.Nat.{ℕ, _-_, _<_}
 use mathlib.Core.Bool.{Bool, true}
 use mathlib.Core.List.{List}
 use lib.Dec.{ltb}
@@ -17,7 +17,7 @@ use Rattle.lists.proofs.Tests.{ltb-is}
 use Rattle.shape.specs.declared.Shape.{Shape}
 use Rattle.shape.specs.Limits.{scratchFor}
 use Rattle.shape.specs.Shapes.{shapeOk, entriesOf, pointsOf, coreSize, pointSize}
-use Rattle.stepform.specs.Axes.{axisFinite, axisOk, axisAt}
+use Rattle.stepform.specs.Axes.{axisFinite, axisOk}
 use Rattle.stepform.specs.declared.Axis.{Axis}
 use Rattle.stepform.specs.Zones.{Rules, rules}
 use Rattle.stepform.specs.Call.{axisReaches}

@@ -1,9 +1,9 @@
 -- The work from zone z on as memory has it: the sources of the zones from z on stand in the slots that take what is made of them. Definitions for code only.
 use mathlib.Core.Path.{_≡_}
-use Prim.Native.Nat.{ℕ, zero, suc, _-_, _≤_, _<_}
+use Prim.Native.Nat.{ℕ, suc, _-_, _≤_, _<_}
 use mathlib.Core.Bool.{true}
-use mathlib.Core.List.{List, _++_}
-use lib.ListN.{length, take, drop, getD}
+use mathlib.Core.List.{List}
+use lib.ListN.{length}
 use lib.Ieee.{Float}
 use Rattle.answers.specs.declared.Verdict.the-variants.{Fits}
 use Rattle.answers.specs.Outcome.{done}

@@ -1,9 +1,7 @@
 -- DEMAND 3 of the public calls, whole: the record `Holds` (specs/OnePage.antt) of every run that a fresh run and any replacements leave.
 use mathlib.Core.Path.{_≡_, subst, _∙_}
-use Prim.Native.Nat.{ℕ}
 use native.Mathlib.Nat.{zero-add}
 use native.Mathlib.Omega.{arith}
-use mathlib.Core.Bool.{false}
 use mathlib.Core.List.{List}
 use lib.ListN.{length, length-replicate}
 use lib.Ieee.{Float}

@@ -5,7 +5,7 @@ use mathlib.Core.Path.{_≡_}
 use mathlib.Core.Bool.{Bool, true, false}
 use mathlib.Core.List.{List, [], _∷_, _++_, map}
 use lib.IntN.{pos, negsuc}
-use lib.ListN.{take, replicate}
+use lib.ListN.{replicate}
 use lib.Ieee.{Float, fin, nan, binary64, toBits}
 use Rattle.numbers.specs.Arithmetic.{zero64, one64, two64}
 use Rattle.answers.specs.declared.Verdict.{Verdict}

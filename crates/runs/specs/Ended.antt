@@ -1,6 +1,5 @@
 -- The records of runs that a fresh run and a new axis record begin with. Definitions for code only.
 use Prim.Native.Nat.{ℕ}
-use mathlib.Core.Bool.{false}
 use mathlib.Core.List.{List}
 use lib.ListN.{replicate, set}
 use Rattle.numbers.specs.Arithmetic.{zero64}

@@ -8,7 +8,7 @@ use mir.Syntax.{w64}
 use mir.Val.{Fits}
 use Rattle.lists.specs.Slots.{offset}
 use Rattle.shape.specs.declared.Shape.{Shape}
-use Rattle.shape.specs.Limits.{mostAxes, mostPoints, mostRank, mostCore, mostEntries, mostWeights}
+use Rattle.shape.specs.Limits.{mostPoints, mostRank, mostCore, mostEntries, mostWeights}
 use Rattle.shape.specs.Shapes.{leftOf, pointsOf, rightOf, coreSize, pointSize, entriesOf, allPoints}
 use Rattle.shape.specs.Sizes.{PointsWithin, SizesWithin}
 

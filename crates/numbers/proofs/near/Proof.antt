@@ -8,8 +8,6 @@ use borrow.Author.Needs.{needs}
 use Rattle.numbers.proofs.TwoDigits.{high-square, cross, low-square, square}
 use Rattle.numbers.proofs.near.Statement.{statement}
 use Rattle.numbers.proofs.near.Tie as tie
-use Rattle.numbers.proofs.near.Reads as reads
-use Rattle.numbers.proofs.near.Lts as lts
 
 no : {A : Type 0} → false ≡ true → A
 no e = absurd (true≢false (sym e))

@@ -1,5 +1,5 @@
 -- `passes::abreast`: the invariant: before column q the columns, the basis and the flag are those of two rows in step, and so are the plans (step-more).
-use Prim.Native.Nat.{ℕ, _+_, _-_, _*_, _<_, _≤_}
+use Prim.Native.Nat.{_+_, _-_, _*_, _≤_}
 use native.Mathlib.Omega.{arith}
 use native.Mathlib.Nat.{le-antisymm}
 use mathlib.Core.Path.{_≡_, refl}

@@ -1,6 +1,5 @@
 -- `passes::last_rows`: the invariant: before row p the columns, the basis and the flag are those of p rows (iter-more).
-use Prim.Native.Nat.{ℕ, _+_, _-_, _*_, _<_, _≤_}
-use native.Mathlib.Omega.{arith}
+use Prim.Native.Nat.{_-_, _≤_}
 use mathlib.Core.Path.{_≡_, refl}
 use lib.ListN.{length}
 use Rattle.lists.proofs.Turns.{turns, iter-more, iter-done}

@@ -1,5 +1,5 @@
 -- `passes::row`: the invariant: after the pairs before q the columns, the basis and the flag are those of so many rotations, and the plan is that of (p, q).
-use Prim.Native.Nat.{ℕ, _+_, _-_, _*_, _<_, _≤_}
+use Prim.Native.Nat.{_+_, _-_, _<_, _≤_}
 use native.Mathlib.Omega.{arith}
 use mathlib.Core.Path.{_≡_, refl}
 use lib.ListN.{length}

@@ -1,5 +1,5 @@
 -- `passes::rows_in_step`: the invariant: before rows p and p + 1 the columns, the basis and the flag are those of p rows (iter-two).
-use Prim.Native.Nat.{ℕ, _+_, _-_, _*_, _<_, _≤_}
+use Prim.Native.Nat.{_-_, _≤_}
 use native.Mathlib.Omega.{arith}
 use mathlib.Core.Path.{_≡_, refl}
 use lib.ListN.{length}

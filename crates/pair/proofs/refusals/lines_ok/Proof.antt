@@ -1,5 +1,4 @@
 -- `pair::refusals::lines_ok`: two sizes that passed their test have a product that fits (two-fit), which is then compared.
-use borrow.Author.Needs.{needs}
 use Prim.Native.Nat.{_-_, _*_}
 use lib.Dec.{leb}
 use Rattle.lists.proofs.Tests.{not-no}

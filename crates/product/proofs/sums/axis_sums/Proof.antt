@@ -1,11 +1,5 @@
 -- `product::sums::axis_sums`: the core and the weights of zone k lie within their lists (core-ends, points-end), and `sum_axis` on them is the contraction (axis-made).
 use borrow.Author.Needs.{needs}
-use Rattle.product.proofs.sums.axis_sums.Reads as reads
-use Rattle.product.proofs.sums.axis_sums.Lts as lts
-use Rattle.product.proofs.contraction.sum_axis.Reads as sum-axis-reads
-use Rattle.shape.proofs.Shape.core_size.Reads as core-size-reads
-use Rattle.shape.proofs.Shape.offset.Reads as offset-reads
-use Rattle.shape.proofs.Shape.points_offset.Reads as points-offset-reads
 use Rattle.product.proofs.Slotted.{core-ends, core-end-fits, core-start-fits, points-end, points-end-fits, points-start-fits, axis-asks, axis-made}
 use Prim.Native.Nat.{_-_, _*_, _^_, _<_}
 use Rattle.lists.specs.Slots.{offset}

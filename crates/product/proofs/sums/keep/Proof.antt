@@ -1,9 +1,5 @@
 -- `product::sums::keep`: a fill with zeros and a copy over its front are the slot's new content (kept-is).
 use borrow.Author.Needs.{needs}
-use Rattle.product.proofs.sums.keep.Reads as reads
-use Rattle.product.proofs.sums.keep.Lts as lts
-use Rattle.lists.proofs.copy.Reads as copy-reads
-use Rattle.lists.proofs.fill.Reads as fill-reads
 use Rattle.product.proofs.Slotted.{kept-is}
 use Prim.Native.Nat.{_-_}
 use Rattle.product.proofs.sums.keep.Statement.{statement}

@@ -1,9 +1,5 @@
 -- `product::sums::left_sums`: zone 0 begins with one (left-first), and any other with the sums held in the slot before it (left-held).
 use borrow.Author.Needs.{needs}
-use Rattle.product.proofs.sums.left_sums.Reads as reads
-use Rattle.product.proofs.sums.left_sums.Lts as lts
-use Rattle.lists.proofs.copy.Reads as copy-reads
-use Rattle.product.proofs.sums.sum_offset.Reads as sum-offset-reads
 use Rattle.product.proofs.Slotted.{left-first, left-end, left-end-fits, left-start-fits, left-long, left-held}
 use mathlib.Core.Path.{sym, _∙_}
 use Prim.Native.Nat.{_-_, _*_, _^_, _≤_, _<_}

@@ -1,7 +1,4 @@
 -- `product::sums::sum_from`: the invariant: what is left of the walk from z is the walk from k on the sums so far (answer-more); a zone that refuses stops it (answer-stop).
-use Rattle.product.proofs.sums.sum_from.Reads as reads
-use Rattle.product.proofs.sums.sum_from.Lts as lts
-use Rattle.product.proofs.sums.sum_zone.Reads as sum-zone-reads
 use borrow.Author.Needs.{needs}
 use Rattle.product.proofs.Turning.{sums-turn}
 use mathlib.Core.Path.{_≡_, refl, _∙_}

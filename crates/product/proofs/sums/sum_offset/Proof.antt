@@ -1,6 +1,4 @@
 -- `product::sums::sum_offset`: the invariant: the total is the offset of slot j.
-use Rattle.product.proofs.sums.sum_offset.Reads as reads
-use Rattle.product.proofs.sums.sum_offset.Lts as lts
 use borrow.Author.Needs.{needs}
 use Rattle.product.proofs.Slotted.{sum-slots}
 use Rattle.shape.proofs.Offsets.{offsets}
