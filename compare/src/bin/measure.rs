@@ -100,7 +100,7 @@ fn products() -> Vec<f64> {
     let sites = counted(Id("call", at, 0)).sites;
     let product = sites
         .iter()
-        .filter(|((_, name), _)| name == "strips::product");
+        .filter(|((_, name), _)| name == "bond::strips::product");
     product
         .map(|(_, count)| *count as f64 / (CALLS * PRODUCTS) as f64)
         .collect()
