@@ -1,4 +1,4 @@
-// What the cut of a bond is, and what a rounding is: definitions and examples worked out; the code is in sweeps, values, factors, bond and cutting.
+// What the cut of a bond is, and what a rounding is: definitions and examples worked out; the code is in `bond`, `cuts` and `rounding`.
 
 // What is said of a bond once it is cut: the rank kept, the sweeps made, and whether the sum is below 1e-30 at their end.
 pub struct Bond {

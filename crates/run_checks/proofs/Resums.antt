@@ -1,4 +1,4 @@
--- The sums from zone z on of a run are those that `summing` makes over the chain in its room. Assumes nothing.
+-- The sums from zone z on of a run are those that `product::sums` makes over the chain in its room. Assumes nothing.
 use mathlib.Core.Path.{_≡_, refl, sym, ap, _∙_}
 use Prim.Native.Nat.{ℕ, zero, suc, _-_, _<_}
 use native.Mathlib.Omega.{arith}
