@@ -7,13 +7,13 @@ use Rattle.lists.proofs.Tests.{ltb-is}
 use Rattle.shape.specs.Shapes.{shapeOk}
 use Rattle.stepform.specs.Zones.{Rules}
 use Rattle.runform.specs.Kept.{Kept, running, lengthsOf}
-use Rattle.runform.specs.Checks.{rankOk, lentFrom}
+use Rattle.runform.specs.Checks.{rankOk, slicesLent}
 use Rattle.runform.specs.Requests.{Request, zoneOf, present, partFits, InOrder, foundOk, numbersOk, replaceOk, redo, replace}
 
 pub record Accepted (R : Rules) (room : Check) (k : Kept) (q : Request) : Type 0 where
   pub shape : shapeOk (k .inputs .shape) (rankOk (k .inputs .shape) (k .stepped .bonds)) ≡ done tt
   pub order : InOrder (k .inputs .shape) q
-  pub slices : lentFrom (k .inputs .shape) 0 (lengthsOf k) ≡ done tt
+  pub slices : slicesLent (k .inputs .shape) (lengthsOf k) ≡ done tt
   pub scratch : room ≡ done tt
   pub numbers : numbersOk R k q ≡ done tt
 

@@ -30,7 +30,7 @@ use Rattle.stepform.specs.Zones.{Rules}
 use Rattle.runform.specs.Kept.{Inputs, Summed, Kept, running, leftRank, rightRank, keptCore, keptCarry, keptSums, lengthsOf, heldCore}
 use Rattle.cutform.specs.Keeping.{Stepped, bondSize, carrySize, rankAt, keepStep}
 use Rattle.stepform.specs.Lone.{loneFinite}
-use Rattle.runform.specs.Checks.{rankOk, lentFrom, zoneFinite, coreHeld, carryHeld, sumsHeld, heldFinite, keptFinite}
+use Rattle.runform.specs.Checks.{rankOk, slicesLent, zoneFinite, coreHeld, carryHeld, sumsHeld, heldFinite, keptFinite}
 use Rattle.runform.specs.Requests.{Request, zoneOf, partFits, newFinite, foundOk, foundNumbers, numbersOk, replaceOk}
 use Rattle.cutform.proofs.BondSlots.{bond-at}
 use Rattle.runform.proofs.Before.{Roomy, rank-before, core-before, carry-before}
@@ -82,7 +82,7 @@ module _ (R : Rules) (i : Inputs) (t t' : Stepped) (u u' : Summed) (E : Alike (r
       let c = ap allFinite (E .sums k lt) in
       cc
 
-  lent-same : lentFrom s 0 (lengthsOf (running i t u)) ≡ lentFrom s 0 (lengthsOf (running i t' u'))
+  lent-same : slicesLent s (lengthsOf (running i t u)) ≡ slicesLent s (lengthsOf (running i t' u'))
   lent-same = let a = E .steps .chain-long in let b = E .steps .carries-long in let c = E .sums-long in cc
 
   numbers-same : (q : Request) → numbersOk R (running i t u) q ≡ numbersOk R (running i t' u') q

@@ -33,7 +33,7 @@ use Rattle.runform.specs.Work.{keepSums, sumZone, restep, resum, sumFrom
 use Rattle.stepform.specs.Lone.{loneFinite, loneOk}
 use Rattle.runform.specs.Checks.{rankOk, lentFrom, scratchLent, madeFinite, coreHeld, carryHeld, sumsHeld, heldFinite, madeOk, freshOk, freshRun}
 use Rattle.runform.specs.Requests.{foundOk, foundNumbers, numbersOk, replaceOk, replace}
-use Rattle.runform.specs.Call.{roomLent, freshEnd, replaceEnd, freshBy, replaceBy}
+use Rattle.runform.specs.Call.{roomLent, runEnd, freshBy, replaceBy}
 use Rattle.runform.specs.Cases.{cases, AllRight}
 use Rattle.runform.specs.Edges.{freshEdges, replacedEdges, RefusedFresh}
 
@@ -51,7 +51,7 @@ unfolding cases freshEdges replacedEdges add sub mul div neg lt le eq ofInt ofBi
     placeIn indexAt order sorted thresholdOf keptRank coreFinite notBelowZero cuttingFinite cuttingOk scratchAfter roundCore contract contractAt reachesAt shiftZone scaleZone
     roundZone stepFrom rules bondSize carrySize sumSize bare blank zoneAt heldCore carryAt sumsAt weighedAt keepStep keepSums sumZone restep resum sumFrom
     workFrom rankOk lentFrom scratchLent loneFinite madeFinite coreHeld carryHeld sumsHeld heldFinite loneOk madeOk freshOk freshRun foundOk foundNumbers
-    numbersOk replaceOk replace roomLent freshEnd replaceEnd freshBy replaceBy
+    numbersOk replaceOk replace roomLent runEnd freshBy replaceBy
 computed = record {
   right = (refl, (refl, (refl, (refl, (refl, (refl, (refl, (refl, (refl, (refl, (refl, (refl, (refl, (refl, (refl, (refl, (refl, tt)))))))))))))))));
   fresh-edges = (refl, (refl, (refl, (refl, (refl, (refl, (refl, (refl, (refl, (refl, (refl, tt)))))))))));

@@ -27,10 +27,11 @@ use Rattle.stepform.specs.Zones.{rules}
 use Rattle.stepform.specs.Steps.{step}
 use Rattle.stepform.specs.Claims.{StepCounted}
 use Rattle.stepform.proofs.CountedSteps.{step-parts, step-cuts}
-use Rattle.runform.specs.Kept.{Inputs, Kept, blank}
+use Rattle.runform.specs.Slices.{Slices}
+use Rattle.runform.specs.Kept.{Inputs, Kept, inputsOf, blank}
 use Rattle.runform.specs.Checks.{freshOk}
 use Rattle.runform.specs.Call.{Room, freshBy, freshCall}
-use Rattle.runform.specs.Sequence.{AsFresh, keptAfterFresh, Asked, keptAfterAll, presentAfterAll, AllLend}
+use Rattle.runform.specs.Sequence.{AsFresh, keptAfter, Asked, keptAfterAll, presentAfterAll, AllLend}
 use Rattle.runform.specs.StepThenInner.{paired, stepThenInner}
 use Rattle.runform.proofs.Held.{no-cut}
 use Rattle.runform.proofs.StepThenInner.{fresh-is}
@@ -75,21 +76,20 @@ run-counted i k F =
     subst (λ (t : Stepped). StepCounted (i .set) (i .axes) cs (t .bonds)) (S .2) (record { cores = P .0; moves = P .1; counted = told })
 
 -- and so of the call
-pub fresh-counted : (s : Shape) (axes : List Axis) (t : Settings) (source weights chain carries sums scratch : List Float) → length axes ≡ mostAxes
-    → let e = freshCall s axes t source weights chain carries sums scratch in
-    e .result .verdict ≡ Fits → StepCounted t axes (coresOf s source) (e .result .run .bonds)
-fresh-counted s axes t source weights chain carries sums scratch all e =
-    let i : Inputs = record { shape = s; axes = axes; set = t; source = source; weights = weights } in
-    let m : Room = record { chain = chain; carries = carries; sums = sums; scratch = scratch } in
-    run-counted i (keptAfterFresh i (freshBy rules i m)) (first-fresh rules i m all e)
+pub fresh-counted : (s : Shape) (axes : List Axis) (t : Settings) (m : Slices (List Float)) (scratch : List Float) → length axes ≡ mostAxes
+    → let e = freshCall s axes t m scratch in
+    e .result .verdict ≡ Fits → StepCounted t axes (coresOf s (m .source)) (e .result .run .bonds)
+fresh-counted s axes t m scratch all e =
+    let i = inputsOf s axes t m in
+    let room : Room = record { outputs = m .outputs; scratch = scratch } in
+    run-counted i (keptAfter (freshBy rules i room)) (first-fresh rules i room all e)
 
 -- and of the run that any calls leave, some of them refused
-pub calls-counted : (s : Shape) (axes : List Axis) (t : Settings) (source weights chain carries sums scratch : List Float) → length axes ≡ mostAxes
-    → freshCall s axes t source weights chain carries sums scratch .result .verdict ≡ Fits → (cs : List Asked)
-    → let i : Inputs = record { shape = s; axes = axes; set = t; source = source; weights = weights } in
-    let k = keptAfterFresh i (freshCall s axes t source weights chain carries sums scratch) in
+pub calls-counted : (s : Shape) (axes : List Axis) (t : Settings) (m : Slices (List Float)) (scratch : List Float) → length axes ≡ mostAxes
+    → freshCall s axes t m scratch .result .verdict ≡ Fits → (cs : List Asked)
+    → let i = inputsOf s axes t m in
+    let k = keptAfter (freshCall s axes t m scratch) in
     let j = presentAfterAll rules i k cs in
     let l = keptAfterAll rules k cs in
     AllLend rules k cs → StepCounted (j .set) (j .axes) (coresOf (j .shape) (j .source)) (l .stepped .bonds)
-calls-counted s axes t source weights chain carries sums scratch all e cs L =
-    run-counted _ _ (demand3-calls s axes t source weights chain carries sums scratch all e cs L)
+calls-counted s axes t m scratch all e cs L = run-counted _ _ (demand3-calls s axes t m scratch all e cs L)

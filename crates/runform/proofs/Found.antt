@@ -14,7 +14,7 @@ use Rattle.answers.specs.Outcome.{done, Check, _then_, demandEach}
 use Rattle.answers.proofs.Checks.{demand-yes, then-skip, then-on, each-same}
 use Rattle.lists.specs.Lists.{pick}
 use Rattle.lists.specs.Floats.{allFinite}
-use Rattle.lists.proofs.Tests.{ltb-yes, ltb-is, leb-yes, eqb-yes, and-yes}
+use Rattle.lists.proofs.Tests.{ltb-yes, ltb-is, leb-yes, and-yes}
 use Rattle.lists.proofs.Written.{written-length}
 use Rattle.shape.specs.declared.Shape.{Shape}
 use Rattle.shape.specs.Limits.{within}
@@ -24,14 +24,15 @@ use Rattle.stepform.specs.Axes.{axisOk, axisAt}
 use Rattle.cutform.specs.Rounding.{Carry, Cut, numbersIn}
 use Rattle.stepform.specs.Zones.{Rules}
 use Rattle.sumform.specs.Sums.{sumSize}
-use Rattle.runform.specs.Kept.{Inputs, Summed, allCarries, allSums, lengthsOf, bare, blank, keptCarry}
+use Rattle.runform.specs.Kept.{Inputs, Summed, allCarries, allSums, lengthsFor, lengthsOf, bare, blank, keptCarry}
 use Rattle.cutform.specs.Keeping.{Stepped, carrySize, rankAt, keepStep}
 use Rattle.runform.specs.Work.{keepSums}
 use Rattle.stepform.specs.Lone.{loneFinite, loneOk}
-use Rattle.runform.specs.Checks.{rankOk, lentFrom, zoneFinite, coreHeld, carryHeld, sumsHeld, heldFinite, keptFinite}
+use Rattle.runform.specs.Checks.{rankOk, slicesLent, zoneFinite, coreHeld, carryHeld, sumsHeld, heldFinite, keptFinite}
 use Rattle.runform.specs.Requests.{Request, zoneOf, present, partFits, InOrder, newFinite, newOk, foundOk, foundNumbers, shiftsOk, numbersOk, replaceOk}
 use Rattle.runform.proofs.Sound.{Sound}
-use Rattle.runform.proofs.Trace.{lent-is, Trace, steppedBy, summedBy, keptBy}
+use Rattle.runform.proofs.InRow.{lent-passes}
+use Rattle.runform.proofs.Trace.{inputs-are, Trace, steppedBy, summedBy, keptBy}
 use Rattle.runform.proofs.Held.{cuts-length, sums-length, rank-fits, carry-finite, core-finite, sum-finite, figure-finite}
 
 -- 6 and 7 of the new part at its zone, and 8 of the shifts that are made
@@ -70,18 +71,15 @@ module _ (R : Rules) (S : Sound R) (i : Inputs) (T : Trace R i) where
       (and-yes _ _ (at-bond s k (allFinite (keptCarry s t k)) (carry-finite R S i (T .step) k) (ltb (suc k) (s .d)) refl)
       (sum-finite R S i T k lt))
 
-  slices-pass : lentFrom s 0 (lengthsOf (keptBy T)) ≡ done tt
-  unfolding lentFrom keepStep keepSums blank bare
+  slices-pass : slicesLent s (lengthsOf (keptBy T)) ≡ done tt
+  unfolding keepStep keepSums blank bare
   slices-pass =
-      let I = lent-is i (T .step .ok .lent) in
+      let I = inputs-are i (T .step .ok .lent) in
       let L = cuts-length R S i (T .step) in
-      then-skip _ _ _ (demand-yes _ (Length 0) (eqb-yes _ _ (I .source)))
-      (then-skip _ _ _ (demand-yes _ (Length 1) (eqb-yes _ _ (I .weights)))
-      (then-skip _ _ _ (demand-yes _ (Length 2) (eqb-yes (length (t .chain)) (entriesOf s) (written-length (coreSize s) zero64 (s .d) (λ (r : Carry × Cut). r .1 .core .entries) (T .step .cuts) L)))
-      (then-skip _ _ _ (demand-yes _ (Length 3) (eqb-yes (length (t .carries)) (allCarries s) (written-length (carrySize s) zero64 (s .d) (λ (r : Carry × Cut). numbersIn (r .0)) (T .step .cuts) L)))
-      (then-skip _ _ _ (demand-yes _ (Length 4) (eqb-yes (length (u .sums)) (allSums s)
-      (written-length (sumSize s) zero64 (s .d) (λ (r : List Float × Unit {0}). r .0) (T .sums) (sums-length R S i T))))
-      refl))))
+      let chain : length (t .chain) ≡ entriesOf s = written-length (coreSize s) zero64 (s .d) (λ (r : Carry × Cut). r .1 .core .entries) (T .step .cuts) L in
+      let carries : length (t .carries) ≡ allCarries s = written-length (carrySize s) zero64 (s .d) (λ (r : Carry × Cut). numbersIn (r .0)) (T .step .cuts) L in
+      let sums : length (u .sums) ≡ allSums s = written-length (sumSize s) zero64 (s .d) (λ (r : List Float × Unit {0}). r .0) (T .sums) (sums-length R S i T) in
+      lent-passes 0 (lengthsOf (keptBy T)) (lengthsFor s) cc
 
   pub shape-passes : shapeOk s (rankOk s (t .bonds)) ≡ done tt
   shape-passes = shape-same s (rankOk s (t .bonds)) (λ (k : ℕ). true) ranks-pass ∙ T .step .ok .shape

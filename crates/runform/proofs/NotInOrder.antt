@@ -13,11 +13,12 @@ use Rattle.lists.proofs.Tests.{ltb-yes, ltb-no, eqb-no}
 use Rattle.shape.specs.Limits.{scratchFor}
 use Rattle.shape.specs.Shapes.{shapeOk, entriesOf}
 use Rattle.stepform.specs.Zones.{Rules}
+use Rattle.runform.specs.Slices.{Slices}
 use Rattle.runform.specs.Kept.{Inputs, Kept, lengthsFor, lengthsOf}
 use Rattle.runform.specs.Checks.{rankOk, scratchLent}
 use Rattle.runform.specs.Requests.{Request, zoneOf, partFits, InOrder, foundOk, replaceOk, replace}
-use Rattle.runform.specs.Call.{scratchPlace, replaceEnd, replaceBy}
-use Rattle.runform.specs.Sequence.{AsFresh, Slices, ownSlices, found}
+use Rattle.runform.specs.Call.{scratchPlace, runEnd, replaceBy}
+use Rattle.runform.specs.Sequence.{AsFresh, Slice, ownSlices, found}
 use Rattle.runform.specs.OnePage.{FirstWrong}
 use Rattle.runform.proofs.Sound.{Sound}
 use Rattle.runform.proofs.Trace.{Trace, traced, keptBy}
@@ -27,7 +28,7 @@ use Rattle.runform.proofs.Lending.{wrong-length}
 
 module _ (R : Rules) (S : Sound R) (i : Inputs) (T : Trace R i) (q : Request) where
   -- whatever is lent for the run's slices
-  module _ (m : Slices) (room : Check) where
+  module _ (m : Slices Slice) (room : Check) where
     found-shape : shapeOk (i .shape) (rankOk (i .shape) (found (keptBy T) m .stepped .bonds)) ≡ done tt
     unfolding rankOk
     found-shape = shape-passes R S i T
@@ -53,15 +54,15 @@ module _ (R : Rules) (S : Sound R) (i : Inputs) (k : Kept) (F : AsFresh R i k) (
   taken-apart : (T : Trace R i) × (keptBy T ≡ k)
   taken-apart = traced R i k (ran-fresh R i k F)
 
-  answered-by : (m : Slices) (r : Refusal) → replace R (scratchLent (i .shape) (scratchPlace q) (length scratch)) (found (keptBy (taken-apart .0)) m) q ≡ refused r
+  answered-by : (m : Slices Slice) (r : Refusal) → replace R (scratchLent (i .shape) (scratchPlace q) (length scratch)) (found (keptBy (taken-apart .0)) m) q ≡ refused r
       → replaceBy R (found k m) q scratch .result .verdict ≡ Refused r
-  unfolding replaceBy replaceEnd
+  unfolding replaceBy runEnd
   answered-by m r e = ap (λ (x : Kept). verdictOf (replace R (scratchLent (x .inputs .shape) (scratchPlace q) (length scratch)) (found x m) q)) (sym (taken-apart .1)) ∙ ap verdictOf e
 
-  pub no-such-zone : (m : Slices) → i .shape .d ≤ zoneOf q → replaceBy R (found k m) q scratch .result .verdict ≡ Refused Zone
+  pub no-such-zone : (m : Slices Slice) → i .shape .d ≤ zoneOf q → replaceBy R (found k m) q scratch .result .verdict ≡ Refused Zone
   no-such-zone m out = answered-by m Zone (found-zone R S i (taken-apart .0) q m _ out)
 
-  pub slice-misfits : (m : Slices) (j : ℕ) → FirstWrong j (lengthsOf (found k m)) (lengthsFor (i .shape)) → zoneOf q < i .shape .d → replaceBy R (found k m) q scratch .result .verdict ≡ Refused (Length j)
+  pub slice-misfits : (m : Slices Slice) (j : ℕ) → FirstWrong j (lengthsOf (found k m)) (lengthsFor (i .shape)) → zoneOf q < i .shape .d → replaceBy R (found k m) q scratch .result .verdict ≡ Refused (Length j)
   slice-misfits m j W lt =
       let W' : FirstWrong j (lengthsOf (found (keptBy (taken-apart .0)) m)) (lengthsFor (i .shape)) = subst (λ (x : Kept). FirstWrong j (lengthsOf (found x m)) (lengthsFor (i .shape))) (sym (taken-apart .1)) W in
       answered-by m (Length j) (found-wrong R S i (taken-apart .0) q m _ j W' lt)

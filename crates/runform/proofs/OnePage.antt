@@ -15,10 +15,11 @@ use Rattle.cutform.specs.Rounding.{Carry, Cut}
 use Rattle.stepform.specs.declared.Settings.{Settings}
 use Rattle.stepform.specs.Zones.{rules}
 use Rattle.cutform.specs.Keeping.{bondSize, keepStep}
-use Rattle.runform.specs.Kept.{Inputs, Kept, blank, bare}
+use Rattle.runform.specs.Slices.{Slices}
+use Rattle.runform.specs.Kept.{Inputs, Kept, inputsOf, blank, bare}
 use Rattle.runform.specs.Call.{freshCall}
 use Rattle.runform.specs.Left.{Arrays}
-use Rattle.runform.specs.Sequence.{keptAfterFresh, AsFresh, Asked, keptAfterAll, presentAfterAll, AllLend}
+use Rattle.runform.specs.Sequence.{keptAfter, AsFresh, Asked, keptAfterAll, presentAfterAll, AllLend}
 use Rattle.runform.specs.OnePage.{Holds}
 use Rattle.runform.proofs.Rules.{rules-sound}
 use Rattle.runform.proofs.Trace.{Trace, traced, keptBy}
@@ -59,9 +60,9 @@ holds i k F = record {
 }
 
 -- THE THEOREM. After an accepted `fresh_run` and any replacements, in any order, some refused, some lent slices of wrong lengths
-pub one-page : (s : Shape) (axes : List Axis) (t : Settings) (source weights chain carries sums scratch : List Float) → length axes ≡ mostAxes
-    → freshCall s axes t source weights chain carries sums scratch .result .verdict ≡ Fits → (cs : List Asked)
-    → let i : Inputs = record { shape = s; axes = axes; set = t; source = source; weights = weights } in
-    let k = keptAfterFresh i (freshCall s axes t source weights chain carries sums scratch) in
+pub one-page : (s : Shape) (axes : List Axis) (t : Settings) (m : Slices (List Float)) (scratch : List Float) → length axes ≡ mostAxes
+    → freshCall s axes t m scratch .result .verdict ≡ Fits → (cs : List Asked)
+    → let i = inputsOf s axes t m in
+    let k = keptAfter (freshCall s axes t m scratch) in
     AllLend rules k cs → Holds (presentAfterAll rules i k cs) (keptAfterAll rules k cs)
-one-page s axes t source weights chain carries sums scratch all e cs L = holds _ _ (demand3-calls s axes t source weights chain carries sums scratch all e cs L)
+one-page s axes t m scratch all e cs L = holds _ _ (demand3-calls s axes t m scratch all e cs L)

@@ -31,7 +31,7 @@ use Rattle.stepform.specs.Lone.{loneFinite, loneOk}
 use Rattle.runform.specs.Checks.{madeFinite, zoneFinite, inReachAt, madeOk, freshOk, freshRun}
 use Rattle.runform.specs.Requests.{Request, newCore, newAxis, newWeights, present, InOrder, shiftsOk, replace}
 use Rattle.runform.proofs.Sound.{Sound}
-use Rattle.runform.proofs.Trace.{Lent, lent-is, lent-passes, fine-zone, Trace, keptBy}
+use Rattle.runform.proofs.Trace.{Lent, inputs-are, inputs-pass, fine-zone, Trace, keptBy}
 use Rattle.runform.proofs.Same.{changed, work-same, sums-same}
 use Rattle.runform.proofs.Found.{partFinite, partOk, partPasses, found-passes}
 
@@ -49,7 +49,7 @@ module _ (R : Rules) (S : Sound R) (i : Inputs) (T : Trace R i) where
   s = i .shape
 
   lent : Lent i
-  lent = lent-is i (T .step .ok .lent)
+  lent = inputs-are i (T .step .ok .lent)
 
   -- a fresh run's checks on changed inputs, of which 6 and 7 and 8 are known
   changed-passes : (axes : List Axis) (source weights : List Float) (six seven : ℕ → Bool) (eight : Check)
@@ -62,7 +62,7 @@ module _ (R : Rules) (S : Sound R) (i : Inputs) (T : Trace R i) where
   changed-passes axes source weights six seven eight len six-is seven-is eight-is =
       let j = changed i axes source weights in
       then-skip _ _ _ (T .step .ok .shape)
-      (then-skip _ _ _ (lent-passes j len)
+      (then-skip _ _ _ (inputs-pass j len)
       (then-on _ _ _ _
       (then-skip _ _ _ (demand-yes (loneFinite (i .set)) (Number 0) (T .step .ok .lone))
       (then-on _ _ _ _ (each-same Number (zoneFinite j) six (i .shape .d) 0 (λ k a b. six-is k (omega arith)))

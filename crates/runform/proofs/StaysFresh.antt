@@ -1,5 +1,6 @@
 -- What is kept up from call to call: the run is what a fresh run on the present inputs leaves. Of the rules only `Sound` is used.
 use mathlib.Core.Path.{_≡_, refl, sym, ap, _∙_, subst}
+use Prim.Native.Nat.{ℕ}
 use native.Mathlib.Omega.{arith}
 use mathlib.Core.List.{List}
 use lib.ListN.{length, length-set, length-replicate}
@@ -17,13 +18,15 @@ use Rattle.shape.specs.Limits.{mostAxes, scratchFor}
 use Rattle.shape.specs.Shapes.{entriesOf}
 use Rattle.cutform.specs.Call.{scratchAfter}
 use Rattle.stepform.specs.Zones.{Rules}
-use Rattle.runform.specs.Kept.{Inputs, Kept, allCarries, allSums, blank}
+use Rattle.runform.specs.Slices.{eachOutput}
+use Rattle.runform.specs.Kept.{Inputs, Kept, allCarries, allSums, roomFor, bare, blank}
 use Rattle.runform.specs.Work.{workFrom}
-use Rattle.runform.specs.Checks.{lentFrom, scratchLent, freshOk, freshRun}
+use Rattle.runform.specs.Checks.{scratchLent, freshOk, freshRun}
 use Rattle.runform.specs.Requests.{Request, newCore, newAxis, newWeights, present, InOrder, replace}
-use Rattle.runform.specs.Call.{FreshEnd, Room, roomLent, roomOk, freshEnd, freshBy, scratchPlace, replaceEnd, replaceBy}
-use Rattle.runform.specs.Sequence.{keptAfterFresh, keptAfter, leaving, AsFresh, takenUp}
+use Rattle.runform.specs.Call.{RunEnd, runEnd, Room, roomLent, roomOk, freshBy, scratchPlace, replaceBy}
+use Rattle.runform.specs.Sequence.{keptAfter, leaving, AsFresh, takenUp}
 use Rattle.runform.proofs.Sound.{Sound}
+use Rattle.runform.proofs.InRow.{lent-passes}
 use Rattle.runform.proofs.Trace.{passed, traced}
 use Rattle.runform.proofs.Held.{sizes}
 use Rattle.runform.proofs.OneRequest.{one-request}
@@ -42,16 +45,14 @@ present-shape i (newWeights z ws) = refl
 
 -- slices of the right lengths
 abbrev someRoom : Shape → Room
-someRoom s = record { chain = zeros (entriesOf s); carries = zeros (allCarries s); sums = zeros (allSums s); scratch = zeros (scratchFor (entriesOf s)) }
+someRoom s = record { outputs = eachOutput zeros (roomFor s); scratch = zeros (scratchFor (entriesOf s)) }
 
 room-there : (s : Shape) → roomOk s (someRoom s) ≡ done tt
-unfolding roomLent lentFrom scratchLent
+unfolding roomLent scratchLent
 room-there s =
-    then-skip _ _ _
-    (then-skip _ _ _ (demand-yes _ (Length 2) (eqb-yes _ _ (length-replicate (entriesOf s) zero64)))
-    (then-skip _ _ _ (demand-yes _ (Length 3) (eqb-yes _ _ (length-replicate (allCarries s) zero64)))
-    (then-skip _ _ _ (demand-yes _ (Length 4) (eqb-yes _ _ (length-replicate (allSums s) zero64))) refl)))
-    (demand-yes _ (Length 5) (eqb-yes _ _ (length-replicate (scratchFor (entriesOf s)) zero64)))
+    let long : (n : ℕ) → length (zeros n) ≡ n = λ n. length-replicate n zero64 in
+    then-skip _ _ _ (lent-passes 2 _ _ (cc (long (entriesOf s), long (allCarries s), long (allSums s))))
+    (demand-yes _ (Length 5) (eqb-yes _ _ (long (scratchFor (entriesOf s)))))
 
 module _ (R : Rules) where
   -- ---- an accepted fresh run had its room, and holds its inputs
@@ -64,31 +65,30 @@ module _ (R : Rules) where
 
   -- ---- `AsFresh`, said of the run that the work leaves
   as-fresh : (i : Inputs) (k : Kept) → length (i .axes) ≡ mostAxes → freshRun R (done tt) i ≡ done k → AsFresh R i k
-  unfolding freshBy freshEnd scratchAfter
+  unfolding freshBy runEnd scratchAfter
   as-fresh i k all ran = record {
     array = all;
     inputs = fresh-inputs i k ran;
-    end = λ m room. ap (λ (c : Check). freshEnd i m (freshRun R c i)) room ∙ ap (freshEnd i m) ran;
+    end = λ m room. ap (λ (c : Check). runEnd (bare i (m .outputs)) (m .scratch) (freshRun R c i)) room ∙ ap (runEnd (bare i (m .outputs)) (m .scratch)) ran;
   }
 
-  fits-ran : (i : Inputs) (m : Room) → freshBy R i m .result .verdict ≡ Fits → freshRun R (done tt) i ≡ done (keptAfterFresh i (freshBy R i m))
-  unfolding freshBy freshEnd
+  fits-ran : (i : Inputs) (m : Room) → freshBy R i m .result .verdict ≡ Fits → freshRun R (done tt) i ≡ done (keptAfter (freshBy R i m))
+  unfolding freshBy runEnd
   fits-ran i m e =
       let A = fits-done (freshRun R (roomOk (i .shape) m) i) e in
       let k = A .0 in
       let ran = ap (λ (c : Check). freshRun R c i) (sym (fresh-room (roomOk (i .shape) m) i k (A .1))) ∙ A .1 in
-      ran ∙ ap (λ (j : Inputs). done (keptAfterFresh j (leaving m k))) (fresh-inputs i k ran) ∙ ap (λ (o : Answer Kept). done (keptAfterFresh i (freshEnd i m o))) (sym (A .1))
+      ran ∙ ap (λ (o : Answer Kept). done (keptAfter (runEnd (bare i (m .outputs)) (m .scratch) o))) (sym (A .1))
 
   pub ran-fresh : (i : Inputs) (k : Kept) → AsFresh R i k → freshRun R (done tt) i ≡ done k
   ran-fresh i k F =
       let m = someRoom (i .shape) in
       let e = F .end m (room-there (i .shape)) in
-      let same : keptAfterFresh i (freshBy R i m) ≡ k = ap (keptAfterFresh i) e ∙ ap (λ (j : Inputs). keptAfterFresh j (leaving m k)) (sym (F .inputs)) in
-      fits-ran i m (ap (λ (x : FreshEnd). x .result .verdict) e) ∙ ap done same
+      fits-ran i m (ap (λ (x : RunEnd). x .result .verdict) e) ∙ ap (λ (x : RunEnd). done (keptAfter x)) e
 
   -- an accepted fresh run is as fresh
-  pub first-fresh : (i : Inputs) (m : Room) → length (i .axes) ≡ mostAxes → freshBy R i m .result .verdict ≡ Fits → AsFresh R i (keptAfterFresh i (freshBy R i m))
-  first-fresh i m all e = as-fresh i (keptAfterFresh i (freshBy R i m)) all (fits-ran i m e)
+  pub first-fresh : (i : Inputs) (m : Room) → length (i .axes) ≡ mostAxes → freshBy R i m .result .verdict ≡ Fits → AsFresh R i (keptAfter (freshBy R i m))
+  first-fresh i m all e = as-fresh i (keptAfter (freshBy R i m)) all (fits-ran i m e)
 
   module _ (S : Sound R) (i : Inputs) (k : Kept) (F : AsFresh R i k) where
     -- one replacement answers as a fresh run with the new part in
@@ -101,13 +101,13 @@ module _ (R : Rules) where
 
     -- and the run is as fresh again
     pub next-fresh : (q : Request) (scratch : List Float) → AsFresh R (takenUp (replaceBy R k q scratch .result .verdict) i q) (keptAfter (replaceBy R k q scratch))
-    unfolding replaceBy replaceEnd
+    unfolding replaceBy runEnd
     next-fresh q scratch = go (replace R room k q) refl
       where
         room : Check
         room = scratchLent (k .inputs .shape) (scratchPlace q) (length scratch)
 
-        go : (o : Answer Kept) → replace R room k q ≡ o → AsFresh R (takenUp (verdictOf o) i q) (keptAfter (replaceEnd k scratch o))
+        go : (o : Answer Kept) → replace R room k q ≡ o → AsFresh R (takenUp (verdictOf o) i q) (keptAfter (runEnd k scratch o))
         go (done k') e =
             let A = accepted R room k k' q e .0 in
             let O : InOrder (i .shape) q = subst (λ (x : Inputs). InOrder (x .shape) q) (F .inputs) (A .order) in

@@ -29,16 +29,17 @@ use Rattle.sumform.specs.Product.{startSums, sumAxis, sums, inner}
 use Rattle.stepform.specs.declared.Settings.{Settings}
 use Rattle.stepform.specs.Zones.{Zone, zone, zonesOf, Rules, rules}
 use Rattle.stepform.specs.Steps.{holding, shiftZone, scaleZone, roundZone, stepFrom, step}
-use Rattle.runform.specs.Kept.{Inputs, Kept, running, blank, bare, zoneAt, zonesFrom, leftRank, rightRank, keptCore, carryAt, sumsAt, weighedAt, weighedFrom, heldCore}
+use Rattle.runform.specs.Slices.{Slices}
+use Rattle.runform.specs.Kept.{Inputs, Kept, inputsOf, running, blank, bare, zoneAt, zonesFrom, leftRank, rightRank, keptCore, carryAt, sumsAt, weighedAt, weighedFrom, heldCore}
 use Rattle.cutform.specs.Keeping.{Stepped, rankAt}
 use Rattle.runform.specs.Work.{sumZone, restep, resum, sumFrom, workFrom}
 use Rattle.runform.specs.Checks.{freshOk, freshRun}
-use Rattle.runform.specs.Call.{Room, roomOk, freshEnd, freshBy, freshCall}
+use Rattle.runform.specs.Call.{roomOk, runEnd, freshBy, freshCall}
 use Rattle.runform.specs.StepThenInner.{paired, stepThenInner}
 use Rattle.runform.proofs.Sound.{Sound, Sized}
 use Rattle.cutform.proofs.Cuts.{volume, rankOn}
 use Rattle.runform.proofs.Rules.{rules-sound, rules-sized}
-use Rattle.runform.proofs.Trace.{passed, lent-is, StepTrace, Trace, steppedBy, summedBy}
+use Rattle.runform.proofs.Trace.{passed, inputs-are, StepTrace, Trace, steppedBy, summedBy}
 use Rattle.runform.proofs.Held.{no-cut, sizes, cuts-length, rank-fits, right-fits, carry-read, core-slot, figure-read}
 
 product-most : (a b c d f : ℕ) → a ≤ d → c ≤ f → a * b * c ≤ d * b * f
@@ -95,7 +96,7 @@ module _ (R : Rules) (S : Sound R) (Z : Sized R) (i : Inputs) (P : StepTrace R i
   zones-of : All (λ (k : ℕ) (z : Zone). Of k (z .core)) 0 (zonesFrom i 0)
   unfolding zoneAt coreAt coreSize
   zones-of = listed-all (λ (k : ℕ) (z : Zone). Of k (z .core)) (i .shape .d - 0) 0 (zoneAt i) (λ j a b.
-      let L = lent-is i (P .ok .lent) .source in
+      let L = inputs-are i (P .ok .lent) .source in
       let m = offset-mono (coreSize s) (suc j) (s .d) (omega arith) in
       record { left = refl; points = refl; right = refl; long = slot-length (coreSize s) j (i .source) (omega arith) })
 
@@ -217,12 +218,11 @@ fresh-is room i = bind-cong (freshOk rules room i) (λ _. workFrom rules (blank 
     ∙ ap (λ (o : Answer (List (Carry × Cut))). bind o rest) (sym (step-is i)))
 
 -- and so of the call
-pub fresh-call-is : (s : Shape) (axes : List Axis) (t : Settings) (source weights chain carries sums scratch : List Float)
-    → let i : Inputs = record { shape = s; axes = axes; set = t; source = source; weights = weights } in
-    let m : Room = record { chain = chain; carries = carries; sums = sums; scratch = scratch } in
-    freshCall s axes t source weights chain carries sums scratch ≡ freshEnd i m (freshOk rules (roomOk s m) i then stepThenInner i)
+pub fresh-call-is : (s : Shape) (axes : List Axis) (t : Settings) (m : Slices (List Float)) (scratch : List Float)
+    → let i = inputsOf s axes t m in
+    freshCall s axes t m scratch
+    ≡ runEnd (bare i (m .outputs)) scratch (freshOk rules (roomOk s (record { outputs = m .outputs; scratch = scratch })) i then stepThenInner i)
 unfolding freshBy
-fresh-call-is s axes t source weights chain carries sums scratch =
-    let i : Inputs = record { shape = s; axes = axes; set = t; source = source; weights = weights } in
-    let m : Room = record { chain = chain; carries = carries; sums = sums; scratch = scratch } in
-    ap (freshEnd i m) (fresh-is (roomOk s m) i)
+fresh-call-is s axes t m scratch =
+    let i = inputsOf s axes t m in
+    ap (runEnd (bare i (m .outputs)) scratch) (fresh-is (roomOk s (record { outputs = m .outputs; scratch = scratch })) i)

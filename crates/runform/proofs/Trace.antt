@@ -3,17 +3,16 @@ use mathlib.Core.Path.{_≡_, refl, ap, _∙_}
 use Prim.Native.Nat.{ℕ, _<_}
 use native.Mathlib.Omega.{arith}
 use mathlib.Core.Bool.{true, _&&_}
-use mathlib.Core.List.{List, [], _∷_}
+use mathlib.Core.List.{List}
 use lib.ListN.{length}
 use lib.Ieee.{Float}
-use Rattle.answers.specs.declared.Refusal.the-variants.{Length, Number, Setting, Reach}
+use Rattle.answers.specs.declared.Refusal.the-variants.{Number, Setting, Reach}
 use Rattle.answers.specs.Outcome.{done, Check}
 use Rattle.answers.proofs.Outcomes.{bind-done, done-inj}
-use Rattle.answers.proofs.Checks.{demand-yes, demand-is, then-is, then-skip, each-is}
+use Rattle.answers.proofs.Checks.{demand-is, then-is, each-is}
 use Rattle.lists.specs.Walks.{walk}
 use Rattle.lists.specs.Floats.{allFinite}
-use Rattle.lists.proofs.Tests.{eqb-yes, eqb-is, both}
-use Rattle.shape.specs.declared.Shape.{Shape}
+use Rattle.lists.proofs.Tests.{both}
 use Rattle.shape.specs.Shapes.{chainOk, entriesOf, allPoints}
 use Rattle.shape.specs.Cores.{pointsAt}
 use Rattle.stepform.specs.Axes.{axisFinite, axisOk, axisAt}
@@ -22,11 +21,12 @@ use Rattle.cutform.specs.Call.{coreFinite}
 use Rattle.sumform.specs.Product.{startSums}
 use Rattle.stepform.specs.Zones.{Rules}
 use Rattle.stepform.specs.Steps.{stepFrom}
-use Rattle.runform.specs.Kept.{Inputs, Summed, Kept, running, allCarries, allSums, blank, bare, zonesFrom, carryAt, sumsAt, weighedFrom}
+use Rattle.runform.specs.Kept.{Inputs, Summed, Kept, running, blank, bare, zonesFrom, carryAt, sumsAt, weighedFrom}
 use Rattle.cutform.specs.Keeping.{Stepped, keepStep}
 use Rattle.runform.specs.Work.{keepSums, sumZone, restep, resum, sumFrom, workFrom}
 use Rattle.stepform.specs.Lone.{loneFinite, loneOk}
-use Rattle.runform.specs.Checks.{lentFrom, inputsLent, madeFinite, zoneFinite, inReachAt, madeOk, freshOk, freshRun}
+use Rattle.runform.specs.Checks.{inputsLent, madeFinite, zoneFinite, inReachAt, madeOk, freshOk, freshRun}
+use Rattle.runform.proofs.InRow.{lent-passes, lent-is}
 
 -- ---- the checks
 pub record Passed (R : Rules) (i : Inputs) : Type 0 where
@@ -62,40 +62,16 @@ passed R room i e =
       m .0,
     )
 
--- refusal 5 of a run's slices, as lengths
-pub lent-all : (s : Shape) (a b c d e : ℕ) → lentFrom s 0 (a ∷ b ∷ c ∷ d ∷ e ∷ []) ≡ done tt
-    → (a ≡ entriesOf s) × (b ≡ allPoints s) × (c ≡ entriesOf s) × (d ≡ allCarries s) × (e ≡ allSums s)
-unfolding lentFrom
-lent-all s a b c d e ok =
-    let A = then-is _ _ tt ok in
-    let B = then-is _ _ tt (A .1) in
-    let C = then-is _ _ tt (B .1) in
-    let D = then-is _ _ tt (C .1) in
-    let E = then-is _ _ tt (D .1) in (
-      eqb-is _ _ (demand-is _ (Length 0) (A .0)),
-      eqb-is _ _ (demand-is _ (Length 1) (B .0)),
-      eqb-is _ _ (demand-is _ (Length 2) (C .0)),
-      eqb-is _ _ (demand-is _ (Length 3) (D .0)),
-      eqb-is _ _ (demand-is _ (Length 4) (E .0)),
-    )
-
--- and of source and weights, as lengths and back
+-- refusal 5 of source and weights, as lengths and back
 pub record Lent (i : Inputs) : Type 0 where
   pub source : length (i .source) ≡ entriesOf (i .shape)
   pub weights : length (i .weights) ≡ allPoints (i .shape)
 
-pub lent-is : (i : Inputs) → inputsLent i ≡ done tt → Lent i
-unfolding lentFrom
-lent-is i e =
-    let a = then-is _ _ tt e in
-    let b = then-is _ _ tt (a .1) in
-    record { source = eqb-is _ _ (demand-is _ (Length 0) (a .0)); weights = eqb-is _ _ (demand-is _ (Length 1) (b .0)) }
+pub inputs-are : (i : Inputs) → inputsLent i ≡ done tt → Lent i
+inputs-are i e = let l = lent-is 0 _ _ refl e in record { source = cc; weights = cc }
 
-pub lent-passes : (i : Inputs) → Lent i → inputsLent i ≡ done tt
-unfolding lentFrom
-lent-passes i L =
-    then-skip _ _ _ (demand-yes _ (Length 0) (eqb-yes _ _ (L .source)))
-    (then-skip _ _ _ (demand-yes _ (Length 1) (eqb-yes _ _ (L .weights))) refl)
+pub inputs-pass : (i : Inputs) → Lent i → inputsLent i ≡ done tt
+inputs-pass i L = lent-passes 0 _ _ cc
 
 -- refusal 6 of a zone, part by part
 pub record FineZone (i : Inputs) (k : ℕ) : Type 0 where

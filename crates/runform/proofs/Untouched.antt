@@ -26,12 +26,12 @@ use Rattle.sumform.specs.Sums.{sumSize}
 use Rattle.runform.specs.Kept.{Inputs, Summed, Kept, running, allCarries, allSums, lengthsOf, zoneAt, zonesFrom, carryAt, sumsAt, weighedAt, weighedFrom}
 use Rattle.cutform.specs.Keeping.{Stepped, bondSize, carrySize, keepStep}
 use Rattle.runform.specs.Work.{keepSums, sumZone, restep, resum, sumFrom, workFrom}
-use Rattle.runform.specs.Checks.{rankOk, lentFrom, scratchLent}
+use Rattle.runform.specs.Checks.{rankOk, slicesLent, scratchLent}
 use Rattle.runform.specs.Requests.{Request, newCore, newAxis, newWeights, present, InOrder, redo, replace}
-use Rattle.runform.specs.Call.{scratchPlace, replaceEnd, replaceBy}
+use Rattle.runform.specs.Call.{scratchPlace, runEnd, replaceBy}
 use Rattle.runform.specs.Left.{StepFrom, Left, Arrays}
 use Rattle.runform.specs.Sequence.{keptAfter}
-use Rattle.runform.proofs.Trace.{lent-all}
+use Rattle.runform.proofs.InRow.{lent-is}
 use Rattle.runform.proofs.Accepted.{accepted}
 use Rattle.runform.proofs.Before.{bond-count, Roomy}
 
@@ -43,10 +43,8 @@ pub record Long (k : Kept) : Type 0 where
   pub carries : length (k .stepped .carries) ≡ allCarries (k .inputs .shape)
   pub sums : length (k .summed .sums) ≡ allSums (k .inputs .shape)
 
-pub slices-are : (k : Kept) → lentFrom (k .inputs .shape) 0 (lengthsOf k) ≡ done tt → Long k
-slices-are k e =
-    let L = lent-all (k .inputs .shape) _ _ _ _ _ e in
-    record { source = L .0; weights = L .1; chain = L .2; carries = L .3; sums = L .4 }
+pub slices-are : (k : Kept) → slicesLent (k .inputs .shape) (lengthsOf k) ≡ done tt → Long k
+slices-are k e = let l = lent-is 0 _ _ refl e in record { source = cc; weights = cc; chain = cc; carries = cc; sums = cc }
 
 pub roomy : (k : Kept) → Arrays k → Shaped (k .inputs .shape) → Long k → Roomy (k .inputs .shape) (k .stepped)
 roomy k A S L =
@@ -107,7 +105,7 @@ redone-left R k k' (newWeights z ws) O M long e = let w = sum-left R (present (k
 module _ (R : Rules) (k : Kept) (q : Request) (scratch : List Float) where
   -- accepted: the new part is in, and what stands before its zone keeps its bits
   pub untouched : Arrays k → replaceBy R k q scratch .result .verdict ≡ Fits → Left k (keptAfter (replaceBy R k q scratch)) q
-  unfolding replaceBy replaceEnd
+  unfolding replaceBy runEnd
   untouched A e =
       let room = scratchLent (k .inputs .shape) (scratchPlace q) (length scratch) in
       let D = fits-done (replace R room k q) e in
@@ -115,13 +113,13 @@ module _ (R : Rules) (k : Kept) (q : Request) (scratch : List Float) where
       let P = W .0 in
       let L = slices-are k (P .slices) in
       let M = roomy k A (shaped (k .inputs .shape) (rankOk (k .inputs .shape) (k .stepped .bonds)) (P .shape)) L in
-      subst (λ (o : Answer Kept). Left k (keptAfter (replaceEnd k scratch o)) q) (sym (D .1)) (redone-left R k (D .0) q (P .order) M (L .sums) (W .1))
+      subst (λ (o : Answer Kept). Left k (keptAfter (runEnd k scratch o)) q) (sym (D .1)) (redone-left R k (D .0) q (P .order) M (L .sums) (W .1))
 
   -- refused: record and slices are as they were
   pub refused-leaves : (r : Refusal) → replaceBy R k q scratch .result .verdict ≡ Refused r → keptAfter (replaceBy R k q scratch) ≡ k
-  unfolding replaceBy replaceEnd
+  unfolding replaceBy runEnd
   refused-leaves r e = go (replace R (scratchLent (k .inputs .shape) (scratchPlace q) (length scratch)) k q) e
     where
-      go : (o : Answer Kept) → verdictOf o ≡ Refused r → keptAfter (replaceEnd k scratch o) ≡ k
+      go : (o : Answer Kept) → verdictOf o ≡ Refused r → keptAfter (runEnd k scratch o) ≡ k
       go (done k') h = let z : _≡_ {A = ℕ} 0 1 = cc in let n : ⊥ = omega arith in absurd n
       go (refused r') h = refl

@@ -32,7 +32,7 @@ use Rattle.runform.proofs.Before.{Roomy, right-before}
 use Rattle.answers.specs.declared.Verdict.the-variants.{Refused}
 use Rattle.runform.specs.Checks.{rankOk, scratchLent}
 use Rattle.runform.specs.Requests.{Request, newCore, newAxis, newWeights, present, InOrder, replaceOk, redo, replace}
-use Rattle.runform.specs.Call.{ReplaceEnd, scratchPlace, replaceEnd, replaceBy}
+use Rattle.runform.specs.Call.{RunEnd, scratchPlace, runEnd, replaceBy}
 use Rattle.runform.specs.Left.{Arrays}
 use Rattle.runform.specs.Sequence.{keptAfter}
 use Rattle.runform.proofs.Accepted.{checks-say}
@@ -186,12 +186,12 @@ module _ (R : Rules) (i : Inputs) (t t' : Stepped) (u u' : Summed) (A : Arrays (
           redo-alike q shp (P .order) (roomy (running i t u) A shp L) (roomy (running i t' u') A' shp L') (omega arith) (omega arith)
 
 -- the ends of two calls: the same verdict, and runs that agree in used room
-pub record EndsAlike (e e' : ReplaceEnd) : Type 0 where
+pub record EndsAlike (e e' : RunEnd) : Type 0 where
   pub verdict : e .result .verdict ≡ e' .result .verdict
   pub kept : Alike (keptAfter e) (keptAfter e')
 
-ends-alike : (k k' : Kept) → Alike k k' → (scratch : List Float) (o o' : Answer Kept) → AnswersAlike o o' → EndsAlike (replaceEnd k scratch o) (replaceEnd k' scratch o')
-unfolding replaceEnd
+ends-alike : (k k' : Kept) → Alike k k' → (scratch : List Float) (o o' : Answer Kept) → AnswersAlike o o' → EndsAlike (runEnd k scratch o) (runEnd k' scratch o')
+unfolding runEnd
 ends-alike k k' E scratch (done a) (done b) h = record { verdict = refl; kept = h }
 ends-alike k k' E scratch (refused r) (refused r') h = record { verdict = ap Refused h; kept = E }
 ends-alike k k' E scratch (done a) (refused r) h = absurd h
@@ -207,5 +207,5 @@ unused-room R k k' A A' E q scratch =
     let one : Arrays (running i t' u') = record { axes = A .axes; bonds = A' .bonds } in
     let two : Alike k (running i t' u') = record { inputs = refl; steps = E .steps; sums = E .sums; figure = E .figure; sums-long = E .sums-long } in
     let room = scratchLent (i .shape) (scratchPlace q) (length scratch) in
-    subst (λ (j : Inputs). EndsAlike (replaceEnd k scratch (replace R room k q)) (replaceEnd (running j t' u') scratch (replace R (scratchLent (j .shape) (scratchPlace q) (length scratch)) (running j t' u') q))) (E .inputs)
+    subst (λ (j : Inputs). EndsAlike (runEnd k scratch (replace R room k q)) (runEnd (running j t' u') scratch (replace R (scratchLent (j .shape) (scratchPlace q) (length scratch)) (running j t' u') q))) (E .inputs)
     (ends-alike k (running i t' u') two scratch (replace R room k q) (replace R room (running i t' u') q) (replace-alike R i (k .stepped) t' (k .summed) u' A one two room q))

@@ -20,9 +20,10 @@ use Rattle.cutform.specs.Bonds.{noBond}
 use Rattle.cutform.specs.Keeping.{rankAt}
 use Rattle.stepform.specs.declared.Settings.{Settings}
 use Rattle.stepform.specs.Zones.{rules}
-use Rattle.runform.specs.Kept.{Kept, keptOf}
+use Rattle.runform.specs.Slices.{slices}
+use Rattle.runform.specs.Kept.{Kept}
 use Rattle.runform.specs.Requests.{Request, newCore, newAxis, newWeights}
-use Rattle.runform.specs.Call.{FreshEnd, freshCall, replaceBy}
+use Rattle.runform.specs.Call.{RunEnd, freshCall, replaceBy}
 use Rattle.runform.specs.Sequence.{keptAfter}
 
 -- m * 2 ^ e
@@ -63,21 +64,18 @@ abbrev pub shown : Kept → Verdict → List ℕ
 shown k Fits = rankAt (k .stepped) 0 ∷ bits (k .summed .figure ∷ (k .stepped .chain ++ (k .stepped .carries ++ k .summed .sums)))
 shown k (Refused r) = numberOf r ∷ placeOf r ∷ []
 
-abbrev freshly : Shape → FreshEnd
-freshly s = freshCall s axes (settings zero64) D weights (zeros 6) (zeros 4) (zeros 3) scratch
+abbrev pub told : RunEnd → List ℕ
+told e = shown (keptAfter e) (e .result .verdict)
 
-abbrev madeOf : FreshEnd → Kept
-madeOf e = keptOf (e .result .run) D weights (e .chain) (e .carries) (e .sums)
-
-abbrev fresh : Shape → List ℕ
-fresh s = shown (madeOf (freshly s)) (freshly s .result .verdict)
+abbrev freshly : Shape → RunEnd
+freshly s = freshCall s axes (settings zero64) (slices D weights (zeros 6) (zeros 4) (zeros 3)) scratch
 
 abbrev pub after : Kept → Request → List ℕ
-after k q = let e = replaceBy rules k q scratch in shown (keptAfter e) (e .result .verdict)
+after k q = told (replaceBy rules k q scratch)
 
 -- D kept, of rank 2: whatever becomes of zone 1's second number, of the weights' sums and of the figure
 abbrev kept : Kept
-kept = madeOf (freshly (shapeOf 2 1))
+kept = keptAfter (freshly (shapeOf 2 1))
 
 abbrev holding : Float → Float → Float → Float → List ℕ
 holding x a b figure = 2 ∷ bits (figure ∷ zero64 ∷ one64 ∷ one64 ∷ zero64 ∷ number 1 2 ∷ x ∷ zero64 ∷ number 1 2 ∷ number 3 0 ∷ zero64 ∷ a ∷ b ∷ figure ∷ [])
@@ -87,11 +85,10 @@ abbrev wide : Kept
 wide =
     let source = number 3 0 ∷ zero64 ∷ zero64 ∷ number 1 2 ∷ one64 ∷ number 3 0 ∷ number 5 0 ∷ number 7 0 ∷ [] in
     let points = one64 ∷ two64 ∷ one64 ∷ two64 ∷ [] in
-    let e = freshCall (shapeOf 2 2) axes (settings zero64) source points (zeros 8) (zeros 4) (zeros 3) (zeros (scratchFor 8)) in
-    keptOf (e .result .run) source points (e .chain) (e .carries) (e .sums)
+    keptAfter (freshCall (shapeOf 2 2) axes (settings zero64) (slices source points (zeros 8) (zeros 4) (zeros 3)) (zeros (scratchFor 8)))
 
 abbrev moved : Axis → List ℕ
-moved a = let e = replaceBy rules wide (newAxis 1 a) (zeros (scratchFor 8)) in shown (keptAfter e) (e .result .verdict)
+moved a = told (replaceBy rules wide (newAxis 1 a) (zeros (scratchFor 8)))
 
 abbrev widely : Float → Float → Float → Float → Float → List ℕ
 widely a b c d figure =
@@ -122,15 +119,15 @@ new = two64 ∷ one64 ∷ []
 unfoldable pub cases : List Case
 cases =
     -- a fresh run, and each replacement
-    case (fresh (shapeOf 2 1)) (holding (number 3 0) two64 one64 (number 11 0))
+    case (told (freshly (shapeOf 2 1))) (holding (number 3 0) two64 one64 (number 11 0))
     ∷ case (after kept (newCore 1 new)) (holding (number 3 1) two64 one64 (number 7 1))
     ∷ case (after kept (newWeights 0 (one64 ∷ one64 ∷ []))) (holding (number 3 0) one64 one64 (number 7 0))
     -- core 1 is carried over by 0, 4, 3, 0; the record b = 1 moves it by one of its two points, so that 1, 3 and 5, 7 become 2, 2 and 6, 6
     ∷ case (shown wide Fits) (widely (number 20 0) (number 28 0) (number 3 0) (number 9 0) (number 173 0))
     ∷ case (moved (axisOf zero64 one64)) (widely (number 24 0) (number 24 0) (number 6 0) (number 6 0) (number 162 0))
     -- each refusal
-    ∷ case (fresh (shapeOf 0 1)) (1 ∷ 0 ∷ [])
-    ∷ case (fresh (shapeOf 2 65)) (2 ∷ 1 ∷ [])
+    ∷ case (told (freshly (shapeOf 0 1))) (1 ∷ 0 ∷ [])
+    ∷ case (told (freshly (shapeOf 2 65))) (2 ∷ 1 ∷ [])
     ∷ case (after (left axes 3 (number 1 2) zero64) (newCore 1 new)) (3 ∷ 0 ∷ [])
     ∷ case (after kept (newCore 2 new)) (4 ∷ 0 ∷ [])
     ∷ case (after kept (newCore 1 (two64 ∷ []))) (5 ∷ 5 ∷ [])

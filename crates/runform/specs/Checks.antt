@@ -3,14 +3,14 @@ use Prim.Native.Nat.{ℕ, suc}
 use mathlib.Core.Bool.{Bool, true, _&&_}
 use mathlib.Core.List.{List, [], _∷_}
 use lib.Dec.{eqb}
-use lib.ListN.{length, getD}
+use lib.ListN.{length}
 use lib.Ieee.{Float}
 use Rattle.answers.specs.declared.Refusal.the-variants.{Length, Number, Setting, Reach}
 use Rattle.answers.specs.Outcome.{Answer, done, Check, _then_, demand, demandEach}
 use Rattle.lists.specs.Floats.{allFinite}
 use Rattle.shape.specs.declared.Shape.{Shape}
 use Rattle.shape.specs.Limits.{within, scratchFor}
-use Rattle.shape.specs.Shapes.{rightOf, atBond, chainOk, entriesOf}
+use Rattle.shape.specs.Shapes.{rightOf, atBond, chainOk, entriesOf, allPoints}
 use Rattle.shape.specs.Cores.{pointsAt}
 use Rattle.stepform.specs.declared.Axis.{Axis}
 use Rattle.stepform.specs.Axes.{axisFinite, axisOk, axisAt}
@@ -18,7 +18,8 @@ use Rattle.cutform.specs.Call.{coreFinite}
 use Rattle.stepform.specs.Lone.{loneFinite, loneOk}
 use Rattle.stepform.specs.Zones.{Rules}
 use Rattle.stepform.specs.Call.{reachesAt}
-use Rattle.runform.specs.Kept.{Inputs, Summed, Kept, lengthsFor, blank, heldCore, heldCarry, heldSums}
+use Rattle.runform.specs.Slices.{Outputs, outputsInOrder}
+use Rattle.runform.specs.Kept.{Inputs, Summed, Kept, roomFor, lengthsFor, blank, heldCore, heldCarry, heldSums}
 use Rattle.cutform.specs.declared.Bond.{Bond}
 use Rattle.cutform.specs.Keeping.{Stepped, rankAmong}
 use Rattle.runform.specs.Work.{workFrom}
@@ -27,18 +28,23 @@ use Rattle.runform.specs.Work.{workFrom}
 unfoldable pub rankOk : Shape → List Bond → ℕ → Bool
 rankOk s bonds k = atBond s k (within (rightOf s k) (rankAmong bonds k)) true
 
--- ---- 5: slices of these lengths, the first being slice j of a run
-unfoldable pub lentFrom : Shape → ℕ → List ℕ → Check
-lentFrom s j [] = done tt
-lentFrom s j (n ∷ ns) = demand (eqb n (getD (lengthsFor s) j 0)) (Length j) then lentFrom s (suc j) ns
+-- ---- 5: slices that have these lengths and are to have those, the first being slice j
+unfoldable pub lentFrom : ℕ → List ℕ → List ℕ → Check
+lentFrom j (n ∷ ns) (m ∷ ms) = demand (eqb n m) (Length j) then lentFrom (suc j) ns ms
+lentFrom j (n ∷ ns) [] = done tt
+lentFrom j [] ms = done tt
+
+-- all slices of a run
+abbrev pub slicesLent : Shape → List ℕ → Check
+slicesLent s lengths = lentFrom 0 lengths (lengthsFor s)
 
 -- slices 0 and 1, the source and the weights
 abbrev pub inputsLent : Inputs → Check
-inputsLent i = lentFrom (i .shape) 0 (length (i .source) ∷ length (i .weights) ∷ [])
+inputsLent i = lentFrom 0 (length (i .source) ∷ length (i .weights) ∷ []) (entriesOf (i .shape) ∷ allPoints (i .shape) ∷ [])
 
--- slices 2 to 4, the chain, the carries and the sums, by their lengths
-abbrev pub keptLent : Shape → ℕ → ℕ → ℕ → Check
-keptLent s chain carries sums = lentFrom s 2 (chain ∷ carries ∷ sums ∷ [])
+-- the slices from 2 on, which a run keeps, by their lengths
+abbrev pub outputsLent : Shape → Outputs ℕ → Check
+outputsLent s m = lentFrom 2 (outputsInOrder m) (outputsInOrder (roomFor s))
 
 -- scratch, which is slice j, by its length
 unfoldable pub scratchLent : Shape → ℕ → ℕ → Check

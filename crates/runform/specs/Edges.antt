@@ -18,11 +18,11 @@ use Rattle.stepform.specs.declared.Axis.{Axis}
 use Rattle.cutform.specs.Bonds.{noBond}
 use Rattle.stepform.specs.declared.Settings.{Settings}
 use Rattle.stepform.specs.Zones.{rules}
-use Rattle.runform.specs.Kept.{Kept, keptOf}
+use Rattle.runform.specs.Slices.{slices}
+use Rattle.runform.specs.Kept.{Kept}
 use Rattle.runform.specs.Requests.{Request, newCore, newAxis, newWeights}
-use Rattle.runform.specs.Call.{FreshEnd, freshCall, replaceBy}
-use Rattle.runform.specs.Sequence.{keptAfter}
-use Rattle.runform.specs.Cases.{bond, number, bits, shapeOf, axisOf, axes, D, weights, settings, shown, after, new, Case, case}
+use Rattle.runform.specs.Call.{RunEnd, freshCall, replaceBy}
+use Rattle.runform.specs.Cases.{bond, number, bits, shapeOf, axisOf, axes, D, weights, settings, told, after, new, Case, case}
 
 abbrev minus-one : Float
 minus-one = fin true 1 (pos 0)
@@ -51,13 +51,11 @@ set = settings (fin false 3 (negsuc 1))
 abbrev dust : List Float
 dust = replicate (scratchFor 6) one64
 
-abbrev ending : List Axis → Settings → List Float → List Float → FreshEnd
-ending xs t source points = freshCall (shapeOf 2 1) xs t source points (replicate 6 nan) (replicate 4 nan) (replicate 3 nan) dust
+abbrev ending : List Axis → Settings → List Float → List Float → RunEnd
+ending xs t source points = freshCall (shapeOf 2 1) xs t (slices source points (replicate 6 nan) (replicate 4 nan) (replicate 3 nan)) dust
 
 abbrev freshly : List Axis → Settings → List Float → List Float → List ℕ
-freshly xs t source points =
-    let e = ending xs t source points in
-    shown (keptOf (e .result .run) source points (e .chain) (e .carries) (e .sums)) (e .result .verdict)
+freshly xs t source points = told (ending xs t source points)
 
 -- D with x for its last number, which is core 1's
 abbrev D-with : Float → List Float
@@ -65,9 +63,7 @@ D-with x = number 3 0 ∷ zero64 ∷ zero64 ∷ number 1 2 ∷ one64 ∷ x ∷ [
 
 -- with slices of these lengths
 abbrev lent : ℕ → ℕ → ℕ → ℕ → ℕ → ℕ → List ℕ
-lent a b c d e f =
-    let g = freshCall (shapeOf 2 1) axes set (zeros a) (zeros b) (zeros c) (zeros d) (zeros e) (zeros f) in
-    shown (keptOf (g .result .run) D weights (g .chain) (g .carries) (g .sums)) (g .result .verdict)
+lent a b c d e f = told (freshCall (shapeOf 2 1) axes set (slices (zeros a) (zeros b) (zeros c) (zeros d) (zeros e)) (zeros f))
 
 -- ---- D as it is kept at eps 0.75, of rank 1; others may have written to any of this
 abbrev holding : Shape → List Axis → Settings → List Float → ℕ → Float → Kept
@@ -104,7 +100,7 @@ eachBeyond k = after k (newCore 2 (zeros 9)) ++ (after k (newAxis 2 still) ++ af
 
 -- with scratch of another length
 abbrev short : Request → List ℕ
-short q = let e = replaceBy rules well q (zeros 1) in shown (keptAfter e) (e .result .verdict)
+short q = told (replaceBy rules well q (zeros 1))
 
 -- rank 1, the figure, chain, carries and sums, with o in unused room
 abbrev rankOne : Float → List ℕ
@@ -166,7 +162,7 @@ replacedEdges =
     ∷ case (after (spoilt (axesOf far far) set weights) (newWeights 1 (one64 ∷ []))) (rankOne minus-nought)
     ∷ []
 
--- ---- a refused fresh run: the record has what was given and zeros, chain, carries and sums are as they were
+-- ---- a refused fresh run: the record has what was given and zeros, the slices are as they were
 abbrev leavesNothing : Refusal → List Axis → Settings → List Float → List Float → Type 0
 leavesNothing r xs t source after =
     ending xs t source weights
@@ -181,9 +177,7 @@ leavesNothing r xs t source after =
           figure = zero64;
         };
       };
-      chain = replicate 6 nan;
-      carries = replicate 4 nan;
-      sums = replicate 3 nan;
+      slices = slices source weights (replicate 6 nan) (replicate 4 nan) (replicate 3 nan);
       scratch = after;
     }
 

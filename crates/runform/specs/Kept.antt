@@ -1,6 +1,6 @@
 -- A kept run in memory: what it is made from, what it keeps, and what it holds for each zone. Definitions only.
 use Prim.Native.Nat.{ℕ, zero, suc, _-_, _*_}
-use mathlib.Core.List.{List, [], _∷_}
+use mathlib.Core.List.{List}
 use lib.ListN.{length, take, replicate}
 use lib.Ieee.{Float}
 use Rattle.numbers.specs.Arithmetic.{zero64}
@@ -23,6 +23,7 @@ use Rattle.stepform.specs.declared.Settings.{Settings}
 use Rattle.stepform.specs.Zones.{Zone, zone}
 use Rattle.runform.specs.declared.Run.{Run}
 use Rattle.runform.specs.declared.Lengths.{Lengths}
+use Rattle.runform.specs.Slices.{Outputs, Slices, outputs, slices, inOrder, eachOutput, eachSlice}
 
 -- what a run is made from
 pub record Inputs : Type 0 where
@@ -45,12 +46,15 @@ pub record Kept : Type 0 where
 abbrev pub running : Inputs → Stepped → Summed → Kept
 running i t u = record { inputs = i; stepped = t; summed = u }
 
--- ---- in memory it is a record by value and five slices: source, weights, chain, carries, sums
-abbrev pub keptOf : Run → List Float → List Float → List Float → List Float → List Float → Kept
-keptOf r source weights chain carries sums = record {
-  inputs = record { shape = r .shape; axes = r .axes; set = r .set; source = source; weights = weights };
-  stepped = record { bonds = r .bonds; chain = chain; carries = carries };
-  summed = record { sums = sums; figure = r .figure };
+-- ---- in memory it is a record by value and its slices
+abbrev pub inputsOf : Shape → List Axis → Settings → Slices (List Float) → Inputs
+inputsOf s xs t m = record { shape = s; axes = xs; set = t; source = m .source; weights = m .weights }
+
+abbrev pub keptOf : Run → Slices (List Float) → Kept
+keptOf r m = record {
+  inputs = inputsOf (r .shape) (r .axes) (r .set) m;
+  stepped = record { bonds = r .bonds; chain = m .outputs .chain; carries = m .outputs .carries };
+  summed = record { sums = m .outputs .sums; figure = r .figure };
 }
 
 abbrev pub recordOf : Kept → Run
@@ -62,6 +66,9 @@ recordOf k = record {
   figure = k .summed .figure;
 }
 
+abbrev pub slicesOf : Kept → Slices (List Float)
+slicesOf k = slices (k .inputs .source) (k .inputs .weights) (k .stepped .chain) (k .stepped .carries) (k .summed .sums)
+
 -- ---- all slots of carries, and of sums
 abbrev pub allCarries : Shape → ℕ
 allCarries s = offset (carrySize s) (s .d)
@@ -69,29 +76,30 @@ allCarries s = offset (carrySize s) (s .d)
 abbrev pub allSums : Shape → ℕ
 allSums s = offset (sumSize s) (s .d)
 
--- ---- the lengths of its slices, in their order: those that a shape asks for, those of a run, and those that code was told
+-- ---- the lengths of its slices: those that a shape asks for, those of a run, and those that code was told
+abbrev pub roomFor : Shape → Outputs ℕ
+roomFor s = outputs (entriesOf s) (allCarries s) (allSums s)
+
 abbrev pub lengthsFor : Shape → List ℕ
-lengthsFor s = entriesOf s ∷ allPoints s ∷ entriesOf s ∷ allCarries s ∷ allSums s ∷ []
+lengthsFor s = inOrder (record { source = entriesOf s; weights = allPoints s; outputs = roomFor s })
 
 abbrev pub lengthsOf : Kept → List ℕ
-lengthsOf k =
-    length (k .inputs .source) ∷ length (k .inputs .weights)
-    ∷ length (k .stepped .chain) ∷ length (k .stepped .carries) ∷ length (k .summed .sums) ∷ []
+lengthsOf k = inOrder (eachSlice length (slicesOf k))
 
 abbrev pub lengthsIn : Lengths → List ℕ
-lengthsIn l = l .source ∷ l .weights ∷ l .chain ∷ l .carries ∷ l .sums ∷ []
+lengthsIn l = inOrder (slices (l .source) (l .weights) (l .chain) (l .carries) (l .sums))
 
--- a run that keeps nothing yet, over slices as they are
-unfoldable pub bare : Inputs → List Float → List Float → List Float → Kept
-bare i chain carries sums = record {
-  inputs = i;
-  stepped = record { bonds = replicate mostAxes noBond; chain = chain; carries = carries };
-  summed = record { sums = sums; figure = zero64 };
-}
+-- ---- the record of a run that keeps nothing yet
+abbrev pub blankRun : Shape → List Axis → Settings → Run
+blankRun s xs t = record { shape = s; axes = xs; set = t; bonds = replicate mostAxes noBond; figure = zero64 }
+
+-- such a run over slices as they are
+unfoldable pub bare : Inputs → Outputs (List Float) → Kept
+bare i m = keptOf (blankRun (i .shape) (i .axes) (i .set)) (record { source = i .source; weights = i .weights; outputs = m })
 
 -- and with every slot +0
 unfoldable pub blank : Inputs → Kept
-blank i = bare i (zeros (entriesOf (i .shape))) (zeros (allCarries (i .shape))) (zeros (allSums (i .shape)))
+blank i = bare i (eachOutput zeros (roomFor (i .shape)))
 
 -- ---- what it is made from, zone by zone
 unfoldable pub zoneAt : Inputs → ℕ → Zone

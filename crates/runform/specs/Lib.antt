@@ -1,4 +1,5 @@
 -- a kept run, and the work on it from a zone on
+pub mod Slices
 pub mod Kept
 pub mod Work
 -- a fresh run, the three replacements, and the calls

@@ -21,7 +21,7 @@ use Rattle.stepform.specs.Zones.{Rules}
 use Rattle.stepform.specs.Lone.{loneFinite, loneOk}
 use Rattle.runform.specs.Kept.{Inputs, Kept, running, lengthsOf}
 use Rattle.runform.specs.Work.{sumFrom, workFrom}
-use Rattle.runform.specs.Checks.{rankOk, lentFrom, zoneFinite, keptFinite, inReachAt}
+use Rattle.runform.specs.Checks.{rankOk, slicesLent, zoneFinite, keptFinite, inReachAt}
 
 -- a zone, and its new core's numbers, its new axis record or its new weights
 pub data Request : Type 0 where
@@ -64,7 +64,7 @@ newOk (newWeights z ws) = true
 
 -- 1 to 5 of a run as it is found, and 4 of the zone z, but for the part and scratch; `bonds` and `lengths` are the run's
 unfoldable pub foundOk : Shape → List Bond → ℕ → List ℕ → Check
-foundOk s bonds z lengths = shapeOk s (rankOk s bonds) then demand (ltb z (s .d)) Zone then lentFrom s 0 lengths
+foundOk s bonds z lengths = shapeOk s (rankOk s bonds) then demand (ltb z (s .d)) Zone then slicesLent s lengths
 
 -- 6 and 7: every number in used room of record and slices, what is to be replaced too; `part` and `axis` say whether the new part, at zone z, passes them
 abbrev pub zoneFound : Kept → ℕ → Bool

@@ -9,29 +9,20 @@ use Rattle.answers.specs.Outcome.{done}
 use Rattle.lists.specs.Floats.{zeros}
 use Rattle.shape.specs.Limits.{mostAxes}
 use Rattle.stepform.specs.Zones.{Rules}
-use Rattle.runform.specs.Kept.{Inputs, Kept, keptOf, recordOf, lengthsFor, lengthsOf}
+use Rattle.runform.specs.Slices.{Slices, slices, pairwise}
+use Rattle.runform.specs.Kept.{Inputs, Kept, keptOf, recordOf, slicesOf, lengthsFor, lengthsOf}
 use Rattle.runform.specs.Requests.{Request, present}
-use Rattle.runform.specs.Call.{FreshEnd, Room, roomOk, freshBy, ReplaceEnd, replaceBy}
+use Rattle.runform.specs.Call.{RunEnd, Room, roomOk, freshBy, replaceBy}
 
 -- the run that a call leaves: its record, and the slices
-abbrev pub keptAfterFresh : Inputs → FreshEnd → Kept
-keptAfterFresh i e = keptOf (e .result .run) (i .source) (i .weights) (e .chain) (e .carries) (e .sums)
-
-abbrev pub keptAfter : ReplaceEnd → Kept
-keptAfter e = keptOf (e .result .run) (e .source) (e .weights) (e .chain) (e .carries) (e .sums)
+abbrev pub keptAfter : RunEnd → Kept
+keptAfter e = keptOf (e .result .run) (e .slices)
 
 -- the end of a fresh run that leaves k
-abbrev pub leaving : Room → Kept → FreshEnd
-leaving m k =
-    record {
-      result = record { verdict = Fits; run = recordOf k };
-      chain = k .stepped .chain;
-      carries = k .stepped .carries;
-      sums = k .summed .sums;
-      scratch = zeros (length (m .scratch));
-    }
+abbrev pub leaving : Room → Kept → RunEnd
+leaving m k = record { result = record { verdict = Fits; run = recordOf k }; slices = slicesOf k; scratch = zeros (length (m .scratch)) }
 
--- the run k is, in its record and its five slices, what a fresh run on the inputs i leaves, whatever slices of the right lengths it is lent
+-- the run k is, in its record and its slices, what a fresh run on the inputs i leaves, whatever slices of the right lengths it is lent
 pub record AsFresh (R : Rules) (i : Inputs) (k : Kept) : Type 0 where
   -- the array of axis records has 16 places, as its type says
   pub array : length (i .axes) ≡ mostAxes
@@ -46,21 +37,14 @@ pub data Slice : Type 0 where
   own : Slice
   other : List Float → Slice
 
--- for each of the five
-pub record Slices : Type 0 where
-  pub source : Slice
-  pub weights : Slice
-  pub chain : Slice
-  pub carries : Slice
-  pub sums : Slice
-
-abbrev pub ownSlices : Slices
-ownSlices = record { source = own; weights = own; chain = own; carries = own; sums = own }
+-- for each of them its own
+abbrev pub ownSlices : Slices Slice
+ownSlices = slices own own own own own
 
 -- what it asks for, what it is lent for the run's slices, and the scratch
 pub record Asked : Type 0 where
   pub request : Request
-  pub slices : Slices
+  pub slices : Slices Slice
   pub scratch : List Float
 
 -- what the call finds where the run's own slice holds l, and what that holds in the end, where the call leaves x in what it was lent
@@ -73,17 +57,12 @@ heldAfter l own x = x
 heldAfter l (other y) x = l
 
 -- the run as the call finds it: the record, and what is lent for the slices
-abbrev pub found : Kept → Slices → Kept
-found k m =
-    keptOf (recordOf k) (lentFor (k .inputs .source) (m .source)) (lentFor (k .inputs .weights) (m .weights))
-    (lentFor (k .stepped .chain) (m .chain)) (lentFor (k .stepped .carries) (m .carries)) (lentFor (k .summed .sums) (m .sums))
+abbrev pub found : Kept → Slices Slice → Kept
+found k m = keptOf (recordOf k) (pairwise lentFor (slicesOf k) m)
 
 -- the run in the end, where the call leaves k' of what it found: the record that it answers, and the run's own slices
-abbrev pub returned : Kept → Slices → Kept → Kept
-returned k m k' =
-    keptOf (recordOf k') (heldAfter (k .inputs .source) (m .source) (k' .inputs .source)) (heldAfter (k .inputs .weights) (m .weights) (k' .inputs .weights))
-    (heldAfter (k .stepped .chain) (m .chain) (k' .stepped .chain)) (heldAfter (k .stepped .carries) (m .carries) (k' .stepped .carries))
-    (heldAfter (k .summed .sums) (m .sums) (k' .summed .sums))
+abbrev pub returned : Kept → Slices Slice → Kept → Kept
+returned k m k' = keptOf (recordOf k') (pairwise (λ held x. held x) (pairwise heldAfter (slicesOf k) m) (slicesOf k'))
 
 -- what the caller lends: the run's own slices, or some of which one at least has a wrong length
 pub data Lends (k : Kept) (c : Asked) : Type 0 where
@@ -96,7 +75,7 @@ takenUp Fits i q = present i q
 takenUp (Refused r) i q = i
 
 module _ (R : Rules) where
-  abbrev pub endOf : Kept → Asked → ReplaceEnd
+  abbrev pub endOf : Kept → Asked → RunEnd
   endOf k c = replaceBy R (found k (c .slices)) (c .request) (c .scratch)
 
   -- the run after one call
