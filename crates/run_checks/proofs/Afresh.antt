@@ -3,43 +3,41 @@ use mathlib.Core.Path.{_≡_, refl, sym, ap, _∙_}
 use Prim.Native.Nat.{ℕ, _-_}
 use native.Mathlib.Nat.{sub-zero}
 use mathlib.Core.List.{[], _∷_}
-use lib.Dec.{eqb}
 use lib.ListN.{length}
 use Rattle.answers.specs.declared.Refusal.{Refusal}
 use Rattle.answers.specs.declared.Refusal.the-variants.{Length, Reach}
 use Rattle.answers.specs.declared.Verdict.{Verdict}
 use Rattle.answers.specs.declared.Verdict.the-variants.{Fits, Refused}
-use Rattle.answers.specs.Outcome.{done, refused, Check, _then_, demand, demandEach, verdictOf}
+use Rattle.answers.specs.Outcome.{done, refused, Check, _then_, demandEach, verdictOf}
 use Rattle.answers.proofs.Checks.{then-stops, then-passes}
 use Rattle.shape.specs.declared.Shape.{Shape}
 use Rattle.shape.specs.Limits.{scratchFor}
-use Rattle.shape.specs.Shapes.{chainOk, entriesOf, allPoints}
+use Rattle.shape.specs.Shapes.{chainOk, entriesOf}
 use Rattle.stepform.specs.Zones.{rules}
 use Rattle.stepform.specs.Call.{axisReaches}
 use Rattle.run_checks.proofs.Guards.{size-stops, size-passes}
-use Rattle.runform.specs.Kept.{Inputs, allCarries, allSums}
-use Rattle.runform.specs.Checks.{lentFrom, inputsLent, scratchLent, inReachAt, madeOk, freshOk}
+use Rattle.runform.specs.Slices.{Outputs, outputsInOrder}
+use Rattle.runform.specs.Kept.{Inputs}
+use Rattle.runform.specs.Checks.{slicesLent, inputsLent, outputsLent, scratchLent, inReachAt, madeOk, freshOk}
 use Rattle.runform.specs.Call.{roomLent}
+use Rattle.runform.proofs.InRow.{lent-parts}
 
--- the checks of all lengths in a row, however they are grouped
-row : (a b c d e f g o : Check) → a then (b then c then done tt) then ((d then e then f then done tt) then g) then o ≡ a then (b then c then d then e then f then done tt) then g then o
-row (refused r) b c d e f g o = refl
-row (done t1) (refused r) c d e f g o = refl
-row (done t1) (done t2) (refused r) d e f g o = refl
-row (done t1) (done t2) (done t3) (refused r) e f g o = refl
-row (done t1) (done t2) (done t3) (done t4) (refused r) f g o = refl
-row (done t1) (done t2) (done t3) (done t4) (done t5) (refused r) g o = refl
-row (done t1) (done t2) (done t3) (done t4) (done t5) (done t6) g o = refl
+-- checks in a row, however they are grouped
+row : (a b c d o : Check) → a then b then (c then d) then o ≡ a then (b then c) then d then o
+row (refused r) b c d o = refl
+row (done t1) (refused r) c d o = refl
+row (done t1) (done t2) (refused r) d o = refl
+row (done t1) (done t2) (done t3) d o = refl
 
-module _ (i : Inputs) (c k u n : ℕ) where
+module _ (i : Inputs) (m : Outputs ℕ) (n : ℕ) where
   abbrev s : Shape
   s = i .shape
 
   abbrev Lent : Check
-  Lent = lentFrom s 0 (length (i .source) ∷ length (i .weights) ∷ c ∷ k ∷ u ∷ [])
+  Lent = slicesLent s (length (i .source) ∷ length (i .weights) ∷ outputsInOrder m)
 
   abbrev Fresh : Check
-  Fresh = freshOk rules (roomLent s c k u n) i
+  Fresh = freshOk rules (roomLent s m n) i
 
   abbrev shifts : Check
   shifts = demandEach Reach (axisReaches (i .set) s (i .axes)) (s .d - 0) 0
@@ -48,12 +46,13 @@ module _ (i : Inputs) (c k u n : ℕ) where
   numbers = madeOk i then shifts
 
   fresh-row : Fresh ≡ chainOk s then Lent then scratchLent s 5 n then numbers
-  unfolding freshOk roomLent lentFrom
+  unfolding freshOk roomLent
   fresh-row =
-      let all : demandEach Reach (inReachAt rules i) (s .d) 0 ≡ shifts = ap (λ (m : ℕ). demandEach Reach (inReachAt rules i) m 0) (sym (sub-zero (s .d))) in
-      ap (λ (o : Check). chainOk s then inputsLent i then roomLent s c k u n then madeOk i then o) all
-      ∙ row (chainOk s) (demand (eqb (length (i .source)) (entriesOf s)) (Length 0)) (demand (eqb (length (i .weights)) (allPoints s)) (Length 1))
-      (demand (eqb c (entriesOf s)) (Length 2)) (demand (eqb k (allCarries s)) (Length 3)) (demand (eqb u (allSums s)) (Length 4)) (scratchLent s 5 n) numbers
+      let all : demandEach Reach (inReachAt rules i) (s .d) 0 ≡ shifts = ap (λ (j : ℕ). demandEach Reach (inReachAt rules i) j 0) (sym (sub-zero (s .d))) in
+      let parts : Lent ≡ inputsLent i then outputsLent s m = lent-parts 0 2 (length (i .source) ∷ length (i .weights) ∷ []) _ (outputsInOrder m) _ refl refl in
+      ap (λ (o : Check). chainOk s then inputsLent i then roomLent s m n then madeOk i then o) all
+      ∙ row (chainOk s) (inputsLent i) (outputsLent s m) (scratchLent s 5 n) numbers
+      ∙ ap (λ (l : Check). chainOk s then l then scratchLent s 5 n then numbers) (sym parts)
 
   module _ (v : Verdict) (e : v ≡ verdictOf (chainOk s)) where
     pub shape-stops : (r : Refusal) → v ≡ Refused r → Refused r ≡ verdictOf Fresh
@@ -66,21 +65,21 @@ module _ (i : Inputs) (c k u n : ℕ) where
       pub lent-stops : (r : Refusal) → w ≡ Refused r → Refused r ≡ verdictOf Fresh
       lent-stops r g = past (Refused r) (then-stops Lent (scratchLent s 5 n then numbers) w f r g)
 
-      module _ (g : w ≡ Fits) (m : ℕ) (o : m ≡ scratchFor (entriesOf s)) where
+      module _ (g : w ≡ Fits) (a : ℕ) (o : a ≡ scratchFor (entriesOf s)) where
         further : (x : Verdict) → x ≡ verdictOf (scratchLent s 5 n then numbers) → x ≡ verdictOf Fresh
         further x p = past x (then-passes Lent (scratchLent s 5 n then numbers) w f x g p)
 
-        pub scratch-stops : (n ≡ m → ⊥) → Refused (Length 5) ≡ verdictOf Fresh
+        pub scratch-stops : (n ≡ a → ⊥) → Refused (Length 5) ≡ verdictOf Fresh
         unfolding scratchLent
-        scratch-stops q = further (Refused (Length 5)) (size-stops numbers (Length 5) n (scratchFor (entriesOf s)) m o q)
+        scratch-stops q = further (Refused (Length 5)) (size-stops numbers (Length 5) n (scratchFor (entriesOf s)) a o q)
 
-        module _ (q : n ≡ m) (y : Verdict) (p : y ≡ verdictOf (madeOk i)) where
+        module _ (q : n ≡ a) (y : Verdict) (p : y ≡ verdictOf (madeOk i)) where
           onward : (x : Verdict) → x ≡ verdictOf numbers → x ≡ verdictOf Fresh
           unfolding scratchLent
-          onward x a = further x (size-passes numbers (Length 5) n (scratchFor (entriesOf s)) m o q x a)
+          onward x b = further x (size-passes numbers (Length 5) n (scratchFor (entriesOf s)) a o q x b)
 
           pub numbers-stop : (r : Refusal) → y ≡ Refused r → Refused r ≡ verdictOf Fresh
-          numbers-stop r a = onward (Refused r) (then-stops (madeOk i) shifts y p r a)
+          numbers-stop r h = onward (Refused r) (then-stops (madeOk i) shifts y p r h)
 
           pub fresh-fits : y ≡ Fits → (x : Verdict) → x ≡ verdictOf shifts → x ≡ verdictOf Fresh
-          fresh-fits a x b = onward x (then-passes (madeOk i) shifts y p x a b)
+          fresh-fits h x b = onward x (then-passes (madeOk i) shifts y p x h b)

@@ -1,9 +1,8 @@
 -- What a run is found to be, by what code finds of it. Assumes nothing.
-use mathlib.Core.Path.{_≡_, sym}
+use mathlib.Core.Path.{_≡_, refl}
 use Prim.Native.Nat.{ℕ, _≤_}
 use native.Mathlib.Nat.{le-of-eq}
 use mathlib.Core.Bool.{Bool, true, _&&_}
-use mathlib.Core.List.{[], _∷_}
 use lib.Dec.{eqb}
 use Rattle.numbers.specs.Finite.{finite}
 use Rattle.answers.specs.declared.Refusal.the-variants.{Number, Setting}
@@ -14,17 +13,24 @@ use Rattle.shape.specs.declared.Shape.{Shape}
 use Rattle.shape.specs.Shapes.{entriesOf, allPoints}
 use Rattle.stepform.specs.Axes.{axisOk, axisAt}
 use Rattle.stepform.specs.Lone.{loneFinite, loneOk}
-use Rattle.runform.specs.Kept.{Inputs, Kept, allCarries, allSums}
-use Rattle.runform.specs.Checks.{lentFrom, zoneFinite, madeOk}
+use Rattle.runform.specs.Slices.{Slices, inOrder}
+use Rattle.runform.specs.Kept.{Inputs, Kept, allCarries, allSums, lengthsFor}
+use Rattle.runform.specs.Checks.{slicesLent, zoneFinite, madeOk}
 use Rattle.runform.specs.Requests.{zoneFound, foundNumbers}
-use Rattle.runform.proofs.Trace.{lent-all}
+use Rattle.runform.proofs.InRow.{lent-is}
 
 -- ---- lengths that passed
-pub lent-says : (s : Shape) (a b c d e : ℕ) → lentFrom s 0 (a ∷ b ∷ c ∷ d ∷ e ∷ []) ≡ done tt
-    → (entriesOf s ≤ a) × (allPoints s ≤ b) × (entriesOf s ≤ c) × (allCarries s ≤ d) × (allSums s ≤ e)
-lent-says s a b c d e ok =
-    let L = lent-all s a b c d e ok in
-    (le-of-eq (sym (L .0)), le-of-eq (sym (L .1)), le-of-eq (sym (L .2)), le-of-eq (sym (L .3)), le-of-eq (sym (L .4)))
+pub record Long (s : Shape) (m : Slices ℕ) : Type 0 where
+  pub source : entriesOf s ≤ m .source
+  pub weights : allPoints s ≤ m .weights
+  pub chain : entriesOf s ≤ m .outputs .chain
+  pub carries : allCarries s ≤ m .outputs .carries
+  pub sums : allSums s ≤ m .outputs .sums
+
+pub lent-says : (s : Shape) (m : Slices ℕ) → slicesLent s (inOrder m) ≡ done tt → Long s m
+lent-says s m ok =
+    let l = lent-is 0 (inOrder m) (lengthsFor s) refl ok in
+    record { source = le-of-eq cc; weights = le-of-eq cc; chain = le-of-eq cc; carries = le-of-eq cc; sums = le-of-eq cc }
 
 -- 6 and 7 of it
 pub numbers-are : (k : Kept) (z : ℕ) (part axis : Bool) (v : Verdict) (lone figure mild : Bool)

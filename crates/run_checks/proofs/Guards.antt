@@ -20,6 +20,7 @@ use Rattle.stepform.specs.declared.Axis.{Axis}
 use Rattle.stepform.specs.Axes.{axisFinite, axisAt}
 use Rattle.cutform.specs.Call.{coreFinite}
 use Rattle.cutform.specs.declared.Bond.{Bond}
+use Rattle.runform.specs.Slices.{outputs}
 use Rattle.runform.specs.Checks.{coreHeld, carryHeld, sumsHeld, madeFinite, heldFinite}
 use Rattle.lists.proofs.Tests.{below-or-not, ltb-yes, ltb-no, eqb-yes, eqb-no}
 use Rattle.lists.proofs.Demands.{both-left, both-right, first-is}
@@ -126,7 +127,7 @@ module _ (s : Shape) (i j l m n : ℕ) (f : (j ≤ l → m ≡ j) × (l < j → 
 
   pub held-first : (bonds : List Bond) (chain carries sums : List Float)
       → i ≡ firstNot (coreHeld s bonds chain) (s .d) → j ≡ firstNot (carryHeld s bonds carries) (s .d) → l ≡ firstNot (sumsHeld s bonds sums) (s .d)
-      → n ≡ firstNot (heldFinite s bonds chain carries sums) (s .d)
+      → n ≡ firstNot (heldFinite s bonds (outputs chain carries sums)) (s .d)
   unfolding heldFinite
   held-first bonds chain carries sums a b c =
       least-fails (coreHeld s bonds chain) (λ (k : ℕ). carryHeld s bonds carries k && sumsHeld s bonds sums k) (s .d) i m n a

@@ -23,16 +23,12 @@ use Rattle.stepform.specs.Zones.{Rules, rules}
 use Rattle.stepform.specs.Call.{axisReaches}
 use Rattle.run_checks.proofs.Guards.{size-stops, size-passes}
 use Rattle.runform.specs.Kept.{Kept, lengthsOf}
-use Rattle.runform.specs.Checks.{rankOk, lentFrom, scratchLent}
+use Rattle.runform.specs.Checks.{rankOk, slicesLent, scratchLent}
 use Rattle.runform.specs.Requests.{Request, newCore, newAxis, newWeights, zoneOf, partFits, foundOk, foundNumbers, numbersOk, replaceOk}
 
 then-done : (c : Check) → c then done tt ≡ c
 then-done (done t1) = refl
 then-done (refused r) = refl
-
--- the run as it is found
-abbrev pub foundAs : Kept → ℕ → Check
-foundAs k z = foundOk (k .inputs .shape) (k .stepped .bonds) z (lengthsOf k)
 
 module _ (R : Rules) (room : Check) (k : Kept) (q : Request) where
   abbrev s : Shape
@@ -41,27 +37,27 @@ module _ (R : Rules) (room : Check) (k : Kept) (q : Request) where
   abbrev rest : Check
   rest = demand (partFits s q) (Length 5) then room then numbersOk R k q
 
-  found-first : replaceOk R room k q ≡ foundAs k (zoneOf q) then rest
+  found-first : replaceOk R room k q ≡ foundOk k (zoneOf q) then rest
   unfolding replaceOk
   found-first = refl
 
   -- what was found passes
-  module _ (v : Verdict) (e : v ≡ verdictOf (foundAs k (zoneOf q))) where
+  module _ (v : Verdict) (e : v ≡ verdictOf (foundOk k (zoneOf q))) where
     pub found-stops : (r : Refusal) → v ≡ Refused r → Refused r ≡ verdictOf (replaceOk R room k q)
-    found-stops r h = then-stops (foundAs k (zoneOf q)) rest v e r h ∙ ap verdictOf (sym found-first)
+    found-stops r h = then-stops (foundOk k (zoneOf q)) rest v e r h ∙ ap verdictOf (sym found-first)
 
     pub found-goes : v ≡ Fits → (w : Verdict) → w ≡ verdictOf rest → w ≡ verdictOf (replaceOk R room k q)
-    found-goes h w g = then-passes (foundAs k (zoneOf q)) rest v e w h g ∙ ap verdictOf (sym found-first)
+    found-goes h w g = then-passes (foundOk k (zoneOf q)) rest v e w h g ∙ ap verdictOf (sym found-first)
 
 -- what it says that it passed
-pub found-says : (k : Kept) (z : ℕ) (v : Verdict) → v ≡ verdictOf (foundAs k z) → v ≡ Fits
+pub found-says : (k : Kept) (z : ℕ) (v : Verdict) → v ≡ verdictOf (foundOk k z) → v ≡ Fits
     → (z < k .inputs .shape .d) × (shapeOk (k .inputs .shape) (rankOk (k .inputs .shape) (k .stepped .bonds)) ≡ done tt)
-    × (lentFrom (k .inputs .shape) 0 (lengthsOf k) ≡ done tt)
+    × (slicesLent (k .inputs .shape) (lengthsOf k) ≡ done tt)
 unfolding foundOk
 found-says k z v e h =
     let s = k .inputs .shape in
-    let L = lentFrom s 0 (lengthsOf k) in
-    let ok = verdict-passed (foundAs k z) v e h in
+    let L = slicesLent s (lengthsOf k) in
+    let ok = verdict-passed (foundOk k z) v e h in
     let A = then-is (shapeOk s (rankOk s (k .stepped .bonds))) (demand (ltb z (s .d)) Zone then L) tt ok in
     let B = then-is (demand (ltb z (s .d)) Zone) L tt (A .1) in
     (ltb-is z (s .d) (demand-is (ltb z (s .d)) Zone (B .0)), A .0, B .1)
@@ -72,7 +68,7 @@ module _ (R : Rules) (k : Kept) (z : ℕ) (ws : List Float) where
   unfolding numbersOk
   weights-numbers = then-done (foundNumbers k z (allFinite ws) true)
 
-  module _ (n : ℕ) (v : Verdict) (e : v ≡ verdictOf (foundAs k z)) (h : v ≡ Fits) where
+  module _ (n : ℕ) (v : Verdict) (e : v ≡ verdictOf (foundOk k z)) (h : v ≡ Fits) where
     abbrev Asks : Check
     Asks = replaceOk R (scratchLent (k .inputs .shape) 6 n) k (newWeights z ws)
 
@@ -103,7 +99,7 @@ module _ (k : Kept) (z : ℕ) (xs : List Float) where
   abbrev shifts : Check
   shifts = demandEach Reach (axisReaches (k .inputs .set) (k .inputs .shape) (k .inputs .axes)) (k .inputs .shape .d - z) z
 
-  module _ (n : ℕ) (v : Verdict) (e : v ≡ verdictOf (foundAs k z)) (h : v ≡ Fits) (l : ℕ) (sz : l ≡ coreSize (k .inputs .shape) z) where
+  module _ (n : ℕ) (v : Verdict) (e : v ≡ verdictOf (foundOk k z)) (h : v ≡ Fits) (l : ℕ) (sz : l ≡ coreSize (k .inputs .shape) z) where
     abbrev CoreAsks : Check
     CoreAsks = replaceOk rules (scratchLent (k .inputs .shape) 6 n) k (newCore z xs)
 
@@ -141,7 +137,7 @@ module _ (k : Kept) (z : ℕ) (x : Axis) where
   abbrev newShifts : Check
   newShifts = demandEach Reach (axisReaches (k .inputs .set) (k .inputs .shape) (set (k .inputs .axes) z x)) (k .inputs .shape .d - z) z
 
-  module _ (n : ℕ) (v : Verdict) (e : v ≡ verdictOf (foundAs k z)) (h : v ≡ Fits) (m : ℕ) (g : m ≡ scratchFor (entriesOf (k .inputs .shape))) where
+  module _ (n : ℕ) (v : Verdict) (e : v ≡ verdictOf (foundOk k z)) (h : v ≡ Fits) (m : ℕ) (g : m ≡ scratchFor (entriesOf (k .inputs .shape))) where
     abbrev AxisAsks : Check
     AxisAsks = replaceOk rules (scratchLent (k .inputs .shape) 5 n) k (newAxis z x)
 

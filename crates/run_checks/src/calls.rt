@@ -1,6 +1,7 @@
 // All that a fresh run, a new core and new weights ask, in their order.
 ghost use mathlib.Core.Path.{_≡_};
 ghost use Rattle.answers.specs.Outcome.{verdictOf};
+ghost use Rattle.runform.specs.Slices.{outputs, slices};
 ghost use Rattle.runform.specs.Kept.{keptOf};
 ghost use Rattle.runform.specs.Checks.{scratchLent, freshOk};
 ghost use Rattle.runform.specs.Call.{roomLent};
@@ -19,7 +20,7 @@ pub fn fresh_ok(
     sums: usize,
     scratch: usize,
 ) -> answers::Verdict
-    ensures { λ v. ⌜ v ≡ verdictOf (freshOk rules (roomLent s chain carries sums scratch)
+    ensures { λ v. ⌜ v ≡ verdictOf (freshOk rules (roomLent s (outputs chain carries sums) scratch)
         (record { shape = s; axes = xs; set = set; source = now (source .entry); weights = now (weights .entry) })) ⌝ }
 {
     let shaped = s.check();
@@ -60,19 +61,11 @@ pub fn weights_ok(
     scratch: usize,
 ) -> answers::Verdict
     ensures { λ v. ⌜ v ≡ verdictOf (replaceOk rules (scratchLent (r .shape) 6 scratch)
-        (keptOf r (now (source .entry)) (now (weights .entry)) (now (chain .entry)) (now (carries .entry)) (now (sums .entry)))
+        (keptOf r (slices (now (source .entry)) (now (weights .entry)) (now (chain .entry)) (now (carries .entry)) (now (sums .entry))))
         (newWeights z (now (part .entry)))) ⌝ }
 {
     let s = r.shape;
-    let bonds = r.bonds;
-    let l = runform::Lengths {
-        source: source.len(),
-        weights: weights.len(),
-        chain: chain.len(),
-        carries: carries.len(),
-        sums: sums.len(),
-    };
-    let found = crate::found::found_ok(s, bonds, z, l);
+    let found = crate::found::found_ok(r, z, source, weights, chain, carries, sums);
     if let answers::Verdict::Refused(q) = found {
         return answers::Verdict::Refused(q);
     }
@@ -99,19 +92,11 @@ pub fn core_ok(
     scratch: usize,
 ) -> answers::Verdict
     ensures { λ v. ⌜ v ≡ verdictOf (replaceOk rules (scratchLent (r .shape) 6 scratch)
-        (keptOf r (now (source .entry)) (now (weights .entry)) (now (chain .entry)) (now (carries .entry)) (now (sums .entry)))
+        (keptOf r (slices (now (source .entry)) (now (weights .entry)) (now (chain .entry)) (now (carries .entry)) (now (sums .entry))))
         (newCore z (now (part .entry)))) ⌝ }
 {
     let s = r.shape;
-    let bonds = r.bonds;
-    let l = runform::Lengths {
-        source: source.len(),
-        weights: weights.len(),
-        chain: chain.len(),
-        carries: carries.len(),
-        sums: sums.len(),
-    };
-    let found = crate::found::found_ok(s, bonds, z, l);
+    let found = crate::found::found_ok(r, z, source, weights, chain, carries, sums);
     if let answers::Verdict::Refused(q) = found {
         return answers::Verdict::Refused(q);
     }

@@ -9,14 +9,15 @@ ghost use Rattle.answers.specs.Outcome.{verdictOf, done, _then_, demand, demand
 ghost use Rattle.lists.specs.Lists.{pick, firstNot};
 ghost use Rattle.shape.specs.Shapes.{shapeOk, entriesOf, allPoints};
 ghost use Rattle.shape.specs.Sizes.{SizesWithin};
-ghost use Rattle.runform.specs.Kept.{allCarries, allSums, lengthsIn};
-ghost use Rattle.runform.specs.Checks.{rankOk, lentFrom, madeFinite, heldFinite};
+ghost use Rattle.runform.specs.Slices.{outputs, slices};
+ghost use Rattle.runform.specs.Kept.{keptOf, allCarries, allSums, lengthsIn};
+ghost use Rattle.runform.specs.Checks.{rankOk, slicesLent, madeFinite, heldFinite};
 ghost use Rattle.runform.specs.Requests.{foundOk};
 
 // Refusal 5 of a run's slices.
 pub fn lent(s: shape::Shape, l: runform::Lengths) -> answers::Verdict
     requires { ⌜ SizesWithin s ⌝ }
-    ensures { λ r. ⌜ r ≡ verdictOf (lentFrom s 0 (lengthsIn l)) ⌝ }
+    ensures { λ r. ⌜ r ≡ verdictOf (slicesLent s (lengthsIn l)) ⌝ }
 {
     let entries = s.entries();
     if l.source != entries {
@@ -40,20 +41,33 @@ pub fn lent(s: shape::Shape, l: runform::Lengths) -> answers::Verdict
 
 // Refusals 1 to 5 of a run and a zone of it.
 pub fn found_ok(
-    s: shape::Shape,
-    bonds: [cutform::Bond; shape::MOST_AXES],
+    r: runform::Run,
     z: usize,
-    l: runform::Lengths,
+    source: &[f64],
+    weights: &[f64],
+    chain: &[f64],
+    carries: &[f64],
+    sums: &[f64],
 ) -> answers::Verdict
-    ensures { λ r. ⌜ r ≡ verdictOf (foundOk s bonds z (lengthsIn l)) ⌝ }
+    ensures { λ v. ⌜ v ≡ verdictOf (foundOk
+        (keptOf r (slices (now (source .entry)) (now (weights .entry)) (now (chain .entry)) (now (carries .entry)) (now (sums .entry)))) z) ⌝ }
 {
+    let s = r.shape;
+    let bonds = r.bonds;
     let shaped = crate::ranks::shape_ok(s, bonds);
-    if let answers::Verdict::Refused(r) = shaped {
-        return answers::Verdict::Refused(r);
+    if let answers::Verdict::Refused(q) = shaped {
+        return answers::Verdict::Refused(q);
     }
     if z >= s.d {
         return answers::Verdict::Refused(answers::Refusal::Zone);
     }
+    let l = runform::Lengths {
+        source: source.len(),
+        weights: weights.len(),
+        chain: chain.len(),
+        carries: carries.len(),
+        sums: sums.len(),
+    };
     lent(s, l)
 }
 
@@ -96,7 +110,7 @@ pub fn first_bad_held(
 ) -> usize
     requires { ⌜ (SizesWithin s) × (shapeOk s (rankOk s bonds) ≡ done tt) ⌝ }
     requires { ⌜ (entriesOf s ≤ length (now chain)) × (allCarries s ≤ length (now carries)) × (allSums s ≤ length (now sums)) ⌝ }
-    ensures { λ r. ⌜ r ≡ firstNot (heldFinite s bonds (now (chain .entry)) (now (carries .entry)) (now (sums .entry))) (s .d) ⌝ }
+    ensures { λ r. ⌜ r ≡ firstNot (heldFinite s bonds (outputs (now (chain .entry)) (now (carries .entry)) (now (sums .entry)))) (s .d) ⌝ }
 {
     let core = crate::rooms::first_bad_core(s, bonds, chain);
     let carry = crate::rooms::first_bad_carry(s, bonds, carries);

@@ -2,6 +2,7 @@
 ghost use mathlib.Core.Path.{_≡_};
 ghost use Rattle.answers.specs.Outcome.{verdictOf};
 ghost use Rattle.stepform.specs.Zones.{rules};
+ghost use Rattle.runform.specs.Slices.{slices};
 ghost use Rattle.runform.specs.Kept.{keptOf};
 ghost use Rattle.runform.specs.Requests.{newAxis, replaceOk};
 ghost use Rattle.runform.specs.Checks.{scratchLent};
@@ -18,19 +19,11 @@ pub fn axis_ok(
     scratch: usize,
 ) -> answers::Verdict
     ensures { λ v. ⌜ v ≡ verdictOf (replaceOk rules (scratchLent (r .shape) 5 scratch)
-        (keptOf r (now (source .entry)) (now (weights .entry)) (now (chain .entry)) (now (carries .entry)) (now (sums .entry)))
+        (keptOf r (slices (now (source .entry)) (now (weights .entry)) (now (chain .entry)) (now (carries .entry)) (now (sums .entry))))
         (newAxis z a)) ⌝ }
 {
     let s = r.shape;
-    let bonds = r.bonds;
-    let l = runform::Lengths {
-        source: source.len(),
-        weights: weights.len(),
-        chain: chain.len(),
-        carries: carries.len(),
-        sums: sums.len(),
-    };
-    let found = crate::found::found_ok(s, bonds, z, l);
+    let found = crate::found::found_ok(r, z, source, weights, chain, carries, sums);
     if let answers::Verdict::Refused(q) = found {
         return answers::Verdict::Refused(q);
     }

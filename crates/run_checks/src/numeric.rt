@@ -6,8 +6,9 @@ ghost use Rattle.answers.specs.Outcome.{verdictOf, done};
 ghost use Rattle.lists.specs.Lists.{firstNot};
 ghost use Rattle.shape.specs.Shapes.{shapeOk, entriesOf, allPoints};
 ghost use Rattle.shape.specs.Sizes.{SizesWithin};
+ghost use Rattle.runform.specs.Slices.{slices};
 ghost use Rattle.runform.specs.Kept.{keptOf, lengthsOf};
-ghost use Rattle.runform.specs.Checks.{rankOk, lentFrom, madeOk};
+ghost use Rattle.runform.specs.Checks.{rankOk, slicesLent, madeOk};
 ghost use Rattle.runform.specs.Requests.{zoneFound, foundNumbers};
 
 // The first zone with a number that isn't finite, in what it is made from or in what is kept of it, or d.
@@ -20,9 +21,9 @@ fn first_bad_number(
     sums: &[f64],
 ) -> usize
     requires { ⌜ shapeOk (r .shape) (rankOk (r .shape) (r .bonds)) ≡ done tt ⌝ }
-    requires { ⌜ lentFrom (r .shape) 0 (lengthsOf (keptOf r (now source) (now weights) (now chain) (now carries) (now sums))) ≡ done tt ⌝ }
+    requires { ⌜ slicesLent (r .shape) (lengthsOf (keptOf r (slices (now source) (now weights) (now chain) (now carries) (now sums)))) ≡ done tt ⌝ }
     ensures { λ n. ⌜ n ≡ firstNot (zoneFound
-        (keptOf r (now (source .entry)) (now (weights .entry)) (now (chain .entry)) (now (carries .entry)) (now (sums .entry)))) (r .shape .d) ⌝ }
+        (keptOf r (slices (now (source .entry)) (now (weights .entry)) (now (chain .entry)) (now (carries .entry)) (now (sums .entry))))) (r .shape .d) ⌝ }
 {
     let s = r.shape;
     let xs = r.axes;
@@ -46,9 +47,9 @@ pub fn numbers_found(
     sums: &[f64],
 ) -> answers::Verdict
     requires { ⌜ (z < r .shape .d) × (shapeOk (r .shape) (rankOk (r .shape) (r .bonds)) ≡ done tt) ⌝ }
-    requires { ⌜ lentFrom (r .shape) 0 (lengthsOf (keptOf r (now source) (now weights) (now chain) (now carries) (now sums))) ≡ done tt ⌝ }
+    requires { ⌜ slicesLent (r .shape) (lengthsOf (keptOf r (slices (now source) (now weights) (now chain) (now carries) (now sums)))) ≡ done tt ⌝ }
     ensures { λ v. ⌜ v ≡ verdictOf (foundNumbers
-        (keptOf r (now (source .entry)) (now (weights .entry)) (now (chain .entry)) (now (carries .entry)) (now (sums .entry))) z part axis) ⌝ }
+        (keptOf r (slices (now (source .entry)) (now (weights .entry)) (now (chain .entry)) (now (carries .entry)) (now (sums .entry)))) z part axis) ⌝ }
 {
     let s = r.shape;
     let xs = r.axes;

@@ -85,7 +85,7 @@ module _ (R : Rules) (S : Sound R) (i : Inputs) (T : Trace R i) where
   shape-passes = shape-same s (rankOk s (t .bonds)) (λ (k : ℕ). true) ranks-pass ∙ T .step .ok .shape
 
   -- 1 to 5
-  pub run-passes : (z : ℕ) → z < i .shape .d → foundOk s (t .bonds) z (lengthsOf (keptBy T)) ≡ done tt
+  pub run-passes : (z : ℕ) → z < i .shape .d → foundOk (keptBy T) z ≡ done tt
   unfolding foundOk
   run-passes z lt = then-skip _ _ _ shape-passes (then-skip _ _ _ (demand-yes (ltb z (s .d)) Zone (ltb-yes z (s .d) lt)) slices-pass)
 

@@ -18,7 +18,7 @@ use Rattle.cutform.specs.Call.{coreFinite}
 use Rattle.stepform.specs.Lone.{loneFinite, loneOk}
 use Rattle.stepform.specs.Zones.{Rules}
 use Rattle.stepform.specs.Call.{reachesAt}
-use Rattle.runform.specs.Slices.{Outputs, outputsInOrder}
+use Rattle.runform.specs.Slices.{Outputs, outputs, outputsInOrder}
 use Rattle.runform.specs.Kept.{Inputs, Summed, Kept, roomFor, lengthsFor, blank, heldCore, heldCarry, heldSums}
 use Rattle.cutform.specs.declared.Bond.{Bond}
 use Rattle.cutform.specs.Keeping.{Stepped, rankAmong}
@@ -67,11 +67,11 @@ carryHeld s bonds carries k = atBond s k (allFinite (heldCarry s bonds carries k
 unfoldable pub sumsHeld : Shape → List Bond → List Float → ℕ → Bool
 sumsHeld s bonds sums k = allFinite (heldSums s bonds sums k)
 
-unfoldable pub heldFinite : Shape → List Bond → List Float → List Float → List Float → ℕ → Bool
-heldFinite s bonds chain carries sums k = coreHeld s bonds chain k && (carryHeld s bonds carries k && sumsHeld s bonds sums k)
+unfoldable pub heldFinite : Shape → List Bond → Outputs (List Float) → ℕ → Bool
+heldFinite s bonds m k = coreHeld s bonds (m .chain) k && (carryHeld s bonds (m .carries) k && sumsHeld s bonds (m .sums) k)
 
 abbrev pub keptFinite : Shape → Stepped → Summed → ℕ → Bool
-keptFinite s t u = heldFinite s (t .bonds) (t .chain) (t .carries) (u .sums)
+keptFinite s t u = heldFinite s (t .bonds) (outputs (t .chain) (t .carries) (u .sums))
 
 -- ---- 6 and 7 of what a run is made from
 unfoldable pub madeOk : Inputs → Check

@@ -15,7 +15,6 @@ use Rattle.lists.specs.Floats.{allFinite}
 use Rattle.shape.specs.declared.Shape.{Shape}
 use Rattle.shape.specs.Shapes.{shapeOk, coreSize, pointSize}
 use Rattle.stepform.specs.declared.Axis.{Axis}
-use Rattle.cutform.specs.declared.Bond.{Bond}
 use Rattle.stepform.specs.Axes.{axisFinite, axisOk, axisAt}
 use Rattle.stepform.specs.Zones.{Rules}
 use Rattle.stepform.specs.Lone.{loneFinite, loneOk}
@@ -62,9 +61,11 @@ newOk (newCore z xs) = true
 newOk (newAxis z a) = axisOk a
 newOk (newWeights z ws) = true
 
--- 1 to 5 of a run as it is found, and 4 of the zone z, but for the part and scratch; `bonds` and `lengths` are the run's
-unfoldable pub foundOk : Shape → List Bond → ℕ → List ℕ → Check
-foundOk s bonds z lengths = shapeOk s (rankOk s bonds) then demand (ltb z (s .d)) Zone then slicesLent s lengths
+-- 1 to 5 of a run as it is found, and 4 of the zone z, but for the part and scratch
+unfoldable pub foundOk : Kept → ℕ → Check
+foundOk k z =
+    let s = k .inputs .shape in
+    shapeOk s (rankOk s (k .stepped .bonds)) then demand (ltb z (s .d)) Zone then slicesLent s (lengthsOf k)
 
 -- 6 and 7: every number in used room of record and slices, what is to be replaced too; `part` and `axis` say whether the new part, at zone z, passes them
 abbrev pub zoneFound : Kept → ℕ → Bool
@@ -92,9 +93,8 @@ module _ (R : Rules) where
   -- the part is slice 5; `room` is 5 for scratch, which comes last
   unfoldable pub replaceOk : Check → Kept → Request → Check
   replaceOk room k q =
-      let s = k .inputs .shape in
-      foundOk s (k .stepped .bonds) (zoneOf q) (lengthsOf k)
-      then demand (partFits s q) (Length 5)
+      foundOk k (zoneOf q)
+      then demand (partFits (k .inputs .shape) q) (Length 5)
       then room
       then numbersOk k q
 

@@ -1,7 +1,8 @@
 -- `run_checks::calls::core_ok`: check after check, one law for each return (found-stops, core-wrong, core-room, core-stops, core-fits); a run found right has its sizes (found-says).
 use borrow.Author.Needs.{needs}
 use Rattle.shape.proofs.Shaped.{shaped}
-use Rattle.runform.specs.Kept.{keptOf}
+use Rattle.runform.specs.Slices.{slices}
+use Rattle.runform.specs.Kept.{Kept, keptOf}
 use Rattle.run_checks.proofs.InRow.{found-stops, found-says, core-wrong, core-room, core-stops, core-fits}
 use Rattle.stepform.specs.Zones.{rules}
 use Rattle.runform.specs.Requests.{newCore}
@@ -10,38 +11,42 @@ use native.Mathlib.Omega.{arith}
 use Rattle.run_checks.proofs.calls.core_ok.Statement.{statement}
 use Rattle.run_checks.proofs.calls.core_ok.Tie as tie
 
+-- the run as it is found
+abbrev found-run : tie.Start → Kept
+found-run i = keptOf (i .args .r) (slices (i .args .source .now) (i .args .weights .now) (i .args .chain .now) (i .args .carries .now) (i .args .sums .now))
+
 returns : tie.Need-returns
 returns c =
-    let i = c .before .before .before .before .before .before .before .before .before .before .before .before in
+    let i = c .before .before .before .before .before .before .before .before .before .before .before in
     found-stops rules (scratchLent (i .args .r .shape) 6 (i .args .scratch))
-    (keptOf (i .args .r) (i .args .source .now) (i .args .weights .now) (i .args .chain .now) (i .args .carries .now) (i .args .sums .now))
+    (found-run i)
     (newCore (i .args .z) (i .args .part .now)) _ (c .before .before .before .found-ok .ensures) _ (c .before .found .given .1)
 
 core-size-requires : tie.Need-core-size-requires
 core-size-requires c κs =
-    let i = c .before .before .before .before .before .before .before .before .before .before .before in
-    let f = found-says (keptOf (i .args .r) (i .args .source .now) (i .args .weights .now) (i .args .chain .now) (i .args .carries .now) (i .args .sums .now)) (i .args .z) _ (c .before .before .found-ok .ensures) (c .enum-told .given .1) in
+    let i = c .before .before .before .before .before .before .before .before .before .before in
+    let f = found-says (found-run i) (i .args .z) _ (c .before .before .found-ok .ensures) (c .enum-told .given .1) in
     (shaped _ _ (f .1) .sizes, f .0)
 
 returns-2 : tie.Need-returns-2
 returns-2 c =
-    let i = c .before .before .before .before .before .before .before .before .before .before .before .before .before in
-    core-wrong (keptOf (i .args .r) (i .args .source .now) (i .args .weights .now) (i .args .chain .now) (i .args .carries .now) (i .args .sums .now))
+    let i = c .before .before .before .before .before .before .before .before .before .before .before .before in
+    core-wrong (found-run i)
     (i .args .z) (i .args .part .now) (i .args .scratch) _ (c .before .before .before .before .found-ok .ensures) (c .before .before .enum-told .given .1) _
     (c .before .core-size .ensures) (c .if1 .taken)
 
 scratch-of-requires : tie.Need-scratch-of-requires
 scratch-of-requires c κs =
     let told = c .before .before in
-    let i = told .before .before .before .before .before .before .before .before .before .before .before in
-    let f = found-says (keptOf (i .args .r) (i .args .source .now) (i .args .weights .now) (i .args .chain .now) (i .args .carries .now) (i .args .sums .now))
+    let i = told .before .before .before .before .before .before .before .before .before .before in
+    let f = found-says (found-run i)
     (i .args .z) _ (told .before .before .found-ok .ensures) (told .enum-told .given .1) in
     shaped _ _ (f .1) .sizes
 
 returns-3 : tie.Need-returns-3
 returns-3 c =
-    let i = c .before .before .before .before .before .before .before .before .before .before .before .before .before .before .before in
-    core-room (keptOf (i .args .r) (i .args .source .now) (i .args .weights .now) (i .args .chain .now) (i .args .carries .now) (i .args .sums .now))
+    let i = c .before .before .before .before .before .before .before .before .before .before .before .before .before .before in
+    core-room (found-run i)
     (i .args .z) (i .args .part .now) (i .args .scratch) _ (c .before .before .before .before .before .before .found-ok .ensures)
     (c .before .before .before .before .enum-told .given .1) _ (c .before .before .before .core-size .ensures) (c .before .before .if1 .left) _
     (c .before .scratch-of .ensures) (c .if2 .taken)
@@ -49,15 +54,15 @@ returns-3 c =
 numbers-found-requires : tie.Need-numbers-found-requires
 numbers-found-requires c κs =
     let told = c .before .before .before .before .before in
-    let i = told .before .before .before .before .before .before .before .before .before .before .before in
-    let f = found-says (keptOf (i .args .r) (i .args .source .now) (i .args .weights .now) (i .args .chain .now) (i .args .carries .now) (i .args .sums .now))
+    let i = told .before .before .before .before .before .before .before .before .before .before in
+    let f = found-says (found-run i)
     (i .args .z) _ (told .before .before .found-ok .ensures) (told .enum-told .given .1) in
     ((f .0, f .1), f .2)
 
 returns-4 : tie.Need-returns-4
 returns-4 c =
-    let i = c .before .before .before .before .before .before .before .before .before .before .before .before .before .before .before .before .before .before .before .before in
-    core-stops (keptOf (i .args .r) (i .args .source .now) (i .args .weights .now) (i .args .chain .now) (i .args .carries .now) (i .args .sums .now))
+    let i = c .before .before .before .before .before .before .before .before .before .before .before .before .before .before .before .before .before .before .before in
+    core-stops (found-run i)
     (i .args .z) (i .args .part .now) (i .args .scratch) _
     (c .before .before .before .before .before .before .before .before .before .before .before .found-ok .ensures)
     (c .before .before .before .before .before .before .before .before .before .enum-told .given .1) _
@@ -69,15 +74,15 @@ returns-4 c =
 reaches-ok-requires : tie.Need-reaches-ok-requires
 reaches-ok-requires c κs =
     let told = c .before .before .before .before .before .before .before .before .before .before in
-    let i = told .before .before .before .before .before .before .before .before .before .before .before in
-    let f = found-says (keptOf (i .args .r) (i .args .source .now) (i .args .weights .now) (i .args .chain .now) (i .args .carries .now) (i .args .sums .now))
+    let i = told .before .before .before .before .before .before .before .before .before .before in
+    let f = found-says (found-run i)
     (i .args .z) _ (told .before .before .found-ok .ensures) (told .enum-told .given .1) in
     (shaped _ _ (f .1) .sizes .axes, omega (arith, f .0))
 
 returns-5 : tie.Need-returns-5
 returns-5 c =
-    let i = c .before .before .before .before .before .before .before .before .before .before .before .before .before .before .before .before .before .before .before .before .before .before in
-    core-fits (keptOf (i .args .r) (i .args .source .now) (i .args .weights .now) (i .args .chain .now) (i .args .carries .now) (i .args .sums .now))
+    let i = c .before .before .before .before .before .before .before .before .before .before .before .before .before .before .before .before .before .before .before .before .before in
+    core-fits (found-run i)
     (i .args .z) (i .args .part .now) (i .args .scratch) _
     (c .before .before .before .before .before .before .before .before .before .before .before .before .before .found-ok .ensures)
     (c .before .before .before .before .before .before .before .before .before .before .before .enum-told .given .1) _

@@ -1,7 +1,8 @@
 -- `run_checks::calls::weights_ok`: check after check, one law for each return (found-stops, weights-wrong, weights-room, weights-fit); a run found right has its sizes (found-says).
 use borrow.Author.Needs.{needs}
 use Rattle.shape.proofs.Shaped.{shaped}
-use Rattle.runform.specs.Kept.{keptOf}
+use Rattle.runform.specs.Slices.{slices}
+use Rattle.runform.specs.Kept.{Kept, keptOf}
 use Rattle.run_checks.proofs.InRow.{found-stops, found-says, weights-wrong, weights-room, weights-fit}
 use Rattle.stepform.specs.Zones.{rules}
 use Rattle.runform.specs.Requests.{newWeights}
@@ -10,59 +11,63 @@ use native.Mathlib.Omega.{arith}
 use Rattle.run_checks.proofs.calls.weights_ok.Statement.{statement}
 use Rattle.run_checks.proofs.calls.weights_ok.Tie as tie
 
+-- the run as it is found
+abbrev found-run : tie.Start → Kept
+found-run i = keptOf (i .args .r) (slices (i .args .source .now) (i .args .weights .now) (i .args .chain .now) (i .args .carries .now) (i .args .sums .now))
+
 returns : tie.Need-returns
 returns c =
-    let i = c .before .before .before .before .before .before .before .before .before .before .before .before in
+    let i = c .before .before .before .before .before .before .before .before .before .before .before in
     found-stops rules (scratchLent (i .args .r .shape) 6 (i .args .scratch))
-    (keptOf (i .args .r) (i .args .source .now) (i .args .weights .now) (i .args .chain .now) (i .args .carries .now) (i .args .sums .now))
+    (found-run i)
     (newWeights (i .args .z) (i .args .part .now)) _ (c .before .before .before .found-ok .ensures) _ (c .before .found .given .1)
 
 mul-if1 : tie.Need-mul-if1
 mul-if1 c =
-    let i = c .before .before .before .before .before .before .before .before .before .before .before in
-    let f = found-says (keptOf (i .args .r) (i .args .source .now) (i .args .weights .now) (i .args .chain .now) (i .args .carries .now) (i .args .sums .now)) (i .args .z) _ (c .before .before .found-ok .ensures) (c .enum-told .given .1) in
+    let i = c .before .before .before .before .before .before .before .before .before .before in
+    let f = found-says (found-run i) (i .args .z) _ (c .before .before .found-ok .ensures) (c .enum-told .given .1) in
     record { fits = omega (arith, f .0, shaped _ _ (f .1) .most) }
 
 element-copy-out-if1 : tie.Need-element-copy-out-if1
 element-copy-out-if1 c =
-    let i = c .before .before .before .before .before .before .before .before .before .before .before in
-    let f = found-says (keptOf (i .args .r) (i .args .source .now) (i .args .weights .now) (i .args .chain .now) (i .args .carries .now) (i .args .sums .now)) (i .args .z) _ (c .before .before .found-ok .ensures) (c .enum-told .given .1) in
+    let i = c .before .before .before .before .before .before .before .before .before .before in
+    let f = found-says (found-run i) (i .args .z) _ (c .before .before .found-ok .ensures) (c .enum-told .given .1) in
     omega (arith, f .0, shaped _ _ (f .1) .most)
 
 returns-2 : tie.Need-returns-2
 returns-2 c =
-    let i = c .before .before .before .before .before .before .before .before .before .before .before .before .before in
-    weights-wrong rules (keptOf (i .args .r) (i .args .source .now) (i .args .weights .now) (i .args .chain .now) (i .args .carries .now) (i .args .sums .now))
+    let i = c .before .before .before .before .before .before .before .before .before .before .before .before in
+    weights-wrong rules (found-run i)
     (i .args .z) (i .args .part .now) (i .args .scratch) _ (c .before .before .before .before .found-ok .ensures) (c .before .before .enum-told .given .1)
     (c .if1 .taken)
 
 scratch-of-requires : tie.Need-scratch-of-requires
 scratch-of-requires c κs =
     let told = c .before .before in
-    let i = told .before .before .before .before .before .before .before .before .before .before .before in
-    let f = found-says (keptOf (i .args .r) (i .args .source .now) (i .args .weights .now) (i .args .chain .now) (i .args .carries .now) (i .args .sums .now))
+    let i = told .before .before .before .before .before .before .before .before .before .before in
+    let f = found-says (found-run i)
     (i .args .z) _ (told .before .before .found-ok .ensures) (told .enum-told .given .1) in
     shaped _ _ (f .1) .sizes
 
 returns-3 : tie.Need-returns-3
 returns-3 c =
-    let i = c .before .before .before .before .before .before .before .before .before .before .before .before .before .before .before in
-    weights-room rules (keptOf (i .args .r) (i .args .source .now) (i .args .weights .now) (i .args .chain .now) (i .args .carries .now) (i .args .sums .now))
+    let i = c .before .before .before .before .before .before .before .before .before .before .before .before .before .before in
+    weights-room rules (found-run i)
     (i .args .z) (i .args .part .now) (i .args .scratch) _ (c .before .before .before .before .before .before .found-ok .ensures)
     (c .before .before .before .before .enum-told .given .1) (c .before .before .if1 .left) _ (c .before .scratch-of .ensures) (c .if2 .taken)
 
 numbers-found-requires : tie.Need-numbers-found-requires
 numbers-found-requires c κs =
     let told = c .before .before .before .before .before in
-    let i = told .before .before .before .before .before .before .before .before .before .before .before in
-    let f = found-says (keptOf (i .args .r) (i .args .source .now) (i .args .weights .now) (i .args .chain .now) (i .args .carries .now) (i .args .sums .now))
+    let i = told .before .before .before .before .before .before .before .before .before .before in
+    let f = found-says (found-run i)
     (i .args .z) _ (told .before .before .found-ok .ensures) (told .enum-told .given .1) in
     ((f .0, f .1), f .2)
 
 returns-4 : tie.Need-returns-4
 returns-4 c =
-    let i = c .before .before .before .before .before .before .before .before .before .before .before .before .before .before .before .before .before in
-    weights-fit rules (keptOf (i .args .r) (i .args .source .now) (i .args .weights .now) (i .args .chain .now) (i .args .carries .now) (i .args .sums .now))
+    let i = c .before .before .before .before .before .before .before .before .before .before .before .before .before .before .before .before in
+    weights-fit rules (found-run i)
     (i .args .z) (i .args .part .now) (i .args .scratch) _ (c .before .before .before .before .before .before .before .before .found-ok .ensures)
     (c .before .before .before .before .before .before .enum-told .given .1) (c .before .before .before .before .if1 .left) _
     (c .before .before .before .scratch-of .ensures) (c .before .before .if2 .left) _ (c .before .all-finite .ensures) _ (c .numbers-found .ensures)

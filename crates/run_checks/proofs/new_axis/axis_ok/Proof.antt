@@ -1,7 +1,8 @@
 -- `run_checks::new_axis::axis_ok`: check after check, one law for each return (found-stops, axis-room, axis-stops, axis-fits); a run found right has its sizes (found-says).
 use borrow.Author.Needs.{needs}
 use Rattle.shape.proofs.Shaped.{shaped}
-use Rattle.runform.specs.Kept.{keptOf}
+use Rattle.runform.specs.Slices.{slices}
+use Rattle.runform.specs.Kept.{Kept, keptOf}
 use Rattle.run_checks.proofs.InRow.{found-stops, found-says, axis-room, axis-stops, axis-fits}
 use Rattle.stepform.specs.Zones.{rules}
 use Rattle.runform.specs.Requests.{newAxis}
@@ -10,38 +11,42 @@ use native.Mathlib.Omega.{arith}
 use Rattle.run_checks.proofs.new_axis.axis_ok.Statement.{statement}
 use Rattle.run_checks.proofs.new_axis.axis_ok.Tie as tie
 
+-- the run as it is found
+abbrev found-run : tie.Start → Kept
+found-run i = keptOf (i .args .r) (slices (i .args .source .now) (i .args .weights .now) (i .args .chain .now) (i .args .carries .now) (i .args .sums .now))
+
 returns : tie.Need-returns
 returns c =
-    let i = c .before .before .before .before .before .before .before .before .before .before .before in
+    let i = c .before .before .before .before .before .before .before .before .before .before in
     found-stops rules (scratchLent (i .args .r .shape) 5 (i .args .scratch))
-    (keptOf (i .args .r) (i .args .source .now) (i .args .weights .now) (i .args .chain .now) (i .args .carries .now) (i .args .sums .now))
+    (found-run i)
     (newAxis (i .args .z) (i .args .a)) _ (c .before .before .before .found-ok .ensures) _ (c .before .found .given .1)
 
 scratch-of-requires : tie.Need-scratch-of-requires
 scratch-of-requires c κs =
-    let i = c .before .before .before .before .before .before .before .before .before .before in
-    let f = found-says (keptOf (i .args .r) (i .args .source .now) (i .args .weights .now) (i .args .chain .now) (i .args .carries .now) (i .args .sums .now)) (i .args .z) _ (c .before .before .found-ok .ensures) (c .enum-told .given .1) in
+    let i = c .before .before .before .before .before .before .before .before .before in
+    let f = found-says (found-run i) (i .args .z) _ (c .before .before .found-ok .ensures) (c .enum-told .given .1) in
     shaped _ _ (f .1) .sizes
 
 returns-2 : tie.Need-returns-2
 returns-2 c =
-    let i = c .before .before .before .before .before .before .before .before .before .before .before .before in
-    axis-room (keptOf (i .args .r) (i .args .source .now) (i .args .weights .now) (i .args .chain .now) (i .args .carries .now) (i .args .sums .now))
+    let i = c .before .before .before .before .before .before .before .before .before .before .before in
+    axis-room (found-run i)
     (i .args .z) (i .args .a) (i .args .scratch) _ (c .before .before .before .before .found-ok .ensures) (c .before .before .enum-told .given .1) _
     (c .before .scratch-of .ensures) (c .if1 .taken)
 
 numbers-found-requires : tie.Need-numbers-found-requires
 numbers-found-requires c κs =
     let told = c .before .before .before .before in
-    let i = told .before .before .before .before .before .before .before .before .before .before in
-    let f = found-says (keptOf (i .args .r) (i .args .source .now) (i .args .weights .now) (i .args .chain .now) (i .args .carries .now) (i .args .sums .now))
+    let i = told .before .before .before .before .before .before .before .before .before in
+    let f = found-says (found-run i)
     (i .args .z) _ (told .before .before .found-ok .ensures) (told .enum-told .given .1) in
     ((f .0, f .1), f .2)
 
 returns-3 : tie.Need-returns-3
 returns-3 c =
-    let i = c .before .before .before .before .before .before .before .before .before .before .before .before .before .before .before .before .before .before in
-    axis-stops (keptOf (i .args .r) (i .args .source .now) (i .args .weights .now) (i .args .chain .now) (i .args .carries .now) (i .args .sums .now))
+    let i = c .before .before .before .before .before .before .before .before .before .before .before .before .before .before .before .before .before in
+    axis-stops (found-run i)
     (i .args .z) (i .args .a) (i .args .scratch) _ (c .before .before .before .before .before .before .before .before .before .before .found-ok .ensures)
     (c .before .before .before .before .before .before .before .before .enum-told .given .1) _
     (c .before .before .before .before .before .before .before .scratch-of .ensures) (c .before .before .before .before .before .before .if1 .left) _ _
@@ -51,31 +56,31 @@ returns-3 c =
 mul-xs : tie.Need-mul-xs
 mul-xs c =
     let told = c .before .before .before .before .before .before .before .before .before in
-    let i = told .before .before .before .before .before .before .before .before .before .before in
-    let f = found-says (keptOf (i .args .r) (i .args .source .now) (i .args .weights .now) (i .args .chain .now) (i .args .carries .now) (i .args .sums .now))
+    let i = told .before .before .before .before .before .before .before .before .before in
+    let f = found-says (found-run i)
     (i .args .z) _ (told .before .before .found-ok .ensures) (told .enum-told .given .1) in
     record { fits = omega (arith, f .0, shaped _ _ (f .1) .most) }
 
 array-set-from-xs : tie.Need-array-set-from-xs
 array-set-from-xs c =
     let told = c .before .before .before .before .before .before .before .before .before in
-    let i = told .before .before .before .before .before .before .before .before .before .before in
-    let f = found-says (keptOf (i .args .r) (i .args .source .now) (i .args .weights .now) (i .args .chain .now) (i .args .carries .now) (i .args .sums .now))
+    let i = told .before .before .before .before .before .before .before .before .before in
+    let f = found-says (found-run i)
     (i .args .z) _ (told .before .before .found-ok .ensures) (told .enum-told .given .1) in
     omega (arith, f .0, shaped _ _ (f .1) .most)
 
 reaches-ok-requires : tie.Need-reaches-ok-requires
 reaches-ok-requires c κs =
     let told = c .before .before .before .before .before .before .before .before .before in
-    let i = told .before .before .before .before .before .before .before .before .before .before in
-    let f = found-says (keptOf (i .args .r) (i .args .source .now) (i .args .weights .now) (i .args .chain .now) (i .args .carries .now) (i .args .sums .now))
+    let i = told .before .before .before .before .before .before .before .before .before in
+    let f = found-says (found-run i)
     (i .args .z) _ (told .before .before .found-ok .ensures) (told .enum-told .given .1) in
     (shaped _ _ (f .1) .sizes .axes, omega (arith, f .0))
 
 returns-4 : tie.Need-returns-4
 returns-4 c =
-    let i = c .before .before .before .before .before .before .before .before .before .before .before .before .before .before .before .before .before .before .before .before in
-    axis-fits (keptOf (i .args .r) (i .args .source .now) (i .args .weights .now) (i .args .chain .now) (i .args .carries .now) (i .args .sums .now))
+    let i = c .before .before .before .before .before .before .before .before .before .before .before .before .before .before .before .before .before .before .before in
+    axis-fits (found-run i)
     (i .args .z) (i .args .a) (i .args .scratch) _
     (c .before .before .before .before .before .before .before .before .before .before .before .before .found-ok .ensures)
     (c .before .before .before .before .before .before .before .before .before .before .enum-told .given .1) _

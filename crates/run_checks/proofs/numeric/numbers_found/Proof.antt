@@ -2,9 +2,14 @@
 use borrow.Author.Needs.{needs}
 use Rattle.run_checks.proofs.Asks.{numbers-are}
 use Rattle.shape.proofs.Shaped.{shaped}
-use Rattle.runform.specs.Kept.{keptOf}
+use Rattle.runform.specs.Slices.{slices}
+use Rattle.runform.specs.Kept.{Kept, keptOf}
 use Rattle.run_checks.proofs.numeric.numbers_found.Statement.{statement}
 use Rattle.run_checks.proofs.numeric.numbers_found.Tie as tie
+
+-- the run as it is found
+abbrev found-run : tie.Start → Kept
+found-run i = keptOf (i .args .r) (slices (i .args .source .now) (i .args .weights .now) (i .args .chain .now) (i .args .carries .now) (i .args .sums .now))
 
 first-bad-number-requires : tie.Need-first-bad-number-requires
 first-bad-number-requires c κs =
@@ -23,7 +28,7 @@ with-part-requires-2 c κs = c .before .before .before .before .before .before .
 returns : tie.Need-returns
 returns c =
     let i = c .before .before .before .before .before .before .before .before .before .before .before .before .before .before .before .before in
-    numbers-are (keptOf (i .args .r) (i .args .source .now) (i .args .weights .now) (i .args .chain .now) (i .args .carries .now) (i .args .sums .now))
+    numbers-are (found-run i)
     (i .args .z) (i .args .part) (i .args .axis) _ _ _ _ (c .before .before .before .lone-finite .ensures) (c .before .before .is-finite .ensures)
     (c .before .lone-ok .ensures)
     (c .numbers-ok .ensures _ _
