@@ -26,14 +26,24 @@ use Rattle.product.proofs.Slotted.{sums-most}
 use Rattle.stepform.specs.Zones.{rules}
 use Rattle.runform.specs.declared.Run.{Run}
 use Rattle.runform.specs.declared.Ran.{Ran}
-use Rattle.runform.specs.Kept.{Kept, keptOf, allCarries, allSums}
+use Rattle.runform.specs.Slices.{Outputs, Slices, outputs}
+use Rattle.runform.specs.Kept.{Kept, keptOf, allCarries, allSums, roomFor}
 use Rattle.runform.specs.Work.{workFrom}
 use Rattle.run_slices.specs.Slices.{Beside, overFrom}
 use Rattle.run_work.specs.InPlace.{inPlace, heldIn, Steps, Sums, Memory}
 use Rattle.run_work.proofs.Over.{work-over}
 use Rattle.run_work.specs.Renewed.{SourcesFrom, RenewAsks, Renewed, walkedOf, runWith}
 
-module _ (r : Run) (z : ℕ) (weights chain carries sums scratch : List Float) (A : RenewAsks r z weights chain carries sums scratch) where
+module _ (r : Run) (z : ℕ) (weights : List Float) (m : Outputs (List Float)) (scratch : List Float) (A : RenewAsks r z weights m scratch) where
+  chain-long : length (m .chain) ≡ entriesOf (r .shape)
+  chain-long = ap (λ (l : Outputs ℕ). l .chain) (A .long)
+
+  carries-long : length (m .carries) ≡ allCarries (r .shape)
+  carries-long = ap (λ (l : Outputs ℕ). l .carries) (A .long)
+
+  sums-long : length (m .sums) ≡ allSums (r .shape)
+  sums-long = ap (λ (l : Outputs ℕ). l .sums) (A .long)
+
   shp : Shaped (r .shape)
   shp = shaped (r .shape) (λ (k : ℕ). true) (A .ok)
 
@@ -46,19 +56,19 @@ module _ (r : Run) (z : ℕ) (weights chain carries sums scratch : List Float) (
   all-sums : (n : ℕ) → n ≡ mostSums → allSums (r .shape) ≤ n
   all-sums n e = omega (arith, sums-most (r .shape) sizes (r .shape .d) (omega arith))
 
-  pub carry-asks : (y n : ℕ) → y < r .shape .d → n ≡ mostCarries → SizesWithin (r .shape) × ((y < r .shape .d) × (offset (carrySize (r .shape)) (r .shape .d) ≤ length carries) × (offset (carrySize (r .shape)) (r .shape .d) ≤ n))
-  carry-asks y n l e = (sizes, (l, omega (arith, A .carries-long), all-carries n e))
+  pub carry-asks : (y n : ℕ) → y < r .shape .d → n ≡ mostCarries → SizesWithin (r .shape) × ((y < r .shape .d) × (offset (carrySize (r .shape)) (r .shape .d) ≤ length (m .carries)) × (offset (carrySize (r .shape)) (r .shape .d) ≤ n))
+  carry-asks y n l e = (sizes, (l, omega (arith, carries-long), all-carries n e))
 
-  pub sum-asks : (n : ℕ) → n ≡ mostSums → SizesWithin (r .shape) × ((z < r .shape .d) × (offset (sumSize (r .shape)) (r .shape .d) ≤ length sums) × (offset (sumSize (r .shape)) (r .shape .d) ≤ n))
-  sum-asks n e = (sizes, (A .zone, omega (arith, A .sums-long), all-sums n e))
+  pub sum-asks : (n : ℕ) → n ≡ mostSums → SizesWithin (r .shape) × ((z < r .shape .d) × (offset (sumSize (r .shape)) (r .shape .d) ≤ length (m .sums)) × (offset (sumSize (r .shape)) (r .shape .d) ≤ n))
+  sum-asks n e = (sizes, (A .zone, omega (arith, sums-long), all-sums n e))
 
   pub commit-asks : (work held summed : ℕ) → work ≡ length scratch → held ≡ mostCarries → summed ≡ mostSums
       → ((SizesWithin (r .shape)) × (z < r .shape .d))
-      × (((length chain ≡ entriesOf (r .shape)) × (length carries ≡ allCarries (r .shape)) × (length sums ≡ allSums (r .shape))) × ((length chain ≤ work) × (length carries ≤ held) × (length sums ≤ summed)))
+      × (((length (m .chain) ≡ entriesOf (r .shape)) × (length (m .carries) ≡ allCarries (r .shape)) × (length (m .sums) ≡ allSums (r .shape))) × ((length (m .chain) ≤ work) × (length (m .carries) ≤ held) × (length (m .sums) ≤ summed)))
   commit-asks work held summed a b c =
       let h = all-carries held b in
       let u = all-sums summed c in
-      ((sizes, A .zone), ((A .chain-long, A .carries-long, A .sums-long), (omega (arith, A .chain-long, A .room), omega (arith, A .carries-long), omega (arith, A .sums-long))))
+      ((sizes, A .zone), ((chain-long, carries-long, sums-long), (omega (arith, chain-long, A .room), omega (arith, carries-long), omega (arith, sums-long))))
 
   module _ (w : Walked) (e : w ≡ walkedOf r) (held summed : List Float) (hn : length held ≡ mostCarries) (sn : length summed ≡ mostSums) where
     hl : allCarries (r .shape) ≤ length held
@@ -71,7 +81,7 @@ module _ (r : Run) (z : ℕ) (weights chain carries sums scratch : List Float) (
     redo-asks = subst (λ (x : Walked). Steps z x (r .set) (r .axes) scratch held × Sums (x .shape) weights summed) (sym e)
         (record { ok = A .ok; zone = A .zone; fits = refl; reach = A .reach; ranks = A .ranks; cores = A .room; carried = hl }, record { points = A .points; summed = sl })
 
-    module _ (carry : Beside (carrySize (r .shape)) z carries held) (sum : Beside (sumSize (r .shape)) z sums summed)
+    module _ (carry : Beside (carrySize (r .shape)) z (m .carries) held) (sum : Beside (sumSize (r .shape)) z (m .sums) summed)
         (x : Walked) (work held' summed' : List Float)
         (o : workFrom rules (heldIn (inPlace (w .shape) (r .axes) (r .set) scratch weights) w scratch held summed) z ≡ answered (x .verdict) (heldIn (inPlace (w .shape) (r .axes) (r .set) scratch weights) x work held' summed')) where
       abbrev s : Shape
@@ -86,51 +96,51 @@ module _ (r : Run) (z : ℕ) (weights chain carries sums scratch : List Float) (
       abbrev figure : Float
       figure = at summed' (offset (sumSize (r .shape)) (r .shape .d - 1))
 
+      abbrev slices-with : List Float → Outputs (List Float) → Slices (List Float)
+      slices-with source o = record { source = source; weights = weights; outputs = o }
+
+      -- what is committed
+      abbrev over : Outputs (List Float)
+      over = outputs (overFrom (offset (coreSize (r .shape)) z) (m .chain) work) (overFrom (offset (carrySize (r .shape)) z) (m .carries) held') (overFrom (offset (sumSize (r .shape)) z) (m .sums) summed')
+
       -- whatever its source is elsewhere
       came : (source : List Float) → SourcesFrom (r .shape) z source scratch
-          → workFrom rules (keptOf r source weights chain carries sums) z
-          ≡ answered (x .verdict) (keptOf (runWith r x figure) source weights (overFrom (offset (coreSize (r .shape)) z) chain work) (overFrom (offset (carrySize (r .shape)) z) carries held') (overFrom (offset (sumSize (r .shape)) z) sums summed'))
+          → workFrom rules (keptOf r (slices-with source m)) z ≡ answered (x .verdict) (keptOf (runWith r x figure) (slices-with source over))
       came source f =
-          let k = keptOf r source weights chain carries sums in
-          let M : Memory (k .inputs) (k .stepped) (k .summed) z scratch held summed = record {
+          let k = keptOf r (slices-with source m) in
+          let M' : Memory (k .inputs) (k .stepped) (k .summed) z scratch held summed = record {
             sources = f;
             carry = carry;
             sum = sum;
             cores = A .room;
             carried = hl;
             summed = sl;
-            chain-long = A .chain-long;
-            carries-long = A .carries-long;
-            sums-long = A .sums-long;
+            chain-long = chain-long;
+            carries-long = carries-long;
+            sums-long = sums-long;
           } in
-          work-over (k .inputs) shp (k .stepped) (k .summed) z (A .zone) scratch held summed M (heldBy x work held') summed'
+          work-over (k .inputs) shp (k .stepped) (k .summed) z (A .zone) scratch held summed M' (heldBy x work held') summed'
           (offset (coreSize s) z) (offset (carrySize s) z) (offset (sumSize s) z) refl refl refl (x .verdict) own
 
-      pub renew-stops : (q : Refusal) → x .verdict ≡ Refused q → (a : Ran) → a ≡ record { verdict = Refused q; run = r } → Renewed r z weights chain carries sums scratch a chain carries sums
+      pub renew-stops : (q : Refusal) → x .verdict ≡ Refused q → (a : Ran) → a ≡ record { verdict = Refused q; run = r } → Renewed r z weights m scratch a m
       unfolding answered
-      renew-stops q f a g = subst (λ (y : Ran). Renewed r z weights chain carries sums scratch y chain carries sums) (sym g) (record {
-        work =
-            λ source h. came source h ∙ ap
-            (λ (v : Verdict). answered v
-            (keptOf (runWith r x figure) source weights (overFrom (offset (coreSize s) z) chain work) (overFrom (offset (carrySize s) z) carries held')
-            (overFrom (offset (sumSize s) z) sums summed'))) f;
-        left = λ p h. (refl, refl, refl, refl);
+      renew-stops q f a g = subst (λ (y : Ran). Renewed r z weights m scratch y m) (sym g) (record {
+        work = λ source h. came source h ∙ ap (λ (v : Verdict). answered v (keptOf (runWith r x figure) (slices-with source over))) f;
+        left = λ p h. (refl, refl);
       })
 
       pub renew-fits : x .verdict ≡ Fits → (chain' carries' sums' : List Float) (f : Float)
-          → (f ≡ figure) × (chain' ≡ overFrom (offset (coreSize (r .shape)) z) chain work)
-          × (carries' ≡ overFrom (offset (carrySize (r .shape)) z) carries held') × (sums' ≡ overFrom (offset (sumSize (r .shape)) z) sums summed')
-          → (a : Ran) → a ≡ record { verdict = Fits; run = runWith r x f } → Renewed r z weights chain carries sums scratch a chain' carries' sums'
-      renew-fits v chain' carries' sums' f c a g = subst (λ (y : Ran). Renewed r z weights chain carries sums scratch y chain' carries' sums') (sym g) (record {
+          → (f ≡ figure) × (chain' ≡ overFrom (offset (coreSize (r .shape)) z) (m .chain) work)
+          × (carries' ≡ overFrom (offset (carrySize (r .shape)) z) (m .carries) held') × (sums' ≡ overFrom (offset (sumSize (r .shape)) z) (m .sums) summed')
+          → (a : Ran) → a ≡ record { verdict = Fits; run = runWith r x f } → Renewed r z weights m scratch a (outputs chain' carries' sums')
+      renew-fits v chain' carries' sums' f c a g = subst (λ (y : Ran). Renewed r z weights m scratch y (outputs chain' carries' sums')) (sym g) (record {
         work = λ source h.
             came source h
-            ∙ ap (λ (y : Verdict). answered y (end source figure (overFrom (offset (coreSize s) z) chain work) (overFrom (offset (carrySize s) z) carries held') (overFrom (offset (sumSize s) z) sums summed'))) v
+            ∙ ap (λ (y : Verdict). answered y (keptOf (runWith r x figure) (slices-with source over))) v
             ∙ ap (answered Fits) (parts source (sym (c .0)) (sym (c .1)) (sym (c .2)) (sym (c .3)));
-        left = λ p h. let n : _≡_ {A = ℕ} 0 1 = cc in let m : ⊥ = omega arith in absurd m;
+        left = λ p h. let n : _≡_ {A = ℕ} 0 1 = cc in let no : ⊥ = omega arith in absurd no;
       })
         where
-          end : List Float → Float → List Float → List Float → List Float → Kept
-          end source f b c d = keptOf (runWith r x f) source weights b c d
-
-          parts : (source : List Float) {f f' : Float} {b b' c c' d d' : List Float} → f ≡ f' → b ≡ b' → c ≡ c' → d ≡ d' → end source f b c d ≡ end source f' b' c' d'
+          parts : (source : List Float) {f f' : Float} {b b' c c' d d' : List Float} → f ≡ f' → b ≡ b' → c ≡ c' → d ≡ d'
+              → keptOf (runWith r x f) (slices-with source (outputs b c d)) ≡ keptOf (runWith r x f') (slices-with source (outputs b' c' d'))
           parts source o p q t = cc

@@ -32,10 +32,11 @@ use Rattle.stepform.specs.Zones.{rules}
 use Rattle.run_checks.specs.Ranks.{Ranked}
 use Rattle.runform.specs.declared.Run.{Run}
 use Rattle.runform.specs.declared.Ran.{Ran}
+use Rattle.runform.specs.Slices.{slices}
 use Rattle.runform.specs.Kept.{Summed, Kept, running, keptOf}
 use Rattle.runform.specs.Work.{sumFrom}
 use Rattle.runform.specs.Requests.{newWeights, present}
-use Rattle.runform.specs.Call.{ReplaceEnd, replaceEnd}
+use Rattle.runform.specs.Call.{RunEnd, runEnd}
 use Rattle.run_checks.proofs.Resums.{resum-is}
 use Rattle.run_work.specs.Weights.{weightsEnd}
 
@@ -73,39 +74,39 @@ sum-from-is k t R z lt =
 module _ (r : Run) (z : ℕ) (weights chain sums part : List Float) (t : Shape) (R : Ranked (r .shape) (r .bonds) t (r .shape .d)) (lt : z < r .shape .d) (v : Verdict) (p : List Float)
     (e : sumsFrom (r .shape) t chain (put (pointSize (r .shape)) z part weights) z sums ≡ answered v p) (source carries scratch : List Float) where
   abbrev before : Kept
-  before = keptOf r source weights chain carries sums
+  before = keptOf r (slices source weights chain carries sums)
 
   abbrev anew : Kept
   anew = running (present (before .inputs) (newWeights z part)) (before .stepped) (before .summed)
 
-  abbrev end : ReplaceEnd
-  end = weightsEnd r z source weights chain carries sums part scratch
+  abbrev end : RunEnd
+  end = weightsEnd r z (slices source weights chain carries sums) part scratch
 
-  opened : end ≡ replaceEnd before scratch (bind (answered v p) (λ l. done (running (anew .inputs) (anew .stepped) (summedAs (r .shape) l))))
+  opened : end ≡ runEnd before scratch (bind (answered v p) (λ l. done (running (anew .inputs) (anew .stepped) (summedAs (r .shape) l))))
   unfolding weightsEnd
   opened =
-      ap (replaceEnd before scratch) (sum-from-is anew t R z lt ∙ ap (λ (o : Answer (List Float)). bind o (λ l. done (running (anew .inputs) (anew .stepped) (summedAs (r .shape) l)))) e)
+      ap (runEnd before scratch) (sum-from-is anew t R z lt ∙ ap (λ (o : Answer (List Float)). bind o (λ l. done (running (anew .inputs) (anew .stepped) (summedAs (r .shape) l)))) e)
 
   pub resum-stops : (q : Refusal) → v ≡ Refused q → (a : Ran) → a ≡ record { verdict = Refused q; run = r }
-      → record { result = a; source = source; weights = weights; chain = chain; carries = carries; sums = sums; scratch = zeros (length scratch) } ≡ end
-  unfolding replaceEnd scratchAfter answered pick
+      → record { result = a; slices = slices source weights chain carries sums; scratch = zeros (length scratch) } ≡ end
+  unfolding runEnd scratchAfter answered pick
   resum-stops q h a f =
       let o : sumsFrom (r .shape) t chain (put (pointSize (r .shape)) z part weights) z sums ≡ refused q = e ∙ ap (λ (w : Verdict). answered w p) h in
       let b = late-sums (r .shape) t chain (put (pointSize (r .shape)) z part weights) z sums q o in
-      ap (λ (x : Ran). record { result = x; source = source; weights = weights; chain = chain; carries = carries; sums = sums; scratch = zeros (length scratch) }) f
+      ap (λ (x : Ran). record { result = x; slices = slices source weights chain carries sums; scratch = zeros (length scratch) }) f
       ∙ sym
       (opened
-      ∙ ap (λ (w : Verdict). replaceEnd before scratch (bind (answered w p) (λ l. done (running (anew .inputs) (anew .stepped) (summedAs (r .shape) l))))) h
-      ∙ ap (λ (y : Bool). record { result = record { verdict = Refused q; run = r }; source = source; weights = weights; chain = chain; carries = carries; sums = sums; scratch = pick y scratch (zeros (length scratch)) }) b)
+      ∙ ap (λ (w : Verdict). runEnd before scratch (bind (answered w p) (λ l. done (running (anew .inputs) (anew .stepped) (summedAs (r .shape) l))))) h
+      ∙ ap (λ (y : Bool). record { result = record { verdict = Refused q; run = r }; slices = slices source weights chain carries sums; scratch = pick y scratch (zeros (length scratch)) }) b)
 
   -- x and y are the weights and the sums at the end, and f is the figure
   pub resum-ends : v ≡ Fits → offset (sumSize (r .shape)) (r .shape .d) ≤ length sums → (x y : List Float) (f : Float) (a : Ran)
       → x ≡ put (pointSize (r .shape)) z part weights → y ≡ take (offset (sumSize (r .shape)) z) sums ++ drop (offset (sumSize (r .shape)) z) p → f ≡ at y (offset (sumSize (r .shape)) (r .shape .d - 1))
       → a ≡ record { verdict = Fits; run = record { shape = r .shape; axes = r .axes; set = r .set; bonds = r .bonds; figure = f } }
-      → record { result = a; source = source; weights = x; chain = chain; carries = carries; sums = y; scratch = zeros (length scratch) } ≡ end
-  unfolding replaceEnd scratchAfter answered
+      → record { result = a; slices = slices source x chain carries y; scratch = zeros (length scratch) } ≡ end
+  unfolding runEnd scratchAfter answered
   resum-ends h held x y f a g i j l =
       let o : sumsFrom (r .shape) t chain (put (pointSize (r .shape)) z part weights) z sums ≡ done p = e ∙ ap (λ (w : Verdict). answered w p) h in
       let n = offset (sumSize (r .shape)) z in
       let b : y ≡ p = i ∙ ap (λ (u : List Float). u ++ drop n p) (sym (sums-before (r .shape) t chain (put (pointSize (r .shape)) z part weights) z sums p o (omega arith) held)) ∙ take-append-drop n p in
-      rw (l, j, g, b) (sym (opened ∙ ap (λ (w : Verdict). replaceEnd before scratch (bind (answered w p) (λ l. done (running (anew .inputs) (anew .stepped) (summedAs (r .shape) l))))) h))
+      rw (l, j, g, b) (sym (opened ∙ ap (λ (w : Verdict). runEnd before scratch (bind (answered w p) (λ l. done (running (anew .inputs) (anew .stepped) (summedAs (r .shape) l))))) h))

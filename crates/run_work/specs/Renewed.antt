@@ -16,7 +16,8 @@ use Rattle.stepform.specs.Zones.{rules}
 use Rattle.stepform.specs.Call.{axisReaches}
 use Rattle.runform.specs.declared.Run.{Run}
 use Rattle.runform.specs.declared.Ran.{Ran}
-use Rattle.runform.specs.Kept.{keptOf, allCarries, allSums}
+use Rattle.runform.specs.Slices.{Outputs, eachOutput}
+use Rattle.runform.specs.Kept.{keptOf, roomFor}
 use Rattle.runform.specs.Work.{workFrom}
 use Rattle.run_work.specs.InPlace.{RanksWithin}
 
@@ -25,23 +26,21 @@ abbrev pub SourcesFrom : Shape → ℕ → List Float → List Float → Type 0
 SourcesFrom s z source work = (k : ℕ) → z ≤ k → k < s .d → slot (coreSize s) k work ≡ slot (coreSize s) k source
 
 -- what the checks let through
-pub record RenewAsks (r : Run) (z : ℕ) (weights chain carries sums scratch : List Float) : Type 0 where
+pub record RenewAsks (r : Run) (z : ℕ) (weights : List Float) (m : Outputs (List Float)) (scratch : List Float) : Type 0 where
   pub ok : chainOk (r .shape) ≡ done tt
   pub zone : z < r .shape .d
   pub reach : (k : ℕ) → z ≤ k → k < r .shape .d → axisReaches (r .set) (r .shape) (r .axes) k ≡ true
   pub ranks : RanksWithin (r .shape) (r .bonds) z
   pub points : allPoints (r .shape) ≤ length weights
-  pub chain-long : length chain ≡ entriesOf (r .shape)
-  pub carries-long : length carries ≡ allCarries (r .shape)
-  pub sums-long : length sums ≡ allSums (r .shape)
+  pub long : eachOutput length m ≡ roomFor (r .shape)
   pub room : entriesOf (r .shape) ≤ length scratch
 
 -- the run, whatever source it has in the slots from z on as scratch has it; refused, all of it is as it was
-pub record Renewed (r : Run) (z : ℕ) (weights chain carries sums scratch : List Float) (a : Ran) (chain' carries' sums' : List Float) : Type 0 where
+pub record Renewed (r : Run) (z : ℕ) (weights : List Float) (m : Outputs (List Float)) (scratch : List Float) (a : Ran) (m' : Outputs (List Float)) : Type 0 where
   pub work : (source : List Float) → SourcesFrom (r .shape) z source scratch
-      → workFrom rules (keptOf r source weights chain carries sums) z
-      ≡ answered (a .verdict) (keptOf (a .run) source weights chain' carries' sums')
-  pub left : (q : Refusal) → a .verdict ≡ Refused q → (a .run ≡ r) × (chain' ≡ chain) × (carries' ≡ carries) × (sums' ≡ sums)
+      → workFrom rules (keptOf r (record { source = source; weights = weights; outputs = m })) z
+      ≡ answered (a .verdict) (keptOf (a .run) (record { source = source; weights = weights; outputs = m' }))
+  pub left : (q : Refusal) → a .verdict ≡ Refused q → (a .run ≡ r) × (m' ≡ m)
 
 -- the bonds of a run
 abbrev pub walkedOf : Run → Walked

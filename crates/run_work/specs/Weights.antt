@@ -10,10 +10,11 @@ use Rattle.shape.specs.Shapes.{pointSize, entriesOf, allPoints}
 use Rattle.stepform.specs.Zones.{rules}
 use Rattle.sumform.specs.Sums.{sumSize}
 use Rattle.runform.specs.declared.Run.{Run}
+use Rattle.runform.specs.Slices.{Slices}
 use Rattle.runform.specs.Kept.{keptOf, running}
 use Rattle.runform.specs.Work.{sumFrom}
 use Rattle.runform.specs.Requests.{newWeights, present}
-use Rattle.runform.specs.Call.{ReplaceEnd, replaceEnd}
+use Rattle.runform.specs.Call.{RunEnd, runEnd}
 
 -- the lengths that the checks let through
 pub record Lent (s : Shape) (z : ℕ) (part weights chain sums : List Float) : Type 0 where
@@ -24,7 +25,7 @@ pub record Lent (s : Shape) (z : ℕ) (part weights chain sums : List Float) : T
   pub sums-long : length sums ≡ offset (sumSize s) (s .d)
 
 -- the sums made anew over the new weights
-unfoldable pub weightsEnd : Run → ℕ → List Float → List Float → List Float → List Float → List Float → List Float → List Float → ReplaceEnd
-weightsEnd r z source weights chain carries sums part scratch =
-    let k = keptOf r source weights chain carries sums in
-    replaceEnd k scratch (sumFrom rules (running (present (k .inputs) (newWeights z part)) (k .stepped) (k .summed)) z)
+unfoldable pub weightsEnd : Run → ℕ → Slices (List Float) → List Float → List Float → RunEnd
+weightsEnd r z m part scratch =
+    let k = keptOf r m in
+    runEnd k scratch (sumFrom rules (running (present (k .inputs) (newWeights z part)) (k .stepped) (k .summed)) z)

@@ -7,6 +7,7 @@ ghost use Rattle.lists.specs.Slots.{put};
 ghost use Rattle.lists.specs.Floats.{zeros};
 ghost use Rattle.shape.specs.Shapes.{coreSize, entriesOf};
 ghost use Rattle.shape.specs.Sizes.{SizesWithin};
+ghost use Rattle.runform.specs.Slices.{outputs};
 ghost use Rattle.run_work.specs.Renewed.{SourcesFrom, RenewAsks, Renewed, walkedOf, runWith};
 
 // The sources of the zones from z on, where they stand.
@@ -75,9 +76,9 @@ fn worked(
     sums: &mut [f64],
     scratch: &mut [f64],
 ) -> runform::Ran
-    requires { ⌜ RenewAsks r z (now weights) (now chain) (now carries) (now sums) (now scratch) ⌝ }
-    ensures { λ a. ⌜ Renewed r z (now (weights .entry)) (now (chain .entry)) (now (carries .entry)) (now (sums .entry))
-        (now (scratch .entry)) a (now (chain .exit)) (now (carries .exit)) (now (sums .exit)) ⌝ }
+    requires { ⌜ RenewAsks r z (now weights) (outputs (now chain) (now carries) (now sums)) (now scratch) ⌝ }
+    ensures { λ a. ⌜ Renewed r z (now (weights .entry)) (outputs (now (chain .entry)) (now (carries .entry)) (now (sums .entry)))
+        (now (scratch .entry)) a (outputs (now (chain .exit)) (now (carries .exit)) (now (sums .exit))) ⌝ }
 {
     let s = r.shape;
     let xs = r.axes;
@@ -114,9 +115,9 @@ pub fn renew(
     sums: &mut [f64],
     scratch: &mut [f64],
 ) -> runform::Ran
-    requires { ⌜ RenewAsks r z (now weights) (now chain) (now carries) (now sums) (now scratch) ⌝ }
-    ensures { λ a. ⌜ (Renewed r z (now (weights .entry)) (now (chain .entry)) (now (carries .entry)) (now (sums .entry))
-        (now (scratch .entry)) a (now (chain .exit)) (now (carries .exit)) (now (sums .exit)))
+    requires { ⌜ RenewAsks r z (now weights) (outputs (now chain) (now carries) (now sums)) (now scratch) ⌝ }
+    ensures { λ a. ⌜ (Renewed r z (now (weights .entry)) (outputs (now (chain .entry)) (now (carries .entry)) (now (sums .entry)))
+        (now (scratch .entry)) a (outputs (now (chain .exit)) (now (carries .exit)) (now (sums .exit))))
         × (now (scratch .exit) ≡ zeros (length (now (scratch .entry)))) ⌝ }
 {
     let a = worked(z, r, weights, chain, carries, sums, scratch);

@@ -11,6 +11,7 @@ ghost use Rattle.lists.specs.Floats.{at, zeros};
 ghost use Rattle.shape.specs.Shapes.{shapeOk, pointSize, entriesOf, allPoints};
 ghost use Rattle.shape.specs.Sizes.{PointsWithin, SizesWithin, Inside};
 ghost use Rattle.sumform.specs.Sums.{sumSize, sumsFrom};
+ghost use Rattle.runform.specs.Slices.{slices};
 ghost use Rattle.runform.specs.Checks.{rankOk};
 ghost use Rattle.run_work.specs.Weights.{Lent, weightsEnd};
 
@@ -98,15 +99,10 @@ pub fn resummed(
     ensures { λ a. ⌜ ((source carries scratch : List Float) →
         record {
           result = a;
-          source = source;
-          weights = now (weights .exit);
-          chain = now (chain .entry);
-          carries = carries;
-          sums = now (sums .exit);
+          slices = slices source (now (weights .exit)) (now (chain .entry)) carries (now (sums .exit));
           scratch = zeros (length scratch);
         }
-        ≡ weightsEnd r z source (now (weights .entry)) (now (chain .entry)) carries (now (sums .entry))
-        (now (part .entry)) scratch) ⌝ }
+        ≡ weightsEnd r z (slices source (now (weights .entry)) (now (chain .entry)) carries (now (sums .entry))) (now (part .entry)) scratch) ⌝ }
 {
     let s = r.shape;
     let bonds = r.bonds;

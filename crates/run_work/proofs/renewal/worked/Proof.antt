@@ -6,14 +6,14 @@ use Rattle.run_work.proofs.renewal.worked.Statement.{statement}
 use Rattle.run_work.proofs.renewal.worked.Tie as tie
 
 take-carry-requires : tie.Need-take-carry-requires
-take-carry-requires c κs = carry-asks _ _ _ _ _ _ _ (c .before .before .before .before .before .before .before .before .before .before .pre) _ _ (search needs) (search needs)
+take-carry-requires c κs = carry-asks _ _ _ _ _ (c .before .before .before .before .before .before .before .before .before .before .pre) _ _ (search needs) (search needs)
 
 take-sum-requires : tie.Need-take-sum-requires
-take-sum-requires c κs = sum-asks _ _ _ _ _ _ _ (c .before .before .before .before .before .before .before .before .before .before .before .before .before .before .pre) _ (search needs)
+take-sum-requires c κs = sum-asks _ _ _ _ _ (c .before .before .before .before .before .before .before .before .before .before .before .before .before .before .pre) _ (search needs)
 
 redo-from-requires : tie.Need-redo-from-requires
 redo-from-requires c κs =
-    redo-asks _ _ _ _ _ _ _
+    redo-asks _ _ _ _ _
     (c .before .before .before .before .before .before .before .before .before .before .before .before .before .before .before .before .before .before .before
     .before .pre) _ (c .before .before .before .walked-of .ensures) _ _
     (c .before .before .before .before .before .before .before .before .before .take-carry .kept .1 .1 .1 .0 ∙ (search needs))
@@ -24,7 +24,7 @@ returns c =
     let at-8 = c .before .before .before .before .before .before .before .before in
     let at-14 = at-8 .before .before .before .before .before .before in
     let at-18 = at-14 .before .before .before .before in
-    renew-stops _ _ _ _ _ _ _
+    renew-stops _ _ _ _ _
     (c .before .before .before .before .before .before .before .before .before .before .before .before .before .before .before .before .before .before .before
     .before .before .before .before .before .before .before .before .before .before .pre) _
     (c .before .before .before .before .before .before .before .before .before .before .before .before .walked-of .ensures) _ _
@@ -34,7 +34,7 @@ returns c =
 commit-requires : tie.Need-commit-requires
 commit-requires c κs =
     let at-12 = c .before .before .before .before .before .before .before .before .before .before .before .before in
-    commit-asks _ _ _ _ _ _ _
+    commit-asks _ _ _ _ _
     (c .before .before .before .before .before .before .before .before .before .before .before .before .before .before .before .before .before .before .before
     .before .before .before .before .before .before .before .before .before .before .before .before .before .before .pre) _ _ _
     (at-12 .redo-from .kept .1 .1 .1 .1 .1 .0)
@@ -48,7 +48,7 @@ returns-2 c =
     let at-20 = c .before .before .before .before .before .before .before .before .before .before .before .before .before .before .before .before .before .before .before .before in
     let at-26 = at-20 .before .before .before .before .before .before in
     let at-30 = at-26 .before .before .before .before in
-    renew-fits _ _ _ _ _ _ _
+    renew-fits _ _ _ _ _
     (c .before .before .before .before .before .before .before .before .before .before .before .before .before .before .before .before .before .before .before
     .before .before .before .before .before .before .before .before .before .before .before .before .before .before .before .before .before .before .before
     .before .before .before .pre) _
