@@ -1,5 +1,5 @@
 -- What accepted calls let their work ask. Assumes nothing.
-use mathlib.Core.Path.{_≡_, sym, ap, _∙_, subst}
+use mathlib.Core.Path.{_≡_, refl, sym, ap, _∙_, subst}
 use Prim.Native.Nat.{ℕ, suc, _-_, _≤_, _<_}
 use native.Mathlib.Omega.{arith}
 use mathlib.Core.Bool.{Bool, true, cond, _&&_}
@@ -25,16 +25,18 @@ use Rattle.stepform.specs.declared.Settings.{Settings}
 use Rattle.stepform.specs.Zones.{rules}
 use Rattle.stepform.specs.Call.{axisReaches}
 use Rattle.runform.specs.declared.Run.{Run}
-use Rattle.runform.specs.Kept.{Inputs, Kept, keptOf, allCarries, allSums}
-use Rattle.runform.specs.Checks.{rankOk, lentFrom, scratchLent, inReachAt, freshOk}
+use Rattle.runform.specs.Slices.{Slices, eachOutput}
+use Rattle.runform.specs.Kept.{Inputs, Kept, inputsOf, keptOf, roomFor, blankRun}
+use Rattle.runform.specs.Checks.{rankOk, scratchLent, inReachAt, freshOk}
 use Rattle.runform.specs.Call.{roomLent}
 use Rattle.runform.specs.Requests.{Request, newCore, newAxis, zoneOf, present, newFinite, newOk, foundNumbers, shiftsOk, numbersOk, replaceOk}
-use Rattle.runform.proofs.Trace.{lent-is, passed}
+use Rattle.runform.proofs.InRow.{lent-is}
+use Rattle.runform.proofs.Trace.{inputs-are, passed}
 use Rattle.runform.proofs.Accepted.{Accepted, checks-say}
 use Rattle.runform.proofs.Untouched.{slices-are}
 use Rattle.run_work.specs.InPlace.{RanksWithin}
 use Rattle.run_work.specs.Renewed.{RenewAsks}
-use Rattle.runs.specs.Ended.{blankRun, axisRun}
+use Rattle.runs.specs.Ended.{axisRun}
 
 -- ---- of a shape whose bonds pass, whatever else is asked of them
 module _ (s : Shape) (kept : ℕ → Bool) (ok : shapeOk s kept ≡ done tt) where
@@ -63,9 +65,9 @@ unfolding scratchLent
 scratch-is s j n e = omega (arith, eqb-is n (scratchFor (entriesOf s)) (demand-is _ (Length j) e))
 
 -- ---- a replacement
-module _ (r : Run) (source weights chain carries sums : List Float) where
+module _ (r : Run) (m : Slices (List Float)) where
   abbrev run : Kept
-  run = keptOf r source weights chain carries sums
+  run = keptOf r m
 
   abbrev s : Shape
   s = r .shape
@@ -81,14 +83,14 @@ module _ (r : Run) (source weights chain carries sums : List Float) where
     sizes : SizesWithin (r .shape)
     sizes = shaped s (rankOk s (r .bonds)) (say .shape) .sizes
 
-    source-long : length source ≡ entriesOf (r .shape)
+    source-long : length (m .source) ≡ entriesOf (r .shape)
     source-long = slices-are run (say .slices) .source
 
-    room : length source ≤ n
+    room : length (m .source) ≤ n
     room = omega (arith, source-long, scratch-is s j n (say .scratch))
 
     asked : (xs : List Axis) → ((k : ℕ) → zoneOf q ≤ k → k < r .shape .d → axisReaches (r .set) (r .shape) xs k ≡ true) → (scratch : List Float) → length scratch ≡ n
-        → RenewAsks (record { shape = r .shape; axes = xs; set = r .set; bonds = r .bonds; figure = r .figure }) (zoneOf q) weights chain carries sums scratch
+        → RenewAsks (record { shape = r .shape; axes = xs; set = r .set; bonds = r .bonds; figure = r .figure }) (zoneOf q) (m .weights) (m .outputs) scratch
     asked xs reach scratch l =
         let L = slices-are run (say .slices) in
         let w = L .weights in
@@ -98,20 +100,18 @@ module _ (r : Run) (source weights chain carries sums : List Float) where
           reach = reach;
           ranks = ranks-pass s (r .bonds) (say .shape) (zoneOf q);
           points = omega (arith, w);
-          chain-long = L .chain;
-          carries-long = L .carries;
-          sums-long = L .sums;
+          long = cc (L .chain, L .carries, L .sums);
           room = omega (arith, room, source-long);
         }
 
   -- a new core
   module _ (z : ℕ) (part : List Float) (n : ℕ) (v : Verdict) (e : v ≡ verdictOf (replaceOk rules (scratchLent (r .shape) 6 n) run (newCore z part))) (h : v ≡ Fits) where
-    pub core-asks : SizesWithin (r .shape) × ((z < r .shape .d) × (length source ≡ entriesOf (r .shape)) × (length part ≡ coreSize (r .shape) z) × (length source ≤ n))
+    pub core-asks : SizesWithin (r .shape) × ((z < r .shape .d) × (length (m .source) ≡ entriesOf (r .shape)) × (length part ≡ coreSize (r .shape) z) × (length (m .source) ≤ n))
     core-asks =
         let q = newCore z part in
         (sizes 6 n q v e h, (say 6 n q v e h .order .inside, source-long 6 n q v e h, eqb-is (length part) (coreSize s z) (say 6 n q v e h .order .fits), room 6 n q v e h))
 
-    pub core-asked : (scratch : List Float) → length scratch ≡ n → RenewAsks r z weights chain carries sums scratch
+    pub core-asked : (scratch : List Float) → length scratch ≡ n → RenewAsks r z (m .weights) (m .outputs) scratch
     core-asked scratch l =
         let q = newCore z part in
         let S = shifts-pass q (say 6 n q v e h .numbers) in
@@ -120,54 +120,50 @@ module _ (r : Run) (source weights chain carries sums : List Float) where
 
   -- a new axis record
   module _ (z : ℕ) (x : Axis) (n : ℕ) (v : Verdict) (e : v ≡ verdictOf (replaceOk rules (scratchLent (r .shape) 5 n) run (newAxis z x))) (h : v ≡ Fits) where
-    pub axis-asks : SizesWithin (r .shape) × ((z ≤ r .shape .d) × (length source ≡ entriesOf (r .shape)) × (length source ≤ n))
+    pub axis-asks : SizesWithin (r .shape) × ((z ≤ r .shape .d) × (length (m .source) ≡ entriesOf (r .shape)) × (length (m .source) ≤ n))
     axis-asks = let q = newAxis z x in (sizes 5 n q v e h, (omega (arith, say 5 n q v e h .order .inside), source-long 5 n q v e h, room 5 n q v e h))
 
     pub axis-few : z < mostAxes
     axis-few = let q = newAxis z x in omega (arith, say 5 n q v e h .order .inside, sizes 5 n q v e h .axes .most)
 
-    pub axis-asked : (y : Run) → y ≡ axisRun r z x → (scratch : List Float) → length scratch ≡ n → RenewAsks y z weights chain carries sums scratch
+    pub axis-asked : (y : Run) → y ≡ axisRun r z x → (scratch : List Float) → length scratch ≡ n → RenewAsks y z (m .weights) (m .outputs) scratch
     axis-asked y p scratch l =
         let q = newAxis z x in
         let S = shifts-pass q (say 5 n q v e h .numbers) in
         let i = present (run .inputs) q in
-        subst (λ (t : Run). RenewAsks t z weights chain carries sums scratch) (sym p)
+        subst (λ (t : Run). RenewAsks t z (m .weights) (m .outputs) scratch) (sym p)
         (asked 5 n q v e h (set (r .axes) z x) (λ k a b. each-is Reach (inReachAt rules i) (s .d - z) z S k a (omega arith)) scratch l)
 
 -- ---- a fresh run
-module _ (s : Shape) (xs : List Axis) (set : Settings) (source weights chain carries sums : List Float) (n : ℕ) where
+module _ (s : Shape) (xs : List Axis) (set : Settings) (m : Slices (List Float)) (n : ℕ) where
   abbrev i : Inputs
-  i = record { shape = s; axes = xs; set = set; source = source; weights = weights }
+  i = inputsOf s xs set m
 
-  module _ (v : Verdict) (e : v ≡ verdictOf (freshOk rules (roomLent s (length chain) (length carries) (length sums) n) i)) (h : v ≡ Fits) where
-    lengths : (length chain ≡ entriesOf s) × (length carries ≡ allCarries s) × (length sums ≡ allSums s) × (entriesOf s ≤ n)
-    unfolding roomLent lentFrom
+  module _ (v : Verdict) (e : v ≡ verdictOf (freshOk rules (roomLent s (eachOutput length (m .outputs)) n) i)) (h : v ≡ Fits) where
+    lengths : (eachOutput length (m .outputs) ≡ roomFor s) × (entriesOf s ≤ n)
+    unfolding roomLent
     lengths =
-        let P = passed rules (roomLent s (length chain) (length carries) (length sums) n) i (verdict-passed _ v e h) .1 in
+        let P = passed rules (roomLent s (eachOutput length (m .outputs)) n) i (verdict-passed _ v e h) .1 in
         let o = then-is _ _ tt P in
-        let a = then-is _ _ tt (o .0) in
-        let b = then-is _ _ tt (a .1) in
-        let c = then-is _ _ tt (b .1) in
-        (eqb-is _ _ (demand-is _ (Length 2) (a .0)), eqb-is _ _ (demand-is _ (Length 3) (b .0)), eqb-is _ _ (demand-is _ (Length 4) (c .0)), scratch-is s 5 n (o .1))
+        let l = lent-is 2 _ _ refl (o .0) in
+        (cc, scratch-is s 5 n (o .1))
 
-    pub fresh-asks : SizesWithin s × ((0 ≤ s .d) × (length source ≡ entriesOf s) × (length source ≤ n))
+    pub fresh-asks : SizesWithin s × ((0 ≤ s .d) × (length (m .source) ≡ entriesOf s) × (length (m .source) ≤ n))
     fresh-asks =
-        let P = passed rules (roomLent s (length chain) (length carries) (length sums) n) i (verdict-passed _ v e h) .0 in
-        let l = lent-is i (P .lent) .source in
-        (shaped s (λ (k : ℕ). true) (P .shape) .sizes, (omega arith, l, omega (arith, lengths .3)))
+        let P = passed rules (roomLent s (eachOutput length (m .outputs)) n) i (verdict-passed _ v e h) .0 in
+        let l = inputs-are i (P .lent) .source in
+        (shaped s (λ (k : ℕ). true) (P .shape) .sizes, (omega arith, l, omega (arith, lengths .1)))
 
-    pub fresh-asked : (r : Run) → r ≡ blankRun s xs set → (scratch : List Float) → length scratch ≡ n → RenewAsks r 0 weights chain carries sums scratch
+    pub fresh-asked : (r : Run) → r ≡ blankRun s xs set → (scratch : List Float) → length scratch ≡ n → RenewAsks r 0 (m .weights) (m .outputs) scratch
     fresh-asked r j scratch l =
-        let P = passed rules (roomLent s (length chain) (length carries) (length sums) n) i (verdict-passed _ v e h) .0 in
-        let w = lent-is i (P .lent) .weights in
-        subst (λ (t : Run). RenewAsks t 0 weights chain carries sums scratch) (sym j) (record {
+        let P = passed rules (roomLent s (eachOutput length (m .outputs)) n) i (verdict-passed _ v e h) .0 in
+        let w = inputs-are i (P .lent) .weights in
+        subst (λ (t : Run). RenewAsks t 0 (m .weights) (m .outputs) scratch) (sym j) (record {
           ok = P .shape;
           zone = shaped s (λ (k : ℕ). true) (P .shape) .least;
           reach = λ k a b. P .reach k b;
           ranks = λ k a b. let y : ⊥ = omega arith in absurd y;
           points = omega (arith, w);
-          chain-long = lengths .0;
-          carries-long = lengths .1;
-          sums-long = lengths .2;
-          room = omega (arith, lengths .3);
+          long = lengths .0;
+          room = omega (arith, lengths .1);
         })

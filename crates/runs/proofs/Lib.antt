@@ -1,4 +1,5 @@
--- a replacement by its checks and its work
+-- the end of a call, and a replacement by its checks and its work
+pub mod Ends
 pub mod Replaced
 -- new weights
 pub mod Reweighed

@@ -2,8 +2,10 @@
 ghost use mathlib.Core.Path.{_≡_};
 ghost use Prim.Native.Nat.{_<_};
 ghost use Rattle.shape.specs.Limits.{mostAxes};
+ghost use Rattle.runform.specs.Slices.{slices};
+ghost use Rattle.runform.specs.Kept.{blankRun};
 ghost use Rattle.runform.specs.Call.{freshCall, replaceCoreCall, replaceAxisCall, replaceWeightsCall};
-ghost use Rattle.runs.specs.Ended.{blankRun, axisRun};
+ghost use Rattle.runs.specs.Ended.{axisRun};
 
 // A run that keeps nothing yet.
 fn blank_run(
@@ -35,9 +37,13 @@ pub fn fresh_run(
     sums: &mut [f64],
     scratch: &mut [f64],
 ) -> runform::Ran
-    ensures { λ a. ⌜ record { result = a; chain = now (chain .exit); carries = now (carries .exit); sums = now (sums .exit); scratch = now (scratch .exit) }
-        ≡ freshCall s xs set (now (source .entry)) (now (weights .entry)) (now (chain .entry)) (now (carries .entry))
-        (now (sums .entry)) (now (scratch .entry)) ⌝ }
+    ensures { λ a. ⌜ record {
+      result = a;
+      slices = slices (now (source .entry)) (now (weights .entry)) (now (chain .exit)) (now (carries .exit)) (now (sums .exit));
+      scratch = now (scratch .exit);
+    }
+        ≡ freshCall s xs set (slices (now (source .entry)) (now (weights .entry)) (now (chain .entry)) (now (carries .entry)) (now (sums .entry)))
+        (now (scratch .entry)) ⌝ }
 {
     let r = blank_run(s, xs, set);
     let ok = run_checks::calls::fresh_ok(
@@ -72,14 +78,10 @@ pub fn replace_core(
 ) -> runform::Ran
     ensures { λ a. ⌜ record {
       result = a;
-      source = now (source .exit);
-      weights = now (weights .entry);
-      chain = now (chain .exit);
-      carries = now (carries .exit);
-      sums = now (sums .exit);
+      slices = slices (now (source .exit)) (now (weights .entry)) (now (chain .exit)) (now (carries .exit)) (now (sums .exit));
       scratch = now (scratch .exit);
     }
-        ≡ replaceCoreCall r z (now (source .entry)) (now (weights .entry)) (now (chain .entry)) (now (carries .entry)) (now (sums .entry))
+        ≡ replaceCoreCall r z (slices (now (source .entry)) (now (weights .entry)) (now (chain .entry)) (now (carries .entry)) (now (sums .entry)))
         (now (part .entry)) (now (scratch .entry)) ⌝ }
 {
     let ok = run_checks::calls::core_ok(
@@ -132,14 +134,10 @@ pub fn replace_axis(
 ) -> runform::Ran
     ensures { λ a. ⌜ record {
       result = a;
-      source = now (source .entry);
-      weights = now (weights .entry);
-      chain = now (chain .exit);
-      carries = now (carries .exit);
-      sums = now (sums .exit);
+      slices = slices (now (source .entry)) (now (weights .entry)) (now (chain .exit)) (now (carries .exit)) (now (sums .exit));
       scratch = now (scratch .exit);
     }
-        ≡ replaceAxisCall r z x (now (source .entry)) (now (weights .entry)) (now (chain .entry)) (now (carries .entry)) (now (sums .entry))
+        ≡ replaceAxisCall r z x (slices (now (source .entry)) (now (weights .entry)) (now (chain .entry)) (now (carries .entry)) (now (sums .entry)))
         (now (scratch .entry)) ⌝ }
 {
     let ok = run_checks::new_axis::axis_ok(
@@ -181,14 +179,10 @@ pub fn replace_weights(
 ) -> runform::Ran
     ensures { λ a. ⌜ record {
       result = a;
-      source = now (source .entry);
-      weights = now (weights .exit);
-      chain = now (chain .entry);
-      carries = now (carries .entry);
-      sums = now (sums .exit);
+      slices = slices (now (source .entry)) (now (weights .exit)) (now (chain .entry)) (now (carries .entry)) (now (sums .exit));
       scratch = now (scratch .exit);
     }
-        ≡ replaceWeightsCall r z (now (source .entry)) (now (weights .entry)) (now (chain .entry)) (now (carries .entry)) (now (sums .entry))
+        ≡ replaceWeightsCall r z (slices (now (source .entry)) (now (weights .entry)) (now (chain .entry)) (now (carries .entry)) (now (sums .entry)))
         (now (part .entry)) (now (scratch .entry)) ⌝ }
 {
     let ok = run_checks::calls::weights_ok(

@@ -1,5 +1,8 @@
 -- `runs::fresh_run`: checks that refuse leave all as it was (fresh-stops); passed, they give `renew` what it asks (fresh-asked), and its work on a blank run is the call (fresh-ends).
 use borrow.Author.Needs.{needs}
+use mathlib.Core.List.{List}
+use lib.Ieee.{Float}
+use Rattle.runform.specs.Slices.{Slices, slices}
 use mathlib.Core.Path.{ap, _∙_}
 use lib.ListN.{length}
 use Rattle.lists.specs.Floats.{zeros}
@@ -8,24 +11,27 @@ use Rattle.runs.proofs.Fresh.{fresh-stops, fresh-ends}
 use Rattle.runs.proofs.fresh_run.Statement.{statement}
 use Rattle.runs.proofs.fresh_run.Tie as tie
 
+abbrev lent : tie.Start → Slices (List Float)
+lent i = slices (i .args .source .now) (i .args .weights .now) (i .args .chain .now) (i .args .carries .now) (i .args .sums .now)
+
 returns : tie.Need-returns
 returns c =
-    let start = c .before .before .before .before .before .before .before .before .before .before .before .before .args in
-    fresh-stops (start .s) (start .xs) (start .set) (start .source .now) (start .weights .now) (start .chain .now) (start .carries .now) (start .sums .now)
-    (start .scratch .now) _ (c .before .before .before .before .fresh-ok .ensures) _ (c .before .before .before .before .before .blank-run .ensures) _
+    let start = c .before .before .before .before .before .before .before .before .before .before .before .before in
+    fresh-stops (start .args .s) (start .args .xs) (start .args .set) (lent start)
+    (start .args .scratch .now) _ (c .before .before .before .before .fresh-ok .ensures) _ (c .before .before .before .before .before .blank-run .ensures) _
     (c .before .before .ok .given .1) _ (c .refused .ensures)
 
 take-sources-requires : tie.Need-take-sources-requires
 take-sources-requires c κs =
-    let start = c .before .before .before .before .before .before .before .before .before .before .before .args in
-    fresh-asks (start .s) (start .xs) (start .set) (start .source .now) (start .weights .now) (start .chain .now) (start .carries .now) (start .sums .now)
-    (length (start .scratch .now)) _ (c .before .before .before .fresh-ok .ensures) (c .before .enum-told .given .1)
+    let start = c .before .before .before .before .before .before .before .before .before .before .before in
+    fresh-asks (start .args .s) (start .args .xs) (start .args .set) (lent start)
+    (length (start .args .scratch .now)) _ (c .before .before .before .fresh-ok .ensures) (c .before .enum-told .given .1)
 
 renew-requires : tie.Need-renew-requires
 renew-requires c κs =
-    let start = c .before .before .before .before .before .before .before .before .before .before .before .before .before .before .before .before .before .before .args in
-    fresh-asked (start .s) (start .xs) (start .set) (start .source .now) (start .weights .now) (start .chain .now) (start .carries .now) (start .sums .now)
-    (length (start .scratch .now)) _ (c .before .before .before .before .before .before .before .before .before .before .fresh-ok .ensures)
+    let start = c .before .before .before .before .before .before .before .before .before .before .before .before .before .before .before .before .before .before in
+    fresh-asked (start .args .s) (start .args .xs) (start .args .set) (lent start)
+    (length (start .args .scratch .now)) _ (c .before .before .before .before .before .before .before .before .before .before .fresh-ok .ensures)
     (c .before .before .before .before .before .before .before .before .enum-told .given .1) _
     (c .before .before .before .before .before .before .before .before .before .before .before .blank-run .ensures) _
     (c .before .before .before .before .before .before .take-sources .kept .1 .1 .1 .0)
@@ -37,12 +43,12 @@ returns-2 c =
     let at-17 = at-15 .before .before in
     let at-19 = at-17 .before .before in
     let at-20 = at-19 .before in
-    let start = at-20 .before .before .before .before .before .before .before .args in
+    let start = at-20 .before .before .before .before .before .before .before in
     let n = at-15 .take-sources .kept .1 .1 .1 .0 in
-    fresh-ends (start .s) (start .xs) (start .set) (start .source .now) (start .weights .now) (start .chain .now) (start .carries .now) (start .sums .now)
-    (start .scratch .now) _ (at-19 .fresh-ok .ensures) (at-17 .enum-told .given .1) _ (at-20 .blank-run .ensures) _
-    (fresh-asked (start .s) (start .xs) (start .set) (start .source .now) (start .weights .now) (start .chain .now) (start .carries .now) (start .sums .now)
-    (length (start .scratch .now)) _ (at-19 .fresh-ok .ensures) (at-17 .enum-told .given .1) _ (at-20 .blank-run .ensures) _ n) _ _ _ _
+    fresh-ends (start .args .s) (start .args .xs) (start .args .set) (lent start)
+    (start .args .scratch .now) _ (at-19 .fresh-ok .ensures) (at-17 .enum-told .given .1) _ (at-20 .blank-run .ensures) _
+    (fresh-asked (start .args .s) (start .args .xs) (start .args .set) (lent start)
+    (length (start .args .scratch .now)) _ (at-19 .fresh-ok .ensures) (at-17 .enum-told .given .1) _ (at-20 .blank-run .ensures) _ n) _ _
     (at-8 .renew .ensures .0) (at-15 .take-sources .ensures) _ (at-8 .renew .ensures .1 ∙ ap zeros n)
 
 pub fresh-run-spec : {M : Type 1} → statement M
