@@ -4,6 +4,7 @@ use mathlib.Core.Bool.{Bool, true}
 use mathlib.Core.List.{List}
 use lib.Ieee.{Float}
 use Rattle.runform.specs.declared.Run.{Run}
+use Rattle.runform.specs.Slices.{Outputs}
 
 -- The answer is true exactly where X holds. Two f64 are equal here where their bits are, every NaN having the same ones.
 pub record Tells (answer : Bool) (X : Type 0) : Type 0 where
@@ -15,9 +16,7 @@ pub record SameRecord (a b : Run) : Type 0 where
   pub bonds : a .bonds ≡ b .bonds
   pub figure : a .figure ≡ b .figure
 
--- and so do their lists, each beside the other's
-pub record SameKept (a b : Run) (c c₂ e e₂ s s₂ : List Float) : Type 0 where
-  pub bonds : SameRecord a b
-  pub chain : c ≡ c₂
-  pub carries : e ≡ e₂
-  pub sums : s ≡ s₂
+-- and so do their slices
+pub record SameKept (a b : Run) (m n : Outputs (List Float)) : Type 0 where
+  pub told : SameRecord a b
+  pub outputs : m ≡ n

@@ -1,5 +1,6 @@
 // Two kept runs beside each other, number by number and bit by bit.
 ghost use mathlib.Core.Path.{_≡_};
+ghost use Rattle.runform.specs.Slices.{outputs};
 ghost use Rattle.comparing.specs.Same.{Tells, SameRecord, SameKept};
 
 // Whether two numbers have the same bits.
@@ -68,8 +69,8 @@ pub fn same_kept(
     sums: &[f64],
     sums2: &[f64],
 ) -> bool
-    ensures { λ r. ⌜ Tells r (SameKept a b (now (chain .entry)) (now (chain2 .entry)) (now (carries .entry)) (now (carries2 .entry))
-        (now (sums .entry)) (now (sums2 .entry))) ⌝ }
+    ensures { λ r. ⌜ Tells r (SameKept a b (outputs (now (chain .entry)) (now (carries .entry)) (now (sums .entry)))
+        (outputs (now (chain2 .entry)) (now (carries2 .entry)) (now (sums2 .entry)))) ⌝ }
 {
     let record = same_record(a, b);
     let cores = same_numbers(chain, chain2);

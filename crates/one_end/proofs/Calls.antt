@@ -32,7 +32,7 @@ use Rattle.evolution.proofs.evolve as evolve-call
 use Rattle.pairform.specs.Call.{PairEnded}
 use Rattle.pair.proofs.contract_and_split as pair-call
 use Rattle.pair.proofs.contract_and_split.Reads as pair-reads
-use Rattle.runform.specs.Call.{FreshEnd, ReplaceEnd}
+use Rattle.runform.specs.Call.{RunEnd}
 use Rattle.runs.proofs.fresh_run as fresh-call
 use Rattle.runs.proofs.fresh_run.Reads as fresh-reads
 use Rattle.runs.proofs.replace_core as core-call
@@ -98,19 +98,19 @@ contract-and-split = record { plain = λ w κs a. refl; one = λ κs a r r' e e'
 
 pub fresh-run : OneEnd fresh-call.ended (λ M 𝓤. fresh-call.clauses 𝓤) fresh-reads.Post
     (λ κs e. now (e .1 .1 .1 .1 .1 .0) ∷ now (e .1 .1 .1 .1 .1 .1 .0) ∷ now (e .1 .1 .1 .1 .1 .1 .1 .0) ∷ now (e .1 .1 .1 .1 .1 .1 .1 .1 .0) ∷ [])
-fresh-run = record { plain = λ w κs a. refl; one = λ κs a r r' e e' p q. apart {E = FreshEnd} (λ z. z .result) (λ z. z .chain ∷ z .carries ∷ z .sums ∷ z .scratch ∷ []) _ _ _ p q }
+fresh-run = record { plain = λ w κs a. refl; one = λ κs a r r' e e' p q. apart {E = RunEnd} (λ z. z .result) (λ z. let o = z .slices .outputs in o .chain ∷ o .carries ∷ o .sums ∷ z .scratch ∷ []) _ _ _ p q }
 
 pub replace-core : OneEnd core-call.ended (λ M 𝓤. core-call.clauses 𝓤) core-reads.Post
     (λ κs e. now (e .1 .1 .0) ∷ now (e .1 .1 .1 .1 .0) ∷ now (e .1 .1 .1 .1 .1 .0) ∷ now (e .1 .1 .1 .1 .1 .1 .0) ∷ now (e .1 .1 .1 .1 .1 .1 .1 .1 .0) ∷ [])
-replace-core = record { plain = λ w κs a. refl; one = λ κs a r r' e e' p q. apart {E = ReplaceEnd} (λ z. z .result) (λ z. z .source ∷ z .chain ∷ z .carries ∷ z .sums ∷ z .scratch ∷ []) _ _ _ p q }
+replace-core = record { plain = λ w κs a. refl; one = λ κs a r r' e e' p q. apart {E = RunEnd} (λ z. z .result) (λ z. let o = z .slices .outputs in z .slices .source ∷ o .chain ∷ o .carries ∷ o .sums ∷ z .scratch ∷ []) _ _ _ p q }
 
 pub replace-axis : OneEnd axis-call.ended (λ M 𝓤. axis-call.clauses 𝓤) axis-reads.Post
     (λ κs e. now (e .1 .1 .1 .1 .1 .0) ∷ now (e .1 .1 .1 .1 .1 .1 .0) ∷ now (e .1 .1 .1 .1 .1 .1 .1 .0) ∷ now (e .1 .1 .1 .1 .1 .1 .1 .1 .0) ∷ [])
-replace-axis = record { plain = λ w κs a. refl; one = λ κs a r r' e e' p q. apart {E = ReplaceEnd} (λ z. z .result) (λ z. z .chain ∷ z .carries ∷ z .sums ∷ z .scratch ∷ []) _ _ _ p q }
+replace-axis = record { plain = λ w κs a. refl; one = λ κs a r r' e e' p q. apart {E = RunEnd} (λ z. z .result) (λ z. let o = z .slices .outputs in o .chain ∷ o .carries ∷ o .sums ∷ z .scratch ∷ []) _ _ _ p q }
 
 pub replace-weights : OneEnd weights-call.ended (λ M 𝓤. weights-call.clauses 𝓤) weights-reads.Post
     (λ κs e. now (e .1 .1 .1 .0) ∷ now (e .1 .1 .1 .1 .1 .1 .0) ∷ now (e .1 .1 .1 .1 .1 .1 .1 .1 .0) ∷ [])
-replace-weights = record { plain = λ w κs a. refl; one = λ κs a r r' e e' p q. apart {E = ReplaceEnd} (λ z. z .result) (λ z. z .weights ∷ z .sums ∷ z .scratch ∷ []) _ _ _ p q }
+replace-weights = record { plain = λ w κs a. refl; one = λ κs a r r' e e' p q. apart {E = RunEnd} (λ z. z .result) (λ z. z .slices .weights ∷ z .slices .outputs .sums ∷ z .scratch ∷ []) _ _ _ p q }
 
 pub read-chain : OneEnd read-call.ended (λ M 𝓤. read-call.clauses 𝓤) read-reads.Post (λ κs e. now (e .1 .0) ∷ [])
 read-chain = record { plain = λ w κs a. refl; one = λ κs a r r' e e' p q. (cc, cc) }

@@ -1,6 +1,6 @@
 -- Each call's function for C by its name: its contract asks for nothing, and any two ends that it allows are equal. As in Calls.antt. Assumes nothing.
-use mathlib.Core.Path.{refl}
-use mathlib.Core.List.{[], _∷_}
+use mathlib.Core.Path.{_≡_, refl, sym, ap, _∙_}
+use mathlib.Core.List.{List, [], _∷_}
 use lib.Ieee.{Float}
 use denote.Ref.{now}
 use Rattle.zones.proofs.scalars.uyavsker_root as root-call
@@ -39,7 +39,17 @@ use Rattle.zones.proofs.files.uyavsker_write_chain as write-chain-call
 use Rattle.zones.proofs.files.uyavsker_write_chain.Reads as write-chain-reads
 use Rattle.zones.proofs.files.uyavsker_text_of as text-of-call
 use Rattle.zones.proofs.files.uyavsker_text_of.Reads as text-of-reads
+use Rattle.runform.specs.Slices.{Slices}
+use Rattle.runform.specs.Call.{RunEnd}
+use Rattle.records.specs.declared.held.CRan.{CRan}
+use Rattle.zones.specs.Ends.{RunsAs}
 use Rattle.one_end.specs.OneEnd.{OneEnd}
+
+-- of a run's call: C's answer, the run's slices and scratch
+run-apart : {x : RunEnd} {o o' : CRan} {m m' : Slices (List Float)} {w w' : List Float} (written : Slices (List Float) → List Float → List (List Float))
+    → RunsAs x o m w → RunsAs x o' m' w' → (o ≡ o') × (written m w ≡ written m' w')
+run-apart {w = w} {w' = w'} written p q =
+    (p .result ∙ sym (q .result), ap (λ n. written n w) (p .slices ∙ sym (q .slices)) ∙ ap (written _) (p .scratch ∙ sym (q .scratch)))
 
 pub uyavsker-root : OneEnd root-call.ended (λ M 𝓤. root-call.clauses 𝓤) root-reads.Post {A = Float} (λ κs e. [])
 uyavsker-root = record { plain = λ w κs a. refl; one = λ κs a r r' e e' p q. (cc, cc) }
@@ -77,19 +87,22 @@ uyavsker-contract-and-split = record { plain = λ w κs a. refl; one = λ κs a 
 
 pub uyavsker-fresh-run : OneEnd fresh-run-call.ended (λ M 𝓤. fresh-run-call.clauses 𝓤) fresh-run-reads.Post
     (λ κs e. now (e .1 .1 .1 .1 .1 .0) ∷ now (e .1 .1 .1 .1 .1 .1 .0) ∷ now (e .1 .1 .1 .1 .1 .1 .1 .0) ∷ now (e .1 .1 .1 .1 .1 .1 .1 .1 .0) ∷ [])
-uyavsker-fresh-run = record { plain = λ w κs a. refl; one = λ κs a r r' e e' p q. (cc, cc) }
+uyavsker-fresh-run = record { plain = λ w κs a. refl; one = λ κs a r r' e e' p q. run-apart (λ m w. m .outputs .chain ∷ m .outputs .carries ∷ m .outputs .sums ∷ w ∷ []) p q }
 
 pub uyavsker-replace-core : OneEnd replace-core-call.ended (λ M 𝓤. replace-core-call.clauses 𝓤) replace-core-reads.Post
     (λ κs e. now (e .1 .1 .0) ∷ now (e .1 .1 .1 .1 .0) ∷ now (e .1 .1 .1 .1 .1 .0) ∷ now (e .1 .1 .1 .1 .1 .1 .0) ∷ now (e .1 .1 .1 .1 .1 .1 .1 .1 .0) ∷ [])
-uyavsker-replace-core = record { plain = λ w κs a. refl; one = λ κs a r r' e e' p q. (cc, cc) }
+uyavsker-replace-core = record {
+  plain = λ w κs a. refl;
+  one = λ κs a r r' e e' p q. run-apart (λ m w. m .source ∷ m .outputs .chain ∷ m .outputs .carries ∷ m .outputs .sums ∷ w ∷ []) p q;
+}
 
 pub uyavsker-replace-axis : OneEnd replace-axis-call.ended (λ M 𝓤. replace-axis-call.clauses 𝓤) replace-axis-reads.Post
     (λ κs e. now (e .1 .1 .1 .1 .1 .0) ∷ now (e .1 .1 .1 .1 .1 .1 .0) ∷ now (e .1 .1 .1 .1 .1 .1 .1 .0) ∷ now (e .1 .1 .1 .1 .1 .1 .1 .1 .0) ∷ [])
-uyavsker-replace-axis = record { plain = λ w κs a. refl; one = λ κs a r r' e e' p q. (cc, cc) }
+uyavsker-replace-axis = record { plain = λ w κs a. refl; one = λ κs a r r' e e' p q. run-apart (λ m w. m .outputs .chain ∷ m .outputs .carries ∷ m .outputs .sums ∷ w ∷ []) p q }
 
 pub uyavsker-replace-weights : OneEnd replace-weights-call.ended (λ M 𝓤. replace-weights-call.clauses 𝓤) replace-weights-reads.Post
     (λ κs e. now (e .1 .1 .1 .0) ∷ now (e .1 .1 .1 .1 .1 .1 .0) ∷ now (e .1 .1 .1 .1 .1 .1 .1 .1 .0) ∷ [])
-uyavsker-replace-weights = record { plain = λ w κs a. refl; one = λ κs a r r' e e' p q. (cc, cc) }
+uyavsker-replace-weights = record { plain = λ w κs a. refl; one = λ κs a r r' e e' p q. run-apart (λ m w. m .weights ∷ m .outputs .sums ∷ w ∷ []) p q }
 
 pub uyavsker-read-chain : OneEnd read-chain-call.ended (λ M 𝓤. read-chain-call.clauses 𝓤) read-chain-reads.Post (λ κs e. now (e .1 .0) ∷ [])
 uyavsker-read-chain = record { plain = λ w κs a. refl; one = λ κs a r r' e e' p q. (cc, cc) }

@@ -1,8 +1,9 @@
 // The plan with its run, by value: a record and five arrays; a fresh run of it, and the replacement of one zone's core, weights
 // or axis record; and whether it keeps the bits of a fresh run.
 ghost use mathlib.Core.Path.{_≡_};
+ghost use Rattle.runform.specs.Slices.{outputs};
 ghost use Rattle.comparing.specs.Same.{Tells, SameKept};
-ghost use Rattle.plan.specs.Answers.{freshEnd, freshAnswer, coreEnd, weightsEnd, axisEnd, replaceAnswer, AsFresh};
+ghost use Rattle.plan.specs.Answers.{freshEnd, coreEnd, weightsEnd, axisEnd, answerOf, AsFresh};
 
 pub struct Plan {
     pub run: runform::Run,
@@ -20,7 +21,7 @@ pub struct Answer {
 }
 
 pub fn fresh(p: Plan) -> Answer
-    ensures { λ r. ⌜ r ≡ freshAnswer p (freshEnd p) ⌝ }
+    ensures { λ r. ⌜ r ≡ answerOf (freshEnd p) ⌝ }
 {
     let run = p.run;
     let s = run.shape;
@@ -57,7 +58,7 @@ pub fn fresh(p: Plan) -> Answer
 }
 
 pub fn new_core(p: Plan, z: usize, part: &[f64]) -> Answer
-    ensures { λ r. ⌜ r ≡ replaceAnswer (coreEnd p z (now (part .entry))) ⌝ }
+    ensures { λ r. ⌜ r ≡ answerOf (coreEnd p z (now (part .entry))) ⌝ }
 {
     let run = p.run;
     let mut source = p.source;
@@ -91,7 +92,7 @@ pub fn new_core(p: Plan, z: usize, part: &[f64]) -> Answer
 }
 
 pub fn new_weights(p: Plan, z: usize, part: &[f64]) -> Answer
-    ensures { λ r. ⌜ r ≡ replaceAnswer (weightsEnd p z (now (part .entry))) ⌝ }
+    ensures { λ r. ⌜ r ≡ answerOf (weightsEnd p z (now (part .entry))) ⌝ }
 {
     let run = p.run;
     let source = p.source;
@@ -125,7 +126,7 @@ pub fn new_weights(p: Plan, z: usize, part: &[f64]) -> Answer
 }
 
 pub fn new_axis(p: Plan, z: usize, x: stepform::Axis) -> Answer
-    ensures { λ r. ⌜ r ≡ replaceAnswer (axisEnd p z x) ⌝ }
+    ensures { λ r. ⌜ r ≡ answerOf (axisEnd p z x) ⌝ }
 {
     let run = p.run;
     let source = p.source;
@@ -169,7 +170,7 @@ fn same_kept(
     a: runform::Run,
     b: runform::Run,
 ) -> bool
-    ensures { λ r. ⌜ Tells r (SameKept a b chain chain2 carries carries2 sums sums2) ⌝ }
+    ensures { λ r. ⌜ Tells r (SameKept a b (outputs chain carries sums) (outputs chain2 carries2 sums2)) ⌝ }
 {
     comparing::same_kept(a, b, &chain, &chain2, &carries, &carries2, &sums, &sums2)
 }

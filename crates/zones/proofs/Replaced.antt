@@ -7,41 +7,26 @@ use Rattle.stepform.specs.declared.Axis.{Axis}
 use Rattle.stepform.specs.declared.Settings.{Settings}
 use Rattle.runform.specs.declared.Run.{Run}
 use Rattle.runform.specs.declared.Ran.{Ran}
-use Rattle.runform.specs.Call.{FreshEnd, ReplaceEnd}
+use Rattle.runform.specs.Slices.{Slices}
+use Rattle.runform.specs.Call.{RunEnd}
 use Rattle.records.specs.declared.held.CRan.{CRan}
 use Rattle.records.specs.Held.{ranOut}
-use Rattle.zones.specs.Ends.{RunsAs, ReplacesAs}
+use Rattle.zones.specs.Ends.{RunsAs}
 
-pub runs-as : (F : Shape → List Axis → Settings → FreshEnd) (x y : Shape) (k m : List Axis) (t u : Settings) (r : Ran) (l c s w : List Float) (o : CRan) → x ≡ y → k ≡ m → t ≡ u
-    → record { result = r; chain = l; carries = c; sums = s; scratch = w } ≡ F x k t → o ≡ ranOut r → RunsAs (F y m u) o l c s w
-runs-as F x y k m t u r l c s w o e f g a b =
-    let h : record { result = r; chain = l; carries = c; sums = s; scratch = w } ≡ F y m u = a ∙ ap (λ z. F z k t) e ∙ ap (λ z. F y z t) f ∙ ap (λ z. F y m z) g in
-    record {
-      result = b ∙ ap (λ (z : FreshEnd). ranOut (z .result)) h;
-      chain = ap (λ (z : FreshEnd). z .chain) h;
-      carries = ap (λ (z : FreshEnd). z .carries) h;
-      sums = ap (λ (z : FreshEnd). z .sums) h;
-      scratch = ap (λ (z : FreshEnd). z .scratch) h;
-    }
+module _ (r : Ran) (m : Slices (List Float)) (w : List Float) (o : CRan) (b : o ≡ ranOut r) where
+  abbrev end : RunEnd
+  end = record { result = r; slices = m; scratch = w }
 
--- e is what the call's definition gives of C's record
-replaced : (e : ReplaceEnd) (r : Ran) (x f l c s w : List Float) (o : CRan) → record { result = r; source = x; weights = f; chain = l; carries = c; sums = s; scratch = w } ≡ e → o ≡ ranOut r → ReplacesAs e o x f l c s w
-replaced e r x f l c s w o h b = record {
-  result = b ∙ ap (λ (z : ReplaceEnd). ranOut (z .result)) h;
-  source = ap (λ (z : ReplaceEnd). z .source) h;
-  weights = ap (λ (z : ReplaceEnd). z .weights) h;
-  chain = ap (λ (z : ReplaceEnd). z .chain) h;
-  carries = ap (λ (z : ReplaceEnd). z .carries) h;
-  sums = ap (λ (z : ReplaceEnd). z .sums) h;
-  scratch = ap (λ (z : ReplaceEnd). z .scratch) h;
-}
+  -- e is what the call's definition gives of C's records
+  ends : (e : RunEnd) → end ≡ e → RunsAs e o m w
+  ends e h = record { result = b ∙ ap (λ (z : RunEnd). ranOut (z .result)) h; slices = ap (λ (z : RunEnd). z .slices) h; scratch = ap (λ (z : RunEnd). z .scratch) h }
 
-pub replaces-as : (F : Run → ReplaceEnd) (k m : Run) (r : Ran) (x f l c s w : List Float) (o : CRan)
-    → k ≡ m → record { result = r; source = x; weights = f; chain = l; carries = c; sums = s; scratch = w } ≡ F k
-    → o ≡ ranOut r → ReplacesAs (F m) o x f l c s w
-replaces-as F k m r x f l c s w o e a b = replaced (F m) r x f l c s w o (a ∙ ap F e) b
+  pub runs-as : (F : Shape → List Axis → Settings → RunEnd) (x y : Shape) (k l : List Axis) (t u : Settings) → x ≡ y → k ≡ l → t ≡ u
+      → record { result = r; slices = m; scratch = w } ≡ F x k t → RunsAs (F y l u) o m w
+  runs-as F x y k l t u e f g a = ends (F y l u) (a ∙ ap (λ z. F z k t) e ∙ ap (λ z. F y z t) f ∙ ap (λ z. F y l z) g)
 
-pub axis-replaced-as : (F : Run → Axis → ReplaceEnd) (k m : Run) (p q : Axis) (r : Ran) (x f l c s w : List Float) (o : CRan)
-    → k ≡ m → p ≡ q → record { result = r; source = x; weights = f; chain = l; carries = c; sums = s; scratch = w } ≡ F k p
-    → o ≡ ranOut r → ReplacesAs (F m q) o x f l c s w
-axis-replaced-as F k m p q r x f l c s w o e g a b = replaced (F m q) r x f l c s w o (a ∙ ap (λ z. F z p) e ∙ ap (λ z. F m z) g) b
+  pub replaces-as : (F : Run → RunEnd) (k l : Run) → k ≡ l → record { result = r; slices = m; scratch = w } ≡ F k → RunsAs (F l) o m w
+  replaces-as F k l e a = ends (F l) (a ∙ ap F e)
+
+  pub axis-replaced-as : (F : Run → Axis → RunEnd) (k l : Run) (p q : Axis) → k ≡ l → p ≡ q → record { result = r; slices = m; scratch = w } ≡ F k p → RunsAs (F l q) o m w
+  axis-replaced-as F k l p q e g a = ends (F l q) (a ∙ ap (λ z. F z p) e ∙ ap (λ z. F l z) g)

@@ -9,7 +9,8 @@ use Rattle.sumform.specs.Start.{StartEnded}
 use Rattle.pairform.specs.Call.{PairEnded}
 use Rattle.fileform.specs.declared.Read.{Read}
 use Rattle.fileform.specs.Calls.{Exit}
-use Rattle.runform.specs.Call.{FreshEnd, ReplaceEnd}
+use Rattle.runform.specs.Slices.{Slices}
+use Rattle.runform.specs.Call.{RunEnd}
 use Rattle.records.specs.declared.told.CRefusal.{CRefusal}
 use Rattle.records.specs.declared.told.CRounded.{CRounded}
 use Rattle.records.specs.declared.told.CFormed.{CFormed}
@@ -46,20 +47,8 @@ pub record WritesAs (e : Exit Verdict ℕ) (o : CRefusal) (l : List ℕ) : Type 
   pub result : o ≡ refusalOf (e .result)
   pub bytes : l ≡ e .out
 
--- of a fresh run: what stands in its four written slices
-pub record RunsAs (e : FreshEnd) (o : CRan) (l c s w : List Float) : Type 0 where
+-- of a fresh run and of a replacement: what stands in the run's slices and in scratch
+pub record RunsAs (e : RunEnd) (o : CRan) (m : Slices (List Float)) (w : List Float) : Type 0 where
   pub result : o ≡ ranOut (e .result)
-  pub chain : l ≡ e .chain
-  pub carries : c ≡ e .carries
-  pub sums : s ≡ e .sums
-  pub scratch : w ≡ e .scratch
-
--- of a replacement: what stands in the run's five slices and in scratch
-pub record ReplacesAs (e : ReplaceEnd) (o : CRan) (x f l c s w : List Float) : Type 0 where
-  pub result : o ≡ ranOut (e .result)
-  pub source : x ≡ e .source
-  pub weights : f ≡ e .weights
-  pub chain : l ≡ e .chain
-  pub carries : c ≡ e .carries
-  pub sums : s ≡ e .sums
+  pub slices : m ≡ e .slices
   pub scratch : w ≡ e .scratch

@@ -1,9 +1,10 @@
 // A fresh run, and the replacement of one zone's core, weights or axis record.
 ghost use mathlib.Core.List.{map};
+ghost use Rattle.runform.specs.Slices.{slices};
 ghost use Rattle.runform.specs.Call.{freshCall, replaceCoreCall, replaceWeightsCall, replaceAxisCall};
 ghost use Rattle.records.specs.Given.{shapeIn, axisIn, settingsIn};
 ghost use Rattle.records.specs.Held.{runIn};
-ghost use Rattle.zones.specs.Ends.{RunsAs, ReplacesAs};
+ghost use Rattle.zones.specs.Ends.{RunsAs};
 use records::given;
 use records::held;
 
@@ -20,8 +21,8 @@ pub extern "C" fn uyavsker_fresh_run(
     scratch: &mut [f64],
 ) -> held::CRan
     ensures { λ r. ⌜ RunsAs (freshCall (shapeIn s) (map axisIn (xs .axis)) (settingsIn set)
-        (now (source .entry)) (now (weights .entry)) (now (chain .entry)) (now (carries .entry)) (now (sums .entry)) (now (scratch .entry)))
-        r (now (chain .exit)) (now (carries .exit)) (now (sums .exit)) (now (scratch .exit)) ⌝ }
+        (slices (now (source .entry)) (now (weights .entry)) (now (chain .entry)) (now (carries .entry)) (now (sums .entry))) (now (scratch .entry)))
+        r (slices (now (source .entry)) (now (weights .entry)) (now (chain .exit)) (now (carries .exit)) (now (sums .exit))) (now (scratch .exit)) ⌝ }
 {
     let axis = xs.axis;
     let shape = given::shape_in(s);
@@ -52,10 +53,10 @@ pub extern "C" fn uyavsker_replace_core(
     part: &[f64],
     scratch: &mut [f64],
 ) -> held::CRan
-    ensures { λ o. ⌜ ReplacesAs (replaceCoreCall (runIn r) z
-        (now (source .entry)) (now (weights .entry)) (now (chain .entry)) (now (carries .entry)) (now (sums .entry))
+    ensures { λ o. ⌜ RunsAs (replaceCoreCall (runIn r) z
+        (slices (now (source .entry)) (now (weights .entry)) (now (chain .entry)) (now (carries .entry)) (now (sums .entry)))
         (now (part .entry)) (now (scratch .entry)))
-        o (now (source .exit)) (now (weights .entry)) (now (chain .exit)) (now (carries .exit)) (now (sums .exit)) (now (scratch .exit)) ⌝ }
+        o (slices (now (source .exit)) (now (weights .entry)) (now (chain .exit)) (now (carries .exit)) (now (sums .exit))) (now (scratch .exit)) ⌝ }
 {
     let run = held::run_in(r);
     held::ran_out(runs::replace_core(run, z, source, weights, chain, carries, sums, part, scratch))
@@ -73,10 +74,10 @@ pub extern "C" fn uyavsker_replace_weights(
     part: &[f64],
     scratch: &mut [f64],
 ) -> held::CRan
-    ensures { λ o. ⌜ ReplacesAs (replaceWeightsCall (runIn r) z
-        (now (source .entry)) (now (weights .entry)) (now (chain .entry)) (now (carries .entry)) (now (sums .entry))
+    ensures { λ o. ⌜ RunsAs (replaceWeightsCall (runIn r) z
+        (slices (now (source .entry)) (now (weights .entry)) (now (chain .entry)) (now (carries .entry)) (now (sums .entry)))
         (now (part .entry)) (now (scratch .entry)))
-        o (now (source .entry)) (now (weights .exit)) (now (chain .entry)) (now (carries .entry)) (now (sums .exit)) (now (scratch .exit)) ⌝ }
+        o (slices (now (source .entry)) (now (weights .exit)) (now (chain .entry)) (now (carries .entry)) (now (sums .exit))) (now (scratch .exit)) ⌝ }
 {
     let run = held::run_in(r);
     held::ran_out(runs::replace_weights(
@@ -104,10 +105,10 @@ pub extern "C" fn uyavsker_replace_axis(
     sums: &mut [f64],
     scratch: &mut [f64],
 ) -> held::CRan
-    ensures { λ o. ⌜ ReplacesAs (replaceAxisCall (runIn r) z (axisIn x)
-        (now (source .entry)) (now (weights .entry)) (now (chain .entry)) (now (carries .entry)) (now (sums .entry))
+    ensures { λ o. ⌜ RunsAs (replaceAxisCall (runIn r) z (axisIn x)
+        (slices (now (source .entry)) (now (weights .entry)) (now (chain .entry)) (now (carries .entry)) (now (sums .entry)))
         (now (scratch .entry)))
-        o (now (source .entry)) (now (weights .entry)) (now (chain .exit)) (now (carries .exit)) (now (sums .exit)) (now (scratch .exit)) ⌝ }
+        o (slices (now (source .entry)) (now (weights .entry)) (now (chain .exit)) (now (carries .exit)) (now (sums .exit))) (now (scratch .exit)) ⌝ }
 {
     let run = held::run_in(r);
     let axis = given::axis_in(x);

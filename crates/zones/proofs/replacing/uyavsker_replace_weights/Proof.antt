@@ -1,6 +1,7 @@
 -- `zones::replacing::uyavsker_replace_weights`: the run turned into the core's, the call, and its answer turned back (replaces-as).
 use borrow.Author.Needs.{needs}
 use Rattle.runform.specs.declared.Run.{Run}
+use Rattle.runform.specs.Slices.{slices}
 use Rattle.runform.specs.Call.{replaceWeightsCall}
 use Rattle.zones.proofs.Replaced.{replaces-as}
 use Rattle.zones.proofs.replacing.uyavsker_replace_weights.Statement.{statement}
@@ -11,8 +12,9 @@ returns c =
     let at-7 = c .before .before .before .before .before .before .before in
     let at-11 = at-7 .before .before .before .before in
     let i = at-11 .before .before .before .before .before .before .before .before .args in
-    replaces-as (λ (k : Run). replaceWeightsCall k (i .z) (i .source .now) (i .weights .now) (i .chain .now) (i .carries .now) (i .sums .now) (i .part .now) (i .scratch .now)) _ _ _ _ _ _ _ _ _ _
-    (at-11 .run-in .ensures) (at-7 .replace-weights .ensures) (c .ran-out .ensures)
+    replaces-as _ _ _ _ (c .ran-out .ensures)
+    (λ (k : Run). replaceWeightsCall k (i .z) (slices (i .source .now) (i .weights .now) (i .chain .now) (i .carries .now) (i .sums .now)) (i .part .now) (i .scratch .now)) _ _
+    (at-11 .run-in .ensures) (at-7 .replace-weights .ensures)
 
 pub uyavsker-replace-weights-spec : {M : Type 1} → statement M
 uyavsker-replace-weights-spec = tie.close (tie.spec (λ c κs. search needs) (λ c κs. search needs) (λ c κs. search needs) (λ c. search needs) (λ c. search needs) (λ c. search needs) returns)
