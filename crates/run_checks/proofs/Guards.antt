@@ -19,9 +19,7 @@ use Rattle.shape.specs.Cores.{coreAt, pointsAt}
 use Rattle.stepform.specs.declared.Axis.{Axis}
 use Rattle.stepform.specs.Axes.{axisFinite, axisAt}
 use Rattle.cutform.specs.Call.{coreFinite}
-use Rattle.cutform.specs.declared.Bond.{Bond}
-use Rattle.runform.specs.Slices.{outputs}
-use Rattle.runform.specs.Checks.{coreHeld, carryHeld, sumsHeld, madeFinite, heldFinite}
+use Rattle.runform.specs.Checks.{madeFinite}
 use Rattle.lists.proofs.Tests.{below-or-not, ltb-yes, ltb-no, eqb-yes, eqb-no}
 use Rattle.lists.proofs.Demands.{both-left, both-right, first-is}
 use Rattle.lists.proofs.Asked.{length-wrong, length-right, test-wrong, test-right, place-wrong, places-right}
@@ -124,11 +122,3 @@ module _ (s : Shape) (i j l m n : ℕ) (f : (j ≤ l → m ≡ j) × (l < j → 
   made-first xs source weights a b c =
       least-fails (λ (k : ℕ). allFinite (coreAt s source k .entries)) (λ (k : ℕ). axisFinite (axisAt xs k) && allFinite (pointsAt s weights k)) (s .d) i m n a
       (least-fails (λ (k : ℕ). axisFinite (axisAt xs k)) (λ (k : ℕ). allFinite (pointsAt s weights k)) (s .d) j l m b c f) g
-
-  pub held-first : (bonds : List Bond) (chain carries sums : List Float)
-      → i ≡ firstNot (coreHeld s bonds chain) (s .d) → j ≡ firstNot (carryHeld s bonds carries) (s .d) → l ≡ firstNot (sumsHeld s bonds sums) (s .d)
-      → n ≡ firstNot (heldFinite s bonds (outputs chain carries sums)) (s .d)
-  unfolding heldFinite
-  held-first bonds chain carries sums a b c =
-      least-fails (coreHeld s bonds chain) (λ (k : ℕ). carryHeld s bonds carries k && sumsHeld s bonds sums k) (s .d) i m n a
-      (least-fails (carryHeld s bonds carries) (sumsHeld s bonds sums) (s .d) j l m b c f) g

@@ -5,13 +5,13 @@ ghost use Prim.Native.Nat.{ℕ, _≤_, _<_};
 ghost use lib.Dec.{eqb};
 ghost use lib.ListN.{length};
 ghost use Rattle.answers.specs.declared.Refusal.the-variants.{Number, Setting};
-ghost use Rattle.answers.specs.Outcome.{verdictOf, done, _then_, demand, demandEach};
+ghost use Rattle.answers.specs.Outcome.{verdictOf, _then_, demand, demandEach};
 ghost use Rattle.lists.specs.Lists.{pick, firstNot};
-ghost use Rattle.shape.specs.Shapes.{shapeOk, entriesOf, allPoints};
+ghost use Rattle.shape.specs.Shapes.{entriesOf, allPoints};
 ghost use Rattle.shape.specs.Sizes.{SizesWithin};
-ghost use Rattle.runform.specs.Slices.{outputs, slices};
-ghost use Rattle.runform.specs.Kept.{keptOf, allCarries, allSums, lengthsIn};
-ghost use Rattle.runform.specs.Checks.{rankOk, slicesLent, madeFinite, heldFinite};
+ghost use Rattle.runform.specs.Slices.{slices};
+ghost use Rattle.runform.specs.Kept.{keptOf, lengthsIn};
+ghost use Rattle.runform.specs.Checks.{slicesLent, madeFinite};
 ghost use Rattle.runform.specs.Requests.{foundOk};
 
 // Refusal 5 of a run's slices.
@@ -97,25 +97,6 @@ pub fn first_bad_made(
     let axis = checks::settings::first_not_finite(d, xs);
     let weight = s.first_not_finite_axis(weights);
     let other = least(axis, weight);
-    least(core, other)
-}
-
-// The first zone of which a number is kept that isn't finite, or d.
-pub fn first_bad_held(
-    s: shape::Shape,
-    bonds: [cutform::Bond; shape::MOST_AXES],
-    chain: &[f64],
-    carries: &[f64],
-    sums: &[f64],
-) -> usize
-    requires { ⌜ (SizesWithin s) × (shapeOk s (rankOk s bonds) ≡ done tt) ⌝ }
-    requires { ⌜ (entriesOf s ≤ length (now chain)) × (allCarries s ≤ length (now carries)) × (allSums s ≤ length (now sums)) ⌝ }
-    ensures { λ r. ⌜ r ≡ firstNot (heldFinite s bonds (outputs (now (chain .entry)) (now (carries .entry)) (now (sums .entry)))) (s .d) ⌝ }
-{
-    let core = crate::rooms::first_bad_core(s, bonds, chain);
-    let carry = crate::rooms::first_bad_carry(s, bonds, carries);
-    let sum = crate::rooms::first_bad_sum(s, bonds, sums);
-    let other = least(carry, sum);
     least(core, other)
 }
 

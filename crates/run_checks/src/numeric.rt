@@ -30,7 +30,7 @@ fn first_bad_number(
     let bonds = r.bonds;
     let d = s.d;
     let made = crate::found::first_bad_made(s, xs, source, weights);
-    let held = crate::found::first_bad_held(s, bonds, chain, carries, sums);
+    let held = crate::rooms::first_bad_held(s, bonds, chain, carries, sums);
     crate::found::either(made, held, d)
 }
 

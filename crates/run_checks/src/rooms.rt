@@ -9,8 +9,9 @@ ghost use Rattle.lists.specs.Floats.{allFinite};
 ghost use Rattle.shape.specs.Shapes.{shapeOk, entriesOf};
 ghost use Rattle.shape.specs.Sizes.{PointsWithin, SizesWithin};
 ghost use Rattle.stepform.specs.Call.{axisReaches};
+ghost use Rattle.runform.specs.Slices.{outputs};
 ghost use Rattle.runform.specs.Kept.{allCarries, allSums};
-ghost use Rattle.runform.specs.Checks.{rankOk, coreHeld, carryHeld, sumsHeld};
+ghost use Rattle.runform.specs.Checks.{rankOk, coreHeld, carryHeld, sumsHeld, heldFinite};
 ghost use Rattle.run_checks.specs.Reach.{reachFrom};
 
 // Whether the numbers at the front of what begins at `at` are all finite.
@@ -37,25 +38,6 @@ fn core_held(
     front_finite(chain, at, left * s.n[k] * right)
 }
 
-// The first core that is kept with a number that isn't finite, or d.
-pub fn first_bad_core(
-    s: shape::Shape,
-    bonds: [cutform::Bond; shape::MOST_AXES],
-    chain: &[f64],
-) -> usize
-    requires { ⌜ (SizesWithin s) × (shapeOk s (rankOk s bonds) ≡ done tt) × (entriesOf s ≤ length (now chain)) ⌝ }
-    ensures { λ r. ⌜ r ≡ firstNot (coreHeld s bonds (now (chain .entry))) (s .d) ⌝ }
-{
-    let mut k = 0;
-    while k < s.d {
-        if !core_held(s, bonds, chain, k) {
-            return k;
-        }
-        k += 1;
-    }
-    k
-}
-
 fn carry_held(
     s: shape::Shape,
     bonds: [cutform::Bond; shape::MOST_AXES],
@@ -73,25 +55,6 @@ fn carry_held(
     true
 }
 
-// The first bond whose carry has a number that isn't finite, or d.
-pub fn first_bad_carry(
-    s: shape::Shape,
-    bonds: [cutform::Bond; shape::MOST_AXES],
-    carries: &[f64],
-) -> usize
-    requires { ⌜ (SizesWithin s) × (shapeOk s (rankOk s bonds) ≡ done tt) × (allCarries s ≤ length (now carries)) ⌝ }
-    ensures { λ r. ⌜ r ≡ firstNot (carryHeld s bonds (now (carries .entry))) (s .d) ⌝ }
-{
-    let mut k = 0;
-    while k < s.d {
-        if !carry_held(s, bonds, carries, k) {
-            return k;
-        }
-        k += 1;
-    }
-    k
-}
-
 fn sums_held(
     s: shape::Shape,
     bonds: [cutform::Bond; shape::MOST_AXES],
@@ -106,18 +69,40 @@ fn sums_held(
     front_finite(sums, at, used)
 }
 
-// The first axis whose sums have a number that isn't finite, or d.
-pub fn first_bad_sum(
+// Whether every number that is kept of zone k is finite.
+fn zone_held(
     s: shape::Shape,
     bonds: [cutform::Bond; shape::MOST_AXES],
+    chain: &[f64],
+    carries: &[f64],
+    sums: &[f64],
+    k: usize,
+) -> bool
+    requires { ⌜ (SizesWithin s) × (shapeOk s (rankOk s bonds) ≡ done tt) × (k < s .d) ⌝ }
+    requires { ⌜ (entriesOf s ≤ length (now chain)) × (allCarries s ≤ length (now carries)) × (allSums s ≤ length (now sums)) ⌝ }
+    ensures { λ r. ⌜ r ≡ heldFinite s bonds (outputs (now (chain .entry)) (now (carries .entry)) (now (sums .entry))) k ⌝ }
+{
+    let core = core_held(s, bonds, chain, k);
+    let carry = carry_held(s, bonds, carries, k);
+    let sum = sums_held(s, bonds, sums, k);
+    core & (carry & sum)
+}
+
+// The first zone of which a number is kept that isn't finite, or d.
+pub fn first_bad_held(
+    s: shape::Shape,
+    bonds: [cutform::Bond; shape::MOST_AXES],
+    chain: &[f64],
+    carries: &[f64],
     sums: &[f64],
 ) -> usize
-    requires { ⌜ (SizesWithin s) × (shapeOk s (rankOk s bonds) ≡ done tt) × (allSums s ≤ length (now sums)) ⌝ }
-    ensures { λ r. ⌜ r ≡ firstNot (sumsHeld s bonds (now (sums .entry))) (s .d) ⌝ }
+    requires { ⌜ (SizesWithin s) × (shapeOk s (rankOk s bonds) ≡ done tt) ⌝ }
+    requires { ⌜ (entriesOf s ≤ length (now chain)) × (allCarries s ≤ length (now carries)) × (allSums s ≤ length (now sums)) ⌝ }
+    ensures { λ r. ⌜ r ≡ firstNot (heldFinite s bonds (outputs (now (chain .entry)) (now (carries .entry)) (now (sums .entry)))) (s .d) ⌝ }
 {
     let mut k = 0;
     while k < s.d {
-        if !sums_held(s, bonds, sums, k) {
+        if !zone_held(s, bonds, chain, carries, sums, k) {
             return k;
         }
         k += 1;
