@@ -3,13 +3,13 @@ use mathlib.Core.Path.{_≡_}
 use Prim.Native.Nat.{ℕ}
 use mathlib.Core.Bool.{Bool, true, false}
 use Rattle.answers.specs.declared.Refusal.{Refusal}
-use Rattle.answers.specs.declared.Refusal.the-variants.{Axes, Size, Bond, Zone, Length, Number, Setting, Reach, Stored, PairRank, File}
+use Rattle.answers.specs.declared.Refusal.the-variants.{Axes, Size, Ranks, Zone, Length, Number, Setting, Reach, Stored, PairRank, File}
 use Rattle.answers.specs.Outcome.{Answer, refused}
 
 abbrev pub numberOf : Refusal → ℕ
 numberOf Axes = 1
 numberOf (Size k) = 2
-numberOf (Bond k) = 3
+numberOf (Ranks k) = 3
 numberOf Zone = 4
 numberOf (Length i) = 5
 numberOf (Number k) = 6
@@ -22,7 +22,7 @@ numberOf (File b) = 11
 abbrev pub placeOf : Refusal → ℕ
 placeOf Axes = 0
 placeOf (Size k) = k
-placeOf (Bond k) = k
+placeOf (Ranks k) = k
 placeOf Zone = 0
 placeOf (Length i) = i
 placeOf (Number k) = k
@@ -36,7 +36,7 @@ placeOf (File b) = b
 abbrev pub beforeWork : Refusal → Bool
 beforeWork Axes = true
 beforeWork (Size k) = true
-beforeWork (Bond k) = true
+beforeWork (Ranks k) = true
 beforeWork Zone = true
 beforeWork (Length i) = true
 beforeWork (Number k) = true

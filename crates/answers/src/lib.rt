@@ -21,8 +21,9 @@ pub enum Refusal {
     Axes,
     // the first core with a size outside its limits
     Size(usize),
-    // the left core of two neighbours whose ranks differ, or the core at an end whose rank isn't 1
-    Bond(usize),
+    // the left core of two neighbours whose ranks differ, the core at an end whose rank isn't 1, or the left
+    // core of a bond whose kept rank is 0 or above its source's
+    Ranks(usize),
     // a zone number of d or more
     Zone,
     // the first slice, by its position in the call's list, whose length is wrong
@@ -59,7 +60,7 @@ pub fn number(r: Refusal) -> u8
     match r {
         Refusal::Axes => 1,
         Refusal::Size(k) => 2,
-        Refusal::Bond(k) => 3,
+        Refusal::Ranks(k) => 3,
         Refusal::Zone => 4,
         Refusal::Length(i) => 5,
         Refusal::Number(k) => 6,
@@ -78,7 +79,7 @@ pub fn place(r: Refusal) -> usize
     match r {
         Refusal::Axes => 0,
         Refusal::Size(k) => k,
-        Refusal::Bond(k) => k,
+        Refusal::Ranks(k) => k,
         Refusal::Zone => 0,
         Refusal::Length(i) => i,
         Refusal::Number(k) => k,
@@ -97,7 +98,7 @@ pub fn before_work(r: Refusal) -> bool
     match r {
         Refusal::Axes => true,
         Refusal::Size(k) => true,
-        Refusal::Bond(k) => true,
+        Refusal::Ranks(k) => true,
         Refusal::Zone => true,
         Refusal::Length(i) => true,
         Refusal::Number(k) => true,

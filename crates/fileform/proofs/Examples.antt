@@ -4,7 +4,7 @@ use Prim.Native.Nat.{ℕ}
 use mathlib.Core.List.{List, [], _∷_, _++_, map}
 use lib.ListN.{replicate, take, set}
 use lib.Ieee.{Float, nan, binary64, ofBits, toBits}
-use Rattle.answers.specs.declared.Refusal.the-variants.{Axes, Size, Bond, Length, Number, File}
+use Rattle.answers.specs.declared.Refusal.the-variants.{Axes, Size, Ranks, Length, Number, File}
 use Rattle.answers.specs.declared.Verdict.{Verdict}
 use Rattle.answers.specs.declared.Verdict.the-variants.{Fits, Refused}
 use Rattle.answers.specs.Outcome.{demand, demandEach}
@@ -88,7 +88,7 @@ readCases =
     ∷ []
 
 readRefusals : map (λ (c : List ℕ × ℕ). reads (c .0) (c .1) .result .verdict) readCases
-    ≡ map Refused (File 7 ∷ File 0 ∷ File 6 ∷ Axes ∷ Axes ∷ File 19 ∷ Size 0 ∷ File 14 ∷ File 16 ∷ Bond 0 ∷ File 51 ∷ File 53 ∷ Length 1 ∷ Number 0 ∷ [])
+    ≡ map Refused (File 7 ∷ File 0 ∷ File 6 ∷ Axes ∷ Axes ∷ File 19 ∷ Size 0 ∷ File 14 ∷ File 16 ∷ Ranks 0 ∷ File 51 ∷ File 53 ∷ Length 1 ∷ Number 0 ∷ [])
 unfolding reads readCases
 readRefusals = refl
 
@@ -106,7 +106,7 @@ faults =
     number ∷ long ∷ bond ∷ place ∷ clear ∷ size ∷ axes ∷ header ∷ set header 0 0 ∷ []
 
 firstRefusals : map (λ (bytes : List ℕ). reads bytes 3 .result .verdict) faults
-    ≡ map Refused (Length 1 ∷ File 53 ∷ Bond 0 ∷ File 16 ∷ File 14 ∷ Size 0 ∷ Axes ∷ File 6 ∷ File 0 ∷ [])
+    ≡ map Refused (Length 1 ∷ File 53 ∷ Ranks 0 ∷ File 16 ∷ File 14 ∷ Size 0 ∷ Axes ∷ File 6 ∷ File 0 ∷ [])
 unfolding reads faults
 firstRefusals = refl
 
@@ -118,6 +118,6 @@ writeRefusals : writes (shaped 0 (1 ∷ []) (0 ∷ []) (2 ∷ [])) [] 51 .result
     ∷ writes one (set numbers 2 nan) 51 .result
     ∷ writes one (set numbers 2 nan) 52 .result
     ∷ []
-    ≡ map Refused (Axes ∷ Size 0 ∷ Bond 0 ∷ Length 0 ∷ Length 1 ∷ Number 0 ∷ [])
+    ≡ map Refused (Axes ∷ Size 0 ∷ Ranks 0 ∷ Length 0 ∷ Length 1 ∷ Number 0 ∷ [])
 unfolding writes
 writeRefusals = refl

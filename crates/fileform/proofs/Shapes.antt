@@ -6,7 +6,7 @@ use native.Mathlib.Omega.{arith}
 use mathlib.Core.Bool.{Bool, true, false, _&&_}
 use lib.Dec.{ltb, eqb}
 use Rattle.answers.specs.declared.Refusal.{Refusal}
-use Rattle.answers.specs.declared.Refusal.the-variants.{Axes, Size, Bond}
+use Rattle.answers.specs.declared.Refusal.the-variants.{Axes, Size, Ranks}
 use Rattle.answers.specs.Table.{numberOf}
 use Rattle.answers.specs.Outcome.{done, refused, Check, _then_, demand, demandEach}
 use Rattle.answers.proofs.Outcomes.{done-refused, refused-inj}
@@ -34,10 +34,10 @@ module _ (s : Shape) where
   sizesOk = demandEach Size (sizeOk s) (s .d) 0
 
   abbrev startOk : Check
-  startOk = demand (eqb (leftOf s 0) 1) (Bond 0)
+  startOk = demand (eqb (leftOf s 0) 1) (Ranks 0)
 
   abbrev bondsOk : Check
-  bondsOk = demandEach Bond (λ (k : ℕ). bondOk s k && true) (s .d) 0
+  bondsOk = demandEach Ranks (λ (k : ℕ). bondOk s k && true) (s .d) 0
 
   pub ok-meets : chainOk s ≡ done tt → Meets s
   unfolding shapeOk
@@ -48,8 +48,8 @@ module _ (s : Shape) where
       record {
         axes = demand-is (within mostAxes (s .d)) Axes (a .0);
         sizes = λ k lt. each-is Size (sizeOk s) (s .d) 0 (b .0) k zero-le (omega arith);
-        start = demand-is (eqb (leftOf s 0) 1) (Bond 0) (c .0);
-        bonds = λ k lt. both (bondOk s k) true (each-is Bond (λ (j : ℕ). bondOk s j && true) (s .d) 0 (c .1) k zero-le (omega arith)) .0;
+        start = demand-is (eqb (leftOf s 0) 1) (Ranks 0) (c .0);
+        bonds = λ k lt. both (bondOk s k) true (each-is Ranks (λ (j : ℕ). bondOk s j && true) (s .d) 0 (c .1) k zero-le (omega arith)) .0;
       }
 
   pub meets-ok : Meets s → chainOk s ≡ done tt
@@ -57,8 +57,8 @@ module _ (s : Shape) where
   meets-ok m =
       then-skip axesOk (sizesOk then startOk then bondsOk) (done tt) (demand-yes (within mostAxes (s .d)) Axes (m .axes))
       (then-skip sizesOk (startOk then bondsOk) (done tt) (each-yes Size (sizeOk s) (s .d) 0 (λ k a b. m .sizes k (omega arith)))
-      (then-skip startOk bondsOk (done tt) (demand-yes (eqb (leftOf s 0) 1) (Bond 0) (m .start))
-      (each-yes Bond (λ (k : ℕ). bondOk s k && true) (s .d) 0 (λ k a b. and-yes (bondOk s k) true (m .bonds k (omega arith)) refl))))
+      (then-skip startOk bondsOk (done tt) (demand-yes (eqb (leftOf s 0) 1) (Ranks 0) (m .start))
+      (each-yes Ranks (λ (k : ℕ). bondOk s k && true) (s .d) 0 (λ k a b. and-yes (bondOk s k) true (m .bonds k (omega arith)) refl))))
 
 -- where 1 and 2 have been ruled out, 3 is the refusal that is left
 each-refused : (r : ℕ → Refusal) (p : ℕ → Bool) (m k : ℕ) (x : Refusal) → demandEach r p m k ≡ refused x → (j : ℕ) × (r j ≡ x)
@@ -74,8 +74,8 @@ pub bonds-only : (s : Shape) (x : Refusal) → within mostAxes (s .d) ≡ true �
 unfolding shapeOk demand
 bonds-only s x axes sizes h = go (eqb (leftOf s 0) 1) (sym first ∙ h)
   where
-    go : (b : Bool) → demand b (Bond 0) then bondsOk s ≡ refused x → numberOf x ≡ 3
-    go true e = ap numberOf (sym (each-refused Bond (λ (k : ℕ). bondOk s k && true) (s .d) 0 x e .1))
+    go : (b : Bool) → demand b (Ranks 0) then bondsOk s ≡ refused x → numberOf x ≡ 3
+    go true e = ap numberOf (sym (each-refused Ranks (λ (k : ℕ). bondOk s k && true) (s .d) 0 x e .1))
     go false e = ap numberOf (sym (refused-inj e))
 
     first : chainOk s ≡ startOk s then bondsOk s

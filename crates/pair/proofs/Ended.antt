@@ -10,7 +10,7 @@ use lib.Ieee.{Float}
 use Rattle.numbers.specs.Arithmetic.{zero64}
 use Rattle.answers.specs.declared.Part.the-variants.{Entry, Spectrum, Factor}
 use Rattle.answers.specs.declared.Refusal.{Refusal}
-use Rattle.answers.specs.declared.Refusal.the-variants.{Size, Bond, Length, Number, Setting, PairRank}
+use Rattle.answers.specs.declared.Refusal.the-variants.{Size, Ranks, Length, Number, Setting, PairRank}
 use Rattle.answers.specs.declared.Verdict.{Verdict}
 use Rattle.answers.specs.declared.Verdict.the-variants.{Fits, Refused}
 use Rattle.answers.specs.Outcome.{Answer, done, refused, answered, verdictOf}
@@ -82,7 +82,7 @@ module _ (lefts rights scratch : List Float) (T : Answer Halves) (v : Verdict) w
 pub checks-early : (l r : Core) (eps : Float) (lefts rights scratch : ℕ) → Early (pairOk l r eps lefts rights scratch)
 unfolding pairOk pairSized pairLent pairFinite
 checks-early l r eps lefts rights scratch =
-    early-then _ _ (early-then _ _ (early-demand _ (Size 0) refl) (early-then _ _ (early-demand _ (Size 1) refl) (early-demand _ (Bond 0) refl)))
+    early-then _ _ (early-then _ _ (early-demand _ (Size 0) refl) (early-then _ _ (early-demand _ (Size 1) refl) (early-demand _ (Ranks 0) refl)))
     (early-then _ _
     (early-then _ _ (early-demand _ (Length 0) refl) (early-then _ _ (early-demand _ (Length 1) refl) (early-then _ _ (early-demand _ (Length 2) refl) (early-then _ _ (early-demand _ (Length 3) refl) (early-demand _ (Length 4) refl)))))
     (early-then _ _ (early-demand _ (Number 0) refl) (early-then _ _ (early-demand _ (Number 1) refl) (early-demand _ (Setting 0) refl))))

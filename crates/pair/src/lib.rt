@@ -9,7 +9,6 @@ ghost use mathlib.Core.Path.{_≡_};
 ghost use Prim.Native.Nat.{_*_, _≤_};
 ghost use lib.ListN.{length, take};
 ghost use Rattle.numbers.specs.Arithmetic.{zero64};
-ghost use Rattle.answers.specs.declared.Verdict.the-variants.{Refused};
 ghost use Rattle.answers.specs.Outcome.{done, answered};
 ghost use Rattle.lists.specs.Slots.{fit};
 ghost use Rattle.shape.specs.Limits.{mostRank, mostLines};

@@ -42,7 +42,7 @@ fn sized(l: pairform::Sizes, r: pairform::Sizes) -> answers::Verdict
         return answers::Verdict::Refused(answers::Refusal::Size(1));
     }
     if l.rr != r.rl {
-        return answers::Verdict::Refused(answers::Refusal::Bond(0));
+        return answers::Verdict::Refused(answers::Refusal::Ranks(0));
     }
     answers::Verdict::Fits
 }

@@ -7,7 +7,7 @@ use lib.ListN.{length}
 use lib.Ieee.{Float}
 use Rattle.numbers.specs.Arithmetic.{zero64}
 use Rattle.numbers.specs.Finite.{finite}
-use Rattle.answers.specs.declared.Refusal.the-variants.{Size, Bond, Length, Number, Setting}
+use Rattle.answers.specs.declared.Refusal.the-variants.{Size, Ranks, Length, Number, Setting}
 use Rattle.answers.specs.declared.Verdict.the-variants.{Fits, Refused}
 use Rattle.answers.specs.Outcome.{Answer, done, refused, Check, _then_, demand}
 use Rattle.lists.specs.Slots.{fit}
@@ -42,7 +42,7 @@ unfoldable pub pairSized : Core → Core → Check
 pairSized l r =
     demand (sizesOk l && leb (l .rl * l .n) mostLines) (Size 0)
     then demand (sizesOk r && leb (r .n * r .rr) mostLines) (Size 1)
-    then demand (eqb (l .rr) (r .rl)) (Bond 0)
+    then demand (eqb (l .rr) (r .rl)) (Ranks 0)
 
 -- 5; the outputs and scratch by their lengths alone
 unfoldable pub pairLent : Core → Core → ℕ → ℕ → ℕ → Check

@@ -7,24 +7,22 @@ use mathlib.Core.Bool.{Bool, true, false, cond, _&&_}
 use mathlib.Core.List.{List, []}
 use lib.Dec.{ltb, eqb}
 use lib.ListN.{length, getD, length-set}
-use Rattle.answers.specs.Outcome.{done, _then_, demand, demandEach}
-use Rattle.answers.specs.declared.Refusal.the-variants.{Axes, Size, Bond}
-use Rattle.answers.proofs.Checks.{then-is, each-is}
-use Rattle.lists.proofs.Tests.{ltb-yes, ltb-no, ltb-is, ltb-not, both, eqb-is, eqb-not}
+use Rattle.answers.specs.Outcome.{done}
+use Rattle.lists.proofs.Tests.{ltb-yes, ltb-no, ltb-is, ltb-not, eqb-is, eqb-not}
 use Rattle.shape.specs.declared.Shape.{Shape}
 use Rattle.shape.specs.Limits.{mostAxes, mostPoints, within}
-use Rattle.shape.specs.Shapes.{leftOf, rightOf, sizeOk, bondOk, shapeOk}
+use Rattle.shape.specs.Shapes.{leftOf, rightOf, shapeOk}
 use Rattle.shape.specs.Sizes.{Inside}
 use Rattle.shape.specs.Cores.{Core, coreWith, withCore}
-use Rattle.shape.proofs.Shaped.{Shaped, shaped, within-is}
+use Rattle.shape.proofs.Shaped.{Shaped, shaped, kept-passes, within-is}
 use Rattle.shape.proofs.Ranks.{left-other, right-other, left-here, right-here}
-use Rattle.cutform.specs.declared.Bond.{Bond as Told}
+use Rattle.cutform.specs.declared.Bond.{Bond}
 use Rattle.cutform.specs.Keeping.{rankAmong}
 use Rattle.runform.specs.Kept.{leftHeld, rightHeld}
 use Rattle.runform.specs.Checks.{rankOk}
 use Rattle.run_checks.specs.Ranks.{Ranked}
 
-module _ (s : Shape) (bonds : List Told) (k : ℕ) where
+module _ (s : Shape) (bonds : List Bond) (k : ℕ) where
   pub rank-bond : k + 1 < s .d → (b : Bool) → b ≡ within (rightOf s k) (rankAmong bonds k) → b ≡ rankOk s bonds k
   unfolding rankOk
   rank-bond l b e = e ∙ sym (ap (λ (x : Bool). cond x (within (rightOf s k) (rankAmong bonds k)) true) (ltb-yes (suc k) (s .d) (omega arith)))
@@ -39,11 +37,11 @@ module _ (s : Shape) (bonds : List Told) (k : ℕ) where
   pub right-end : s .d ≤ k + 1 → rightOf s k ≡ rightHeld s bonds k
   right-end l = sym (ap (λ (x : Bool). cond x (rankAmong bonds k) (rightOf s k)) (ltb-no (suc k) (s .d) (omega arith)))
 
-pub left-first : (bonds : List Told) (k : ℕ) → k < 1 → 1 ≡ leftHeld bonds k
+pub left-first : (bonds : List Bond) (k : ℕ) → k < 1 → 1 ≡ leftHeld bonds k
 left-first bonds zero l = refl
 left-first bonds (suc k) l = let z : ⊥ = omega arith in absurd z
 
-pub left-next : (bonds : List Told) (k : ℕ) → 1 ≤ k → rankAmong bonds (k - 1) ≡ leftHeld bonds k
+pub left-next : (bonds : List Bond) (k : ℕ) → 1 ≤ k → rankAmong bonds (k - 1) ≡ leftHeld bonds k
 left-next bonds zero l = let z : ⊥ = omega arith in absurd z
 left-next bonds (suc k) l = let e : suc k - 1 ≡ k = omega arith in ap (λ (j : ℕ). rankAmong bonds j) e
 
@@ -51,7 +49,7 @@ pub both-found : (a b p q : Bool) → a ≡ p → b ≡ q → (a && b) ≡ (p &&
 both-found a b p q e f = ap (λ (x : Bool). x && b) e ∙ ap (λ (x : Bool). p && x) f
 
 -- ---- the shape, core by core
-pub ranked-none : (s : Shape) (bonds : List Told) → length (s .left) ≡ mostAxes → length (s .right) ≡ mostAxes → Ranked s bonds s 0
+pub ranked-none : (s : Shape) (bonds : List Bond) → length (s .left) ≡ mostAxes → length (s .right) ≡ mostAxes → Ranked s bonds s 0
 ranked-none s bonds a b = record {
   axes = refl;
   points = refl;
@@ -61,7 +59,7 @@ ranked-none s bonds a b = record {
   rights = b;
 }
 
-pub ranked-more : (s : Shape) (bonds : List Told) (t : Shape) (k l r n : ℕ) (t' : Shape)
+pub ranked-more : (s : Shape) (bonds : List Bond) (t : Shape) (k l r n : ℕ) (t' : Shape)
     → s .d ≤ mostAxes → k < s .d → Ranked s bonds t k → l ≡ leftHeld bonds k → r ≡ rightHeld s bonds k
     → t' ≡ withCore t k (coreWith l n r []) → Ranked s bonds t' (k + 1)
 ranked-more s bonds t k l r n t' few lt R e f g = subst (λ (x : Shape). Ranked s bonds x (k + 1)) (sym g) (record {
@@ -83,26 +81,17 @@ ranked-more s bonds t k l r n t' few lt R e f g = subst (λ (x : Shape). Ranked 
     here true q m x y = x (eqb-is _ k q)
     here false q m x y = let o = eqb-not _ k q in y o (omega arith)
 
-pub ranked-all : (s : Shape) (bonds : List Told) (t : Shape) (k : ℕ) → Ranked s bonds t k → s .d ≤ k → Ranked s bonds t (s .d)
+pub ranked-all : (s : Shape) (bonds : List Bond) (t : Shape) (k : ℕ) → Ranked s bonds t k → s .d ≤ k → Ranked s bonds t (s .d)
 ranked-all s bonds t k R l = record { axes = R .axes; points = R .points; left = λ j m. R .left j (omega arith); right = λ j m. R .right j (omega arith); lefts = R .lefts; rights = R .rights }
 
-bonds-pass : (s : Shape) (kept : ℕ → Bool) → shapeOk s kept ≡ done tt → demandEach Bond (λ (k : ℕ). bondOk s k && kept k) (s .d) 0 ≡ done tt
-unfolding shapeOk
-bonds-pass s kept ok =
-    let ends = demand (eqb (leftOf s 0) 1) (Bond 0) then demandEach Bond (λ (k : ℕ). bondOk s k && kept k) (s .d) 0 in
-    let a = then-is (demand (within mostAxes (s .d)) Axes) (demandEach Size (sizeOk s) (s .d) 0 then ends) tt ok in
-    let b = then-is (demandEach Size (sizeOk s) (s .d) 0) ends tt (a .1) in
-    then-is (demand (eqb (leftOf s 0) 1) (Bond 0)) (demandEach Bond (λ (k : ℕ). bondOk s k && kept k) (s .d) 0) tt (b .1) .1
-
 -- ---- a run whose shape and ranks pass has a chain that stands in the room of its source
-module _ (s : Shape) (bonds : List Told) (ok : shapeOk s (rankOk s bonds) ≡ done tt) where
+module _ (s : Shape) (bonds : List Bond) (ok : shapeOk s (rankOk s bonds) ≡ done tt) where
   abbrev shp : Shaped s
   shp = shaped s (rankOk s bonds) ok
 
   pub rank-within : (k : ℕ) → k + 1 < s .d → (1 ≤ rankAmong bonds k) × (rankAmong bonds k ≤ rightOf s k)
   rank-within k l =
-      let h = both (bondOk s k) (rankOk s bonds k) (each-is Bond (λ (i : ℕ). bondOk s i && rankOk s bonds i) (s .d) 0 (bonds-pass s (rankOk s bonds) ok) k (omega arith) (omega arith)) .1 in
-      within-is (rightOf s k) (rankAmong bonds k) (rank-bond s bonds k l (within (rightOf s k) (rankAmong bonds k)) refl ∙ h)
+      within-is (rightOf s k) (rankAmong bonds k) (rank-bond s bonds k l (within (rightOf s k) (rankAmong bonds k)) refl ∙ kept-passes s (rankOk s bonds) ok k (omega arith))
 
   pub right-within : (k : ℕ) → k < s .d → (1 ≤ rightHeld s bonds k) × (rightHeld s bonds k ≤ rightOf s k)
   right-within k l = go (ltb (k + 1) (s .d)) refl

@@ -51,11 +51,11 @@ pub fn shape_ok(s: shape::Shape, bonds: [cutform::Bond; shape::MOST_AXES]) -> an
         return answers::Verdict::Refused(answers::Refusal::Size(size));
     }
     if s.left[0] != 1 {
-        return answers::Verdict::Refused(answers::Refusal::Bond(0));
+        return answers::Verdict::Refused(answers::Refusal::Ranks(0));
     }
     let bond = first_bad_bond(s, bonds);
     if bond < d {
-        return answers::Verdict::Refused(answers::Refusal::Bond(bond));
+        return answers::Verdict::Refused(answers::Refusal::Ranks(bond));
     }
     answers::Verdict::Fits
 }

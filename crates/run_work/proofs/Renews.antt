@@ -27,7 +27,7 @@ use Rattle.stepform.specs.Zones.{rules}
 use Rattle.runform.specs.declared.Run.{Run}
 use Rattle.runform.specs.declared.Ran.{Ran}
 use Rattle.runform.specs.Slices.{Outputs, Slices, outputs}
-use Rattle.runform.specs.Kept.{Kept, keptOf, allCarries, allSums, roomFor}
+use Rattle.runform.specs.Kept.{keptOf, allCarries, allSums}
 use Rattle.runform.specs.Work.{workFrom}
 use Rattle.run_slices.specs.Slices.{Beside, overFrom}
 use Rattle.run_work.specs.InPlace.{inPlace, heldIn, Steps, Sums, Memory}

@@ -36,7 +36,8 @@ pub record RenewAsks (r : Run) (z : ℕ) (weights : List Float) (m : Outputs (Li
   pub room : entriesOf (r .shape) ≤ length scratch
 
 -- the run, whatever source it has in the slots from z on as scratch has it; refused, all of it is as it was
-pub record Renewed (r : Run) (z : ℕ) (weights : List Float) (m : Outputs (List Float)) (scratch : List Float) (a : Ran) (m' : Outputs (List Float)) : Type 0 where
+pub record Renewed (r : Run) (z : ℕ) (weights : List Float) (m : Outputs (List Float)) (scratch : List Float) (a : Ran)
+    (m' : Outputs (List Float)) : Type 0 where
   pub work : (source : List Float) → SourcesFrom (r .shape) z source scratch
       → workFrom rules (keptOf r (record { source = source; weights = weights; outputs = m })) z
       ≡ answered (a .verdict) (keptOf (a .run) (record { source = source; weights = weights; outputs = m' }))

@@ -24,7 +24,7 @@ use Rattle.runform.specs.Work.{workFrom}
 use Rattle.runform.specs.Checks.{scratchLent, freshOk, freshRun}
 use Rattle.runform.specs.Requests.{Request, newCore, newAxis, newWeights, present, InOrder, replace}
 use Rattle.runform.specs.Call.{RunEnd, runEnd, Room, roomLent, roomOk, freshBy, scratchPlace, replaceBy}
-use Rattle.runform.specs.Sequence.{keptAfter, leaving, AsFresh, takenUp}
+use Rattle.runform.specs.Sequence.{keptAfter, AsFresh, takenUp}
 use Rattle.runform.proofs.Sound.{Sound}
 use Rattle.runform.proofs.InRow.{lent-passes}
 use Rattle.runform.proofs.Trace.{passed, traced}

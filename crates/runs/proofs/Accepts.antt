@@ -1,25 +1,24 @@
 -- What accepted calls let their work ask. Assumes nothing.
-use mathlib.Core.Path.{_≡_, refl, sym, ap, _∙_, subst}
-use Prim.Native.Nat.{ℕ, suc, _-_, _≤_, _<_}
+use mathlib.Core.Path.{_≡_, refl, sym, subst}
+use Prim.Native.Nat.{ℕ, _-_, _≤_, _<_}
 use native.Mathlib.Omega.{arith}
-use mathlib.Core.Bool.{Bool, true, cond, _&&_}
+use mathlib.Core.Bool.{true}
 use mathlib.Core.List.{List}
-use lib.Dec.{ltb, eqb}
 use lib.ListN.{length, set}
 use lib.Ieee.{Float}
-use Rattle.answers.specs.declared.Refusal.the-variants.{Axes, Size, Bond, Length, Reach}
+use Rattle.answers.specs.declared.Refusal.the-variants.{Length, Reach}
 use Rattle.answers.specs.declared.Verdict.{Verdict}
 use Rattle.answers.specs.declared.Verdict.the-variants.{Fits}
-use Rattle.answers.specs.Outcome.{done, _then_, demand, demandEach, verdictOf}
+use Rattle.answers.specs.Outcome.{done, verdictOf}
 use Rattle.answers.proofs.Checks.{demand-is, then-is, each-is, verdict-passed}
-use Rattle.lists.proofs.Tests.{ltb-yes, eqb-is, both}
+use Rattle.lists.proofs.Tests.{eqb-is}
 use Rattle.shape.specs.declared.Shape.{Shape}
-use Rattle.shape.specs.Limits.{mostAxes, within, scratchFor}
-use Rattle.shape.specs.Shapes.{leftOf, rightOf, sizeOk, bondOk, shapeOk, chainOk, coreSize, entriesOf}
+use Rattle.shape.specs.Limits.{mostAxes, scratchFor}
+use Rattle.shape.specs.Shapes.{shapeOk, coreSize, entriesOf}
 use Rattle.shape.specs.Sizes.{SizesWithin}
-use Rattle.shape.proofs.Shaped.{shaped, shape-same, within-is}
-use Rattle.cutform.specs.declared.Bond.{Bond as Told}
-use Rattle.cutform.specs.Keeping.{rankAmong}
+use Rattle.shape.proofs.Shaped.{shaped, chain-passes}
+use Rattle.run_checks.proofs.Bonded.{rank-within}
+use Rattle.cutform.specs.declared.Bond.{Bond}
 use Rattle.stepform.specs.declared.Axis.{Axis}
 use Rattle.stepform.specs.declared.Settings.{Settings}
 use Rattle.stepform.specs.Zones.{rules}
@@ -38,27 +37,8 @@ use Rattle.run_work.specs.InPlace.{RanksWithin}
 use Rattle.run_work.specs.Renewed.{RenewAsks}
 use Rattle.runs.specs.Ended.{axisRun}
 
--- ---- of a shape whose bonds pass, whatever else is asked of them
-module _ (s : Shape) (kept : ℕ → Bool) (ok : shapeOk s kept ≡ done tt) where
-  kept-passes : (k : ℕ) → k < s .d → kept k ≡ true
-  unfolding shapeOk
-  kept-passes k lt =
-      let bonds = demandEach Bond (λ (i : ℕ). bondOk s i && kept i) (s .d) 0 in
-      let ends = demand (eqb (leftOf s 0) 1) (Bond 0) then bonds in
-      let a = then-is (demand (within mostAxes (s .d)) Axes) (demandEach Size (sizeOk s) (s .d) 0 then ends) tt ok in
-      let b = then-is (demandEach Size (sizeOk s) (s .d) 0) ends tt (a .1) in
-      let c = then-is (demand (eqb (leftOf s 0) 1) (Bond 0)) bonds tt (b .1) in
-      both (bondOk s k) (kept k) (each-is Bond (λ (i : ℕ). bondOk s i && kept i) (s .d) 0 (c .1) k (omega arith) (omega arith)) .1
-
-  chain-passes : chainOk s ≡ done tt
-  chain-passes = sym (shape-same s kept (λ (k : ℕ). true) kept-passes) ∙ ok
-
-ranks-pass : (s : Shape) (bonds : List Told) → shapeOk s (rankOk s bonds) ≡ done tt → (m : ℕ) → RanksWithin s bonds m
-unfolding rankOk
-ranks-pass s bonds ok m k a b =
-    let r = rankAmong bonds k in
-    let here : cond (ltb (suc k) (s .d)) (within (rightOf s k) r) true ≡ within (rightOf s k) r = ap (λ (x : Bool). cond x (within (rightOf s k) r) true) (ltb-yes (suc k) (s .d) b) in
-    within-is (rightOf s k) r (sym here ∙ kept-passes s (rankOk s bonds) ok k (omega arith))
+ranks-pass : (s : Shape) (bonds : List Bond) → shapeOk s (rankOk s bonds) ≡ done tt → (m : ℕ) → RanksWithin s bonds m
+ranks-pass s bonds ok m k a b = rank-within s bonds ok k (omega arith)
 
 scratch-is : (s : Shape) (j n : ℕ) → scratchLent s j n ≡ done tt → entriesOf s ≤ n
 unfolding scratchLent

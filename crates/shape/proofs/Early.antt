@@ -2,7 +2,7 @@
 use mathlib.Core.Path.{refl}
 use Prim.Native.Nat.{ℕ}
 use mathlib.Core.Bool.{Bool}
-use Rattle.answers.specs.declared.Refusal.the-variants.{Axes, Size, Bond}
+use Rattle.answers.specs.declared.Refusal.the-variants.{Axes, Size, Ranks}
 use Rattle.answers.proofs.Late.{Early, early-demand, early-then, early-each}
 use Rattle.shape.specs.declared.Shape.{Shape}
 use Rattle.shape.specs.Shapes.{shapeOk}
@@ -12,5 +12,5 @@ unfolding shapeOk
 early-shape s kept =
     early-then _ _ (early-demand _ Axes refl)
     (early-then _ _ (early-each Size _ (s .d) 0 (λ j. refl))
-    (early-then _ _ (early-demand _ (Bond 0) refl)
-    (early-each Bond _ (s .d) 0 (λ j. refl))))
+    (early-then _ _ (early-demand _ (Ranks 0) refl)
+    (early-each Ranks _ (s .d) 0 (λ j. refl))))

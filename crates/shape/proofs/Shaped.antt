@@ -4,7 +4,7 @@ use Prim.Native.Nat.{ℕ, suc, _≤_, _<_}
 use native.Mathlib.Omega.{arith}
 use mathlib.Core.Bool.{Bool, true, cond, _&&_}
 use lib.Dec.{leb, eqb}
-use Rattle.answers.specs.declared.Refusal.the-variants.{Axes, Size, Bond}
+use Rattle.answers.specs.declared.Refusal.the-variants.{Axes, Size, Ranks}
 use Rattle.answers.specs.declared.Verdict.{Verdict}
 use Rattle.answers.specs.declared.Verdict.the-variants.{Fits}
 use Rattle.answers.specs.Outcome.{done, Check, _then_, demand, demandEach, verdictOf}
@@ -13,7 +13,7 @@ use Rattle.answers.proofs.Checks.{demand-is, then-is, each-same, each-is}
 use Rattle.lists.proofs.Tests.{ltb-yes, ltb-no, leb-is, eqb-is, both}
 use Rattle.shape.specs.declared.Shape.{Shape}
 use Rattle.shape.specs.Limits.{mostAxes, mostPoints, mostRank, within}
-use Rattle.shape.specs.Shapes.{leftOf, pointsOf, rightOf, sizeOk, bondOk, shapeOk}
+use Rattle.shape.specs.Shapes.{leftOf, pointsOf, rightOf, sizeOk, bondOk, shapeOk, chainOk}
 use Rattle.shape.specs.Sizes.{PointsWithin, SizesWithin}
 
 pub record Shaped (s : Shape) : Type 0 where
@@ -59,6 +59,18 @@ module _ (s : Shape) where
       let z : (k : ℕ) (lt : k < s .d) → _ = λ k lt. size-is k (each-is Size (sizeOk s) (s .d) 0 b k (omega arith) (omega arith)) in
       record { axes = record { least = w .0; most = w .1; points = λ k lt. z k lt .1 }; left = λ k lt. z k lt .0; right = λ k lt. z k lt .2 }
 
+  -- refusal 3 has passed: each bond joins, and what else is asked of it holds
+  bond-passes : (kept : ℕ → Bool) → shapeOk s kept ≡ done tt → (k : ℕ) → k < s .d → (bondOk s k ≡ true) × (kept k ≡ true)
+  unfolding shapeOk
+  bond-passes kept e k lt =
+      let a = then-is _ _ tt e in
+      let b = then-is _ _ tt (a .1) in
+      let c = then-is _ _ tt (b .1) in
+      both (bondOk s k) (kept k) (each-is Ranks (λ (i : ℕ). bondOk s i && kept i) (s .d) 0 (c .1) k (omega arith) (omega arith))
+
+  pub kept-passes : (kept : ℕ → Bool) → shapeOk s kept ≡ done tt → (k : ℕ) → k < s .d → kept k ≡ true
+  kept-passes kept e k lt = bond-passes kept e k lt .1
+
   -- whatever else is asked of its bonds
   pub shaped : (kept : ℕ → Bool) → shapeOk s kept ≡ done tt → Shaped s
   unfolding shapeOk
@@ -67,15 +79,15 @@ module _ (s : Shape) where
       let b = then-is _ _ tt (a .1) in
       let c = then-is _ _ tt (b .1) in
       let z = sized (a .0) (b .0) in
-      let j : (k : ℕ) → k < s .d → bondOk s k ≡ true = λ k lt. both (bondOk s k) (kept k) (each-is Bond (λ (i : ℕ). bondOk s i && kept i) (s .d) 0 (c .1) k (omega arith) (omega arith)) .0 in
+      let j = bond-passes kept e in
       record {
         sizes = z;
         least = z .axes .least;
         most = z .axes .most;
-        first = eqb-is (leftOf s 0) 1 (demand-is (eqb (leftOf s 0) 1) (Bond 0) (c .0));
+        first = eqb-is (leftOf s 0) 1 (demand-is (eqb (leftOf s 0) 1) (Ranks 0) (c .0));
         right = λ k lt. z .right k lt .0;
-        joins = λ k lt. bond-joins k lt (j k (omega arith));
-        last = λ k at. bond-ends k at (j k (omega arith));
+        joins = λ k lt. bond-joins k lt (j k (omega arith) .0);
+        last = λ k at. bond-ends k at (j k (omega arith) .0);
       }
 
   -- from a verdict in code that it fits
@@ -93,5 +105,8 @@ module _ (s : Shape) where
   pub shape-same : (p q : ℕ → Bool) → ((k : ℕ) → k < s .d → p k ≡ q k) → shapeOk s p ≡ shapeOk s q
   unfolding shapeOk
   shape-same p q h =
-      ap (λ (x : Check). demand (within mostAxes (s .d)) Axes then demandEach Size (sizeOk s) (s .d) 0 then demand (eqb (leftOf s 0) 1) (Bond 0) then x)
-      (each-same Bond (λ (k : ℕ). bondOk s k && p k) (λ (k : ℕ). bondOk s k && q k) (s .d) 0 (λ k a b. ap (λ (x : Bool). bondOk s k && x) (h k (omega arith))))
+      ap (λ (x : Check). demand (within mostAxes (s .d)) Axes then demandEach Size (sizeOk s) (s .d) 0 then demand (eqb (leftOf s 0) 1) (Ranks 0) then x)
+      (each-same Ranks (λ (k : ℕ). bondOk s k && p k) (λ (k : ℕ). bondOk s k && q k) (s .d) 0 (λ k a b. ap (λ (x : Bool). bondOk s k && x) (h k (omega arith))))
+
+  pub chain-passes : (kept : ℕ → Bool) → shapeOk s kept ≡ done tt → chainOk s ≡ done tt
+  chain-passes kept e = sym (shape-same kept (λ (k : ℕ). true) (kept-passes kept e)) ∙ e

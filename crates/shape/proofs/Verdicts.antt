@@ -4,7 +4,7 @@ use Prim.Native.Nat.{ℕ, _≤_, _<_}
 use mathlib.Core.Bool.{Bool, true, false, not, _&&_}
 use lib.Dec.{leb, eqb}
 use Rattle.answers.specs.declared.Refusal.{Refusal}
-use Rattle.answers.specs.declared.Refusal.the-variants.{Axes, Size, Bond}
+use Rattle.answers.specs.declared.Refusal.the-variants.{Axes, Size, Ranks}
 use Rattle.answers.specs.declared.Verdict.the-variants.{Fits, Refused}
 use Rattle.answers.specs.Outcome.{refused, Answer, Check, _then_, demand, demandEach, verdictOf}
 use Rattle.answers.proofs.Checks.{demand-yes, demand-no, then-skip}
@@ -27,10 +27,10 @@ module _ (s : Shape) (kept : ℕ → Bool) where
   right k = bondOk s k && kept k
 
   abbrev bonds : Check
-  bonds = demandEach Bond right (s .d) 0
+  bonds = demandEach Ranks right (s .d) 0
 
   abbrev ends : Check
-  ends = demand (eqb (leftOf s 0) 1) (Bond 0) then bonds
+  ends = demand (eqb (leftOf s 0) 1) (Ranks 0) then bonds
 
   abbrev sizes : Check
   sizes = demandEach Size (sizeOk s) (s .d) 0 then ends
@@ -54,18 +54,18 @@ module _ (s : Shape) (kept : ℕ → Bool) where
           past-sizes : shapeOk s kept ≡ ends
           past-sizes = past-axes ∙ then-skip (demandEach Size (sizeOk s) (s .d) 0) ends ends (each-passes (sizeOk s) (s .d) i f Size l) refl
 
-          pub end-refused : (leftOf s 0 ≡ 1 → ⊥) → Refused (Bond 0) ≡ verdictOf (shapeOk s kept)
-          end-refused n = ap verdictOf (sym (past-sizes ∙ then-stop (demand (eqb (leftOf s 0) 1) (Bond 0)) bonds (Bond 0) (demand-no _ (Bond 0) (eqb-no (leftOf s 0) 1 n))))
+          pub end-refused : (leftOf s 0 ≡ 1 → ⊥) → Refused (Ranks 0) ≡ verdictOf (shapeOk s kept)
+          end-refused n = ap verdictOf (sym (past-sizes ∙ then-stop (demand (eqb (leftOf s 0) 1) (Ranks 0)) bonds (Ranks 0) (demand-no _ (Ranks 0) (eqb-no (leftOf s 0) 1 n))))
 
           module _ (o : leftOf s 0 ≡ 1) (j : ℕ) (g : j ≡ firstNot right (s .d)) where
             past-end : shapeOk s kept ≡ bonds
-            past-end = past-sizes ∙ then-skip (demand (eqb (leftOf s 0) 1) (Bond 0)) bonds bonds (demand-yes _ (Bond 0) (eqb-yes (leftOf s 0) 1 o)) refl
+            past-end = past-sizes ∙ then-skip (demand (eqb (leftOf s 0) 1) (Ranks 0)) bonds bonds (demand-yes _ (Ranks 0) (eqb-yes (leftOf s 0) 1 o)) refl
 
-            pub bond-refused : j < s .d → Refused (Bond j) ≡ verdictOf (shapeOk s kept)
-            bond-refused m = ap verdictOf (sym (past-end ∙ each-stops right (s .d) j g Bond m))
+            pub bond-refused : j < s .d → Refused (Ranks j) ≡ verdictOf (shapeOk s kept)
+            bond-refused m = ap verdictOf (sym (past-end ∙ each-stops right (s .d) j g Ranks m))
 
             pub shape-fits : s .d ≤ j → Fits ≡ verdictOf (shapeOk s kept)
-            shape-fits m = ap verdictOf (sym (past-end ∙ each-passes right (s .d) j g Bond m))
+            shape-fits m = ap verdictOf (sym (past-end ∙ each-passes right (s .d) j g Ranks m))
 
 pub ruleset verdicts = (within-most, axes-refused, size-refused, end-refused, bond-refused, shape-fits)
 

@@ -3,7 +3,7 @@ use Prim.Native.Nat.{ℕ, suc, _*_}
 use mathlib.Core.Bool.{Bool, true, cond, _&&_}
 use lib.Dec.{ltb, eqb}
 use lib.ListN.{getD}
-use Rattle.answers.specs.declared.Refusal.the-variants.{Axes, Size, Bond}
+use Rattle.answers.specs.declared.Refusal.the-variants.{Axes, Size, Ranks}
 use Rattle.answers.specs.Outcome.{Check, _then_, demand, demandEach}
 use Rattle.lists.specs.Slots.{offset}
 use Rattle.shape.specs.declared.Shape.{Shape}
@@ -35,8 +35,8 @@ unfoldable pub shapeOk : Shape → (ℕ → Bool) → Check
 shapeOk s kept =
     demand (within mostAxes (s .d)) Axes
     then demandEach Size (sizeOk s) (s .d) 0
-    then demand (eqb (leftOf s 0) 1) (Bond 0)
-    then demandEach Bond (λ (k : ℕ). bondOk s k && kept k) (s .d) 0
+    then demand (eqb (leftOf s 0) 1) (Ranks 0)
+    then demandEach Ranks (λ (k : ℕ). bondOk s k && kept k) (s .d) 0
 
 abbrev pub chainOk : Shape → Check
 chainOk s = shapeOk s (λ (k : ℕ). true)

@@ -178,11 +178,11 @@ impl Shape {
             return answers::Verdict::Refused(answers::Refusal::Size(size));
         }
         if self.left[0] != 1 {
-            return answers::Verdict::Refused(answers::Refusal::Bond(0));
+            return answers::Verdict::Refused(answers::Refusal::Ranks(0));
         }
         let bond = self.first_bad_bond();
         if bond < d {
-            return answers::Verdict::Refused(answers::Refusal::Bond(bond));
+            return answers::Verdict::Refused(answers::Refusal::Ranks(bond));
         }
         answers::Verdict::Fits
     }

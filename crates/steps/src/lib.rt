@@ -4,7 +4,7 @@ pub mod shifts;
 
 ghost use mathlib.Core.Path.{_≡_};
 ghost use mathlib.Core.Bool.{true};
-ghost use Prim.Native.Nat.{ℕ, _-_, _≤_, _<_};
+ghost use Prim.Native.Nat.{ℕ, _≤_, _<_};
 ghost use lib.ListN.{length};
 ghost use Rattle.answers.specs.declared.Verdict.the-variants.{Fits, Refused};
 ghost use Rattle.answers.specs.Outcome.{answered, done};
@@ -16,7 +16,6 @@ ghost use Rattle.cuts.specs.Slots.{AtZone, heldBy};
 ghost use Rattle.stepform.specs.Steps.{step, stepsAndOne};
 ghost use Rattle.stepform.specs.Call.{axisReaches};
 ghost use Rattle.checks.specs.Over.{Stands, Rooms};
-ghost use Rattle.rounding.specs.Slots.{unrounded};
 ghost use Rattle.steps.specs.Held.{stepHeld, Came, Placed, Ready};
 
 fn refused_walk(q: answers::Refusal, t: shape::Shape) -> cuts::Walked

@@ -1,6 +1,5 @@
 -- `columns::column_finite`: a column of an n by m list ends within it (exact-end), and its numbers are looked at by `all_finite`.
 use Rattle.lists.proofs.Turns.{turns}
-use Prim.Native.Nat.{_-_}
 use native.Mathlib.Omega.{arith}
 use Rattle.lists.proofs.Cells.{exacts, exact-end}
 use Rattle.columns.proofs.column_finite.Statement.{statement}

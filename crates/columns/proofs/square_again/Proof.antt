@@ -1,6 +1,5 @@
 -- `columns::square_again`: only columns p and q changed, so two new sums make all of them those of the columns (squared-again).
 use borrow.Author.Needs.{needs}
-use Prim.Native.Nat.{_-_}
 use Rattle.columns.proofs.TwoColumns.{squared-again}
 use Rattle.columns.proofs.square_again.Statement.{statement}
 use Rattle.columns.proofs.square_again.Tie as tie

@@ -1,6 +1,5 @@
 -- `columns::stored_but`: elsewhere all is finite, so two finite columns make the whole so (two-finite); otherwise `stored` looks at all.
 use borrow.Author.Needs.{needs}
-use Prim.Native.Nat.{_-_}
 use Rattle.columns.proofs.TwoColumns.{two-finite}
 use Rattle.columns.proofs.stored_but.Statement.{statement}
 use Rattle.columns.proofs.stored_but.Tie as tie

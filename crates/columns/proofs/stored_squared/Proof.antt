@@ -1,6 +1,5 @@
 -- `columns::stored_squared`: a finite sum of squares has finite terms, so two of them make the whole finite (two-squared); otherwise `stored` looks at all.
 use borrow.Author.Needs.{needs}
-use Prim.Native.Nat.{_-_}
 use Rattle.columns.proofs.TwoColumns.{two-squared}
 use Rattle.columns.proofs.stored_squared.Statement.{statement}
 use Rattle.columns.proofs.stored_squared.Tie as tie

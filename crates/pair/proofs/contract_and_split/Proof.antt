@@ -1,6 +1,5 @@
 -- `pair::contract_and_split`: a refusal leaves the lists as they were (call-refused); otherwise the answer of `pair_within`, and the scratch cleared (call-made).
 use borrow.Author.Needs.{needs}
-use Prim.Native.Nat.{_-_}
 use Rattle.pair.proofs.Ended.{call-refused, call-ready, call-made}
 use Rattle.pair.proofs.contract_and_split.Statement.{statement}
 use Rattle.pair.proofs.contract_and_split.Tie as tie

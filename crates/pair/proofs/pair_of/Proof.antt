@@ -1,6 +1,5 @@
 -- `pair::pair_of`: columns that are not finite stop it (pair-stop); otherwise they are split (columns-finite, pair-end).
 use borrow.Author.Needs.{needs}
-use Prim.Native.Nat.{_-_}
 use mathlib.Core.Path.{_∙_}
 use Rattle.pair.proofs.Columned.{columns-finite}
 use Rattle.pair.proofs.Pairs.{told-whole, pair-stop, pair-end}

@@ -1,6 +1,6 @@
 -- `pair::pair_within`: what the checks passed gives every length (ready), and the rank that is answered is small (rank-small); the lists then hold the halves (ended-made).
 use borrow.Author.Needs.{needs}
-use Prim.Native.Nat.{_-_, _*_}
+use Prim.Native.Nat.{_*_}
 use native.Mathlib.Omega.{arith}
 use native.Mathlib.Nat.{mul-le-mul, mul-le-mul-right, mul-le-mul-left}
 use Rattle.lists.proofs.Parts.{span-length}

@@ -1,6 +1,5 @@
 -- `pair::put`: a copy to the front and zeros behind it are the list's new content (put-is).
 use borrow.Author.Needs.{needs}
-use Prim.Native.Nat.{_-_}
 use Rattle.pair.proofs.Fronts.{put-is}
 use Rattle.pair.proofs.put.Statement.{statement}
 use Rattle.pair.proofs.put.Tie as tie

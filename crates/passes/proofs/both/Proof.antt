@@ -1,6 +1,5 @@
 -- `passes::both`: columns and basis go by the same two plans (both-spun).
 use borrow.Author.Needs.{needs}
-use Prim.Native.Nat.{_-_}
 use mathlib.Core.Path.{refl}
 use Rattle.passes.proofs.Spun.{by-length}
 use Rattle.passes.proofs.InStep.{both-spun}

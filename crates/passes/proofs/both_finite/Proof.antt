@@ -1,6 +1,6 @@
 -- `passes::both_finite`: two lists looked at, one after the other; true only where both are finite.
 use mathlib.Core.Path.{sym, _∙_}
-use mathlib.Core.Bool.{true, false, true≢false}
+use mathlib.Core.Bool.{true≢false}
 use borrow.Author.Needs.{needs}
 use Rattle.passes.proofs.both_finite.Statement.{statement}
 use Rattle.passes.proofs.both_finite.Tie as tie

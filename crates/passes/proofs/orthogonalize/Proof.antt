@@ -1,6 +1,5 @@
 -- `passes::orthogonalize`: the quick passes' answer where all stayed finite, or else the plain passes from the kept columns again (again).
 use borrow.Author.Needs.{needs}
-use Prim.Native.Nat.{_-_}
 use mathlib.Core.Path.{sym, ap, _∙_}
 use lib.ListN.{length}
 use Rattle.lists.specs.Floats.{allFinite}

@@ -1,6 +1,5 @@
 -- `passes::pass`: the rows in step, then the last ones.
 use borrow.Author.Needs.{needs}
-use Prim.Native.Nat.{_-_}
 use Rattle.passes.specs.Free.{passFree}
 use Rattle.passes.proofs.pass.Statement.{statement}
 use Rattle.passes.proofs.pass.Tie as tie

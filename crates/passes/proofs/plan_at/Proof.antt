@@ -1,6 +1,5 @@
 -- `passes::plan_at`: the sums of squares that are kept are those of the columns (planned-at).
 use borrow.Author.Needs.{needs}
-use Prim.Native.Nat.{_-_}
 use Rattle.passes.proofs.Spun.{planned-at}
 use Rattle.passes.proofs.plan_at.Statement.{statement}
 use Rattle.passes.proofs.plan_at.Tie as tie

@@ -2,7 +2,7 @@
 use Rattle.lists.proofs.Turns.{turns}
 use Prim.Native.Nat.{_-_, _≤_}
 use mathlib.Core.Path.{_≡_, refl, sym}
-use mathlib.Core.Bool.{true, false, true≢false}
+use mathlib.Core.Bool.{true≢false}
 use lib.ListN.{length}
 use Rattle.answers.specs.declared.Stage.the-variants.{Whole}
 use Rattle.lists.proofs.Tests.{not-no}

@@ -1,6 +1,5 @@
 -- `passes::spin`: by its plan the columns stay or are turned (by-none, by-turn), and two sums of squares follow (squared-spun).
 use borrow.Author.Needs.{needs}
-use Prim.Native.Nat.{_-_}
 use Rattle.passes.proofs.Spun.{by-none, by-turn, squared-spun}
 use Rattle.passes.proofs.spin.Statement.{statement}
 use Rattle.passes.proofs.spin.Tie as tie

@@ -1,6 +1,5 @@
 -- `passes::spin_two`: the plan of the second pair outlasts the first turn, and the next plans are made after both (next-paced).
 use borrow.Author.Needs.{needs}
-use Prim.Native.Nat.{_-_}
 use mathlib.Core.Path.{_∙_, ap}
 use Rattle.passes.specs.Free.{byPlan}
 use Rattle.passes.proofs.InStep.{next-paced}

@@ -1,6 +1,5 @@
 -- `passes::step`: columns and basis go by one plan (spun), and the next is made of what the columns then are (planned-at).
 use borrow.Author.Needs.{needs}
-use Prim.Native.Nat.{_-_}
 use native.Mathlib.Omega.{arith}
 use Rattle.passes.proofs.Spun.{planned-at, moved, by-length, spun}
 use Rattle.passes.proofs.step.Statement.{statement}

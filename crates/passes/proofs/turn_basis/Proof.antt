@@ -1,6 +1,5 @@
 -- `passes::turn_basis`: by its plan the basis stays or is turned (by-none, by-turn).
 use borrow.Author.Needs.{needs}
-use Prim.Native.Nat.{_-_}
 use Rattle.passes.proofs.Spun.{by-none, by-turn}
 use Rattle.passes.proofs.turn_basis.Statement.{statement}
 use Rattle.passes.proofs.turn_basis.Tie as tie

@@ -1,6 +1,5 @@
 -- `passes::turn_two`: two turns of the basis, one after the other.
 use borrow.Author.Needs.{needs}
-use Prim.Native.Nat.{_-_}
 use mathlib.Core.Path.{_∙_, ap}
 use Rattle.passes.specs.Free.{byPlan}
 use Rattle.passes.proofs.turn_two.Statement.{statement}

@@ -1,6 +1,5 @@
 -- `passes::two_rows`: two rows in step, then the last pair of the second (step-last).
 use borrow.Author.Needs.{needs}
-use Prim.Native.Nat.{_-_}
 use native.Mathlib.Omega.{arith}
 use Rattle.passes.proofs.InStep.{step-last}
 use Rattle.passes.proofs.two_rows.Statement.{statement}

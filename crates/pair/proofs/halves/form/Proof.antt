@@ -1,6 +1,5 @@
 -- `pair::halves::form`: the left half first, then the right: the first that is not finite is the answer (left-stop, right-stop), else both stand (right-end).
 use borrow.Author.Needs.{needs}
-use Prim.Native.Nat.{_-_}
 use Rattle.pair.proofs.FormedHalves.{left-stop, right-end}
 use Rattle.pair.proofs.halves.form.Statement.{statement}
 use Rattle.pair.proofs.halves.form.Tie as tie

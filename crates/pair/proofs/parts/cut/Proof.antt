@@ -1,6 +1,5 @@
 -- `pair::parts::cut`: a rank that is too large is refused (cut-wide); otherwise the halves are formed of the kept columns in their order (kept-columns, cut-end).
 use borrow.Author.Needs.{needs}
-use Prim.Native.Nat.{_-_}
 use mathlib.Core.Path.{_∙_, sym, ap}
 use native.Mathlib.Nat.{mul-le-mul, le-trans}
 use Rattle.cutform.specs.Values.{keptRank}

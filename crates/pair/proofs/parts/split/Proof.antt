@@ -1,6 +1,5 @@
 -- `pair::parts::split`: columns that do not stay finite stop it (split-stop); otherwise the fronts of the lists hold basis and values, and are cut (cut-same, split-end).
 use borrow.Author.Needs.{needs}
-use Prim.Native.Nat.{_-_}
 use mathlib.Core.Path.{_∙_, ap}
 use native.Mathlib.Omega.{arith}
 use native.Mathlib.Nat.{mul-le-mul}

@@ -1,6 +1,5 @@
 -- `pair::parts::valued`: from the unit matrix the columns are made orthogonal; where that stops it stops (valued-stop), and the values are the roots of the sums of squares (valued-end).
 use borrow.Author.Needs.{needs}
-use Prim.Native.Nat.{_-_}
 use Rattle.passes.proofs.Rotated.{held-first}
 use Rattle.pair.proofs.Formed.{roots-are, valued-stop, valued-end}
 use Rattle.pair.proofs.parts.valued.Statement.{statement}

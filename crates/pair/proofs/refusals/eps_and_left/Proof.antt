@@ -1,6 +1,5 @@
 -- `pair::refusals::eps_and_left`: two tests, both made, and then joined.
 use borrow.Author.Needs.{needs}
-use Prim.Native.Nat.{_-_}
 use Rattle.pair.proofs.refusals.eps_and_left.Statement.{statement}
 use Rattle.pair.proofs.refusals.eps_and_left.Tie as tie
 

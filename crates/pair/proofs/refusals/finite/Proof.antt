@@ -1,6 +1,5 @@
 -- `pair::refusals::finite`: the tests in the order of the definition: the first that fails is the answer (ask-no), and one that passed is left behind (ask-yes).
 use borrow.Author.Needs.{needs}
-use Prim.Native.Nat.{_-_}
 use Rattle.lists.proofs.Asked.{test-wrong, test-right}
 use Rattle.pairform.specs.Call.{pairFinite}
 use Rattle.pair.proofs.Verdicts.{ask-no, ask-yes}

@@ -1,5 +1,4 @@
 -- `pair::refusals::lent`: the lengths in the order of the definition: the first that is wrong is the answer (same-no), and one that is right is left behind (same-yes).
-use Prim.Native.Nat.{_-_}
 use native.Mathlib.Omega.{arith}
 use Rattle.lists.proofs.Asked.{length-wrong, length-right}
 use Rattle.pairform.specs.Call.{coreNumbers, leftRoom, rightRoom, pairLent}

@@ -1,5 +1,5 @@
 -- `pair::refusals::lines_ok`: two sizes that passed their test have a product that fits (two-fit), which is then compared.
-use Prim.Native.Nat.{_-_, _*_}
+use Prim.Native.Nat.{_*_}
 use lib.Dec.{leb}
 use Rattle.lists.proofs.Tests.{not-no}
 use Rattle.shape.specs.Limits.{mostLines}

@@ -1,6 +1,5 @@
 -- `pair::refusals::pair_ok`: sizes, lengths, numbers: the first check that refuses is the answer (size-stops, length-stops, finite-ends).
 use borrow.Author.Needs.{needs}
-use Prim.Native.Nat.{_-_}
 use Rattle.answers.proofs.Checks.{verdict-passed}
 use Rattle.pair.proofs.Verdicts.{size-stops, length-stops, finite-ends}
 use Rattle.pair.proofs.refusals.pair_ok.Statement.{statement}

@@ -1,6 +1,6 @@
 -- `pair::refusals::sized`: the tests in the order of the definition: the first that fails is the answer (ask-no), and one that passed is left behind (ask-yes).
 use borrow.Author.Needs.{needs}
-use Prim.Native.Nat.{_-_, _*_}
+use Prim.Native.Nat.{_*_}
 use mathlib.Core.Path.{sym, ap, _∙_}
 use mathlib.Core.Bool.{Bool, _&&_}
 use lib.Dec.{leb}

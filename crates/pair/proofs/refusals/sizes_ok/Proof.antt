@@ -1,6 +1,5 @@
 -- `pair::refusals::sizes_ok`: three tests, one after the other.
 use borrow.Author.Needs.{needs}
-use Prim.Native.Nat.{_-_}
 use Rattle.pairform.specs.Call.{sizesOk}
 use Rattle.pair.proofs.refusals.sizes_ok.Statement.{statement}
 use Rattle.pair.proofs.refusals.sizes_ok.Tie as tie

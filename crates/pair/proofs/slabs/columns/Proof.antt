@@ -1,6 +1,5 @@
 -- `pair::slabs::columns`: the rows of the slab are made in a local and looked at; where all are finite they are transposed (columns-stop, columns-end).
 use borrow.Author.Needs.{needs}
-use Prim.Native.Nat.{_-_}
 use native.Mathlib.Omega.{arith}
 use native.Mathlib.Nat.{mul-le-mul}
 use Rattle.pair.proofs.Columned.{front-is, front-long, columns-stop, columns-end}

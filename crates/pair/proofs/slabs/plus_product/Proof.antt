@@ -1,5 +1,4 @@
 -- `pair::slabs::plus_product`: the two cases of the test are those of the definition.
-use Prim.Native.Nat.{_-_}
 use Rattle.lists.specs.Lists.{pick}
 use Rattle.pairform.specs.Slabs.{plusProduct}
 use Rattle.pair.proofs.slabs.plus_product.Statement.{statement}

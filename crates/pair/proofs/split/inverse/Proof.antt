@@ -1,5 +1,4 @@
 -- `pair::split::inverse`: the two cases of the test are those of the definition.
-use Prim.Native.Nat.{_-_}
 use Rattle.lists.specs.Lists.{pick}
 use Rattle.pairform.specs.Numbers.{inverse}
 use Rattle.pair.proofs.split.inverse.Statement.{statement}

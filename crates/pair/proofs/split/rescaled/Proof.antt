@@ -1,6 +1,5 @@
 -- `pair::split::rescaled`: the code is the definition, with what `inverse` gives.
 use borrow.Author.Needs.{needs}
-use Prim.Native.Nat.{_-_}
 use Rattle.pairform.specs.Numbers.{inverse}
 use Rattle.pair.proofs.split.rescaled.Statement.{statement}
 use Rattle.pair.proofs.split.rescaled.Tie as tie

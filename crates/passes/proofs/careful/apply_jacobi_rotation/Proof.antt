@@ -1,6 +1,5 @@
 -- `passes::careful::apply_jacobi_rotation`: columns and basis are turned and looked at (turned-stop, turned-end); elsewhere nothing changed, so the two columns' sums of squares tell.
 use borrow.Author.Needs.{needs}
-use Prim.Native.Nat.{_-_}
 use native.Mathlib.Omega.{arith}
 use Rattle.columns.proofs.TwoColumns.{squares-length, turned-length, turned-elsewhere, turned-squares}
 use Rattle.passes.proofs.Rotated.{turned-stop, turned-end}

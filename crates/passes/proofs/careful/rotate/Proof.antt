@@ -1,6 +1,5 @@
 -- `passes::careful::rotate`: a pair that is skipped stays (rotate-skip); any other is turned by its slope, tangent and cosine (rotate-go).
 use borrow.Author.Needs.{needs}
-use Prim.Native.Nat.{_-_}
 use Rattle.pairform.specs.Columns.{dot, skipped}
 use Rattle.passes.proofs.Rotated.{rotate-skip, rotate-go}
 use Rattle.passes.proofs.careful.rotate.Statement.{statement}

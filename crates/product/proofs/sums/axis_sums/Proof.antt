@@ -1,7 +1,7 @@
 -- `product::sums::axis_sums`: the core and the weights of zone k lie within their lists (core-ends, points-end), and `sum_axis` on them is the contraction (axis-made).
 use borrow.Author.Needs.{needs}
 use Rattle.product.proofs.Slotted.{core-ends, core-end-fits, core-start-fits, points-end, points-end-fits, points-start-fits, axis-asks, axis-made}
-use Prim.Native.Nat.{_-_, _*_, _^_, _<_}
+use Prim.Native.Nat.{_*_, _^_, _<_}
 use Rattle.lists.specs.Slots.{offset}
 use lib.ListN.{length}
 use Rattle.product.proofs.sums.axis_sums.Statement.{statement}

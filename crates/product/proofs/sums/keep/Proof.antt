@@ -1,7 +1,6 @@
 -- `product::sums::keep`: a fill with zeros and a copy over its front are the slot's new content (kept-is).
 use borrow.Author.Needs.{needs}
 use Rattle.product.proofs.Slotted.{kept-is}
-use Prim.Native.Nat.{_-_}
 use Rattle.product.proofs.sums.keep.Statement.{statement}
 use Rattle.product.proofs.sums.keep.Tie as tie
 

@@ -1,7 +1,7 @@
 -- `product::sums::keep_sums`: slot k lies within the list (slot-ends), and what is put there leaves the rest as it was (slot-kept).
 use borrow.Author.Needs.{needs}
 use Rattle.product.proofs.Slotted.{slot-ends, slot-end-fits, slot-start-fits, slot-lent, slot-kept}
-use Prim.Native.Nat.{_-_, _*_, _^_, _<_}
+use Prim.Native.Nat.{_*_, _^_, _<_}
 use native.Mathlib.Omega.{arith}
 use lib.ListN.{length}
 use Rattle.product.proofs.sums.keep_sums.Statement.{statement}

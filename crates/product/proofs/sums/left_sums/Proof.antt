@@ -2,7 +2,7 @@
 use borrow.Author.Needs.{needs}
 use Rattle.product.proofs.Slotted.{left-first, left-end, left-end-fits, left-start-fits, left-long, left-held}
 use mathlib.Core.Path.{sym, _∙_}
-use Prim.Native.Nat.{_-_, _*_, _^_, _≤_, _<_}
+use Prim.Native.Nat.{_*_, _^_, _≤_, _<_}
 use lib.ListN.{length}
 use Rattle.lists.proofs.Parts.{span-length}
 use Rattle.product.proofs.sums.left_sums.Statement.{statement}

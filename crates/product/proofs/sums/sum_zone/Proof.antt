@@ -2,7 +2,6 @@
 use borrow.Author.Needs.{needs}
 use Rattle.product.proofs.Slotted.{left-asks, own-asks}
 use Rattle.product.proofs.Turning.{turn-stops, turn-keeps}
-use Prim.Native.Nat.{_-_}
 use native.Mathlib.Omega.{arith}
 use Rattle.product.proofs.sums.sum_zone.Statement.{statement}
 use Rattle.product.proofs.sums.sum_zone.Tie as tie

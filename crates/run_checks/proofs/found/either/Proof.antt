@@ -1,6 +1,5 @@
 -- `run_checks::found::either`: the lesser of two first places is the first that fails either test (least-fails).
 use borrow.Author.Needs.{needs}
-use Prim.Native.Nat.{_-_}
 use Rattle.run_checks.proofs.Guards.{least-fails}
 use Rattle.run_checks.proofs.found.either.Statement.{statement}
 use Rattle.run_checks.proofs.found.either.Tie as tie

@@ -1,6 +1,5 @@
 -- `run_checks::found::first_bad_made`: the least of three first places is the first that fails any of the three tests (made-first).
 use borrow.Author.Needs.{needs}
-use Prim.Native.Nat.{_-_}
 use Rattle.run_checks.proofs.Guards.{made-first}
 use Rattle.run_checks.proofs.found.first_bad_made.Statement.{statement}
 use Rattle.run_checks.proofs.found.first_bad_made.Tie as tie

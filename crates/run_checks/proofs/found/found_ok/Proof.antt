@@ -1,6 +1,5 @@
 -- `run_checks::found::found_ok`: check after check, each stops or is passed over (sized); a shape that passed gives the sizes that the lengths ask (fits-sizes).
 use borrow.Author.Needs.{needs}
-use Prim.Native.Nat.{_-_}
 use Rattle.run_checks.proofs.Guards.{sized}
 use Rattle.shape.proofs.Shaped.{fits-sizes}
 use Rattle.runform.specs.Requests.{foundOk}

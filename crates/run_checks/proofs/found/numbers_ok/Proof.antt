@@ -1,6 +1,5 @@
 -- `run_checks::found::numbers_ok`: one law for each return (numbers-found).
 use borrow.Author.Needs.{needs}
-use Prim.Native.Nat.{_-_}
 use Rattle.run_checks.proofs.Guards.{numbers-found}
 use Rattle.run_checks.proofs.found.numbers_ok.Statement.{statement}
 use Rattle.run_checks.proofs.found.numbers_ok.Tie as tie

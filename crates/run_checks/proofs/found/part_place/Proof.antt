@@ -2,7 +2,6 @@
 use borrow.Author.Needs.{needs}
 use mathlib.Core.Path.{_≡_}
 use mathlib.Core.Bool.{true, false}
-use Prim.Native.Nat.{_-_}
 use Rattle.run_checks.proofs.Guards.{part-passes, part-fails}
 use Rattle.run_checks.proofs.found.part_place.Statement.{statement}
 use Rattle.run_checks.proofs.found.part_place.Tie as tie

@@ -3,7 +3,7 @@ use borrow.Author.Needs.{needs}
 use mathlib.Core.Bool.{true}
 use lib.Dec.{eqb}
 use Rattle.lists.specs.Lists.{pick}
-use Prim.Native.Nat.{ℕ, _-_}
+use Prim.Native.Nat.{ℕ}
 use Rattle.run_checks.proofs.Guards.{least-fails}
 use Rattle.run_checks.proofs.found.with_part.Statement.{statement}
 use Rattle.run_checks.proofs.found.with_part.Tie as tie

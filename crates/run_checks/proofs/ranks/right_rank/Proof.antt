@@ -1,7 +1,6 @@
 -- `run_checks::ranks::right_rank`: by whether core k has a next one, as the definition asks (right-bond, right-end).
 use borrow.Author.Needs.{needs}
 use Rattle.run_checks.proofs.Bonded.{right-bond, right-end}
-use Prim.Native.Nat.{_-_}
 use Rattle.run_checks.proofs.ranks.right_rank.Statement.{statement}
 use Rattle.run_checks.proofs.ranks.right_rank.Tie as tie
 

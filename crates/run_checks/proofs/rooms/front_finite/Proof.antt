@@ -1,7 +1,6 @@
 -- `run_checks::rooms::front_finite`: the part lent is the front asked about (front-found).
 use borrow.Author.Needs.{needs}
 use Rattle.run_checks.proofs.Fronts.{front-found}
-use Prim.Native.Nat.{_-_}
 use Rattle.run_checks.proofs.rooms.front_finite.Statement.{statement}
 use Rattle.run_checks.proofs.rooms.front_finite.Tie as tie
 

@@ -1,7 +1,6 @@
 -- `run_checks::rooms::reach_ok`: a zone before z is not asked (reach-before); from z on its axis is (reach-found).
 use borrow.Author.Needs.{needs}
 use Rattle.run_checks.proofs.Fronts.{reach-before, reach-found}
-use Prim.Native.Nat.{_-_}
 use Rattle.run_checks.proofs.rooms.reach_ok.Statement.{statement}
 use Rattle.run_checks.proofs.rooms.reach_ok.Tie as tie
 

@@ -1,7 +1,6 @@
 -- `run_checks::rooms::reaches_ok`: the first axis too far, or none, is the verdict of the check from z on (far-wrong, far-right).
 use borrow.Author.Needs.{needs}
 use Rattle.run_checks.proofs.Fronts.{far-wrong, far-right}
-use Prim.Native.Nat.{_-_}
 use Rattle.run_checks.proofs.rooms.reaches_ok.Statement.{statement}
 use Rattle.run_checks.proofs.rooms.reaches_ok.Tie as tie
 

@@ -1,7 +1,6 @@
 -- `run_checks::rooms::sums_held`: as many sums as the kept right rank lie within their slot (sums-room, sums-found).
 use borrow.Author.Needs.{needs}
 use Rattle.run_checks.proofs.Fronts.{sums-room, sums-found}
-use Prim.Native.Nat.{_-_}
 use Rattle.run_checks.proofs.rooms.sums_held.Statement.{statement}
 use Rattle.run_checks.proofs.rooms.sums_held.Tie as tie
 
