@@ -63,9 +63,11 @@ module _ (s : Shape) where
   bond-passes : (kept : ℕ → Bool) → shapeOk s kept ≡ done tt → (k : ℕ) → k < s .d → (bondOk s k ≡ true) × (kept k ≡ true)
   unfolding shapeOk
   bond-passes kept e k lt =
-      let a = then-is _ _ tt e in
-      let b = then-is _ _ tt (a .1) in
-      let c = then-is _ _ tt (b .1) in
+      let bonds = demandEach Ranks (λ (i : ℕ). bondOk s i && kept i) (s .d) 0 in
+      let ends = demand (eqb (leftOf s 0) 1) (Ranks 0) then bonds in
+      let a = then-is (demand (within mostAxes (s .d)) Axes) (demandEach Size (sizeOk s) (s .d) 0 then ends) tt e in
+      let b = then-is (demandEach Size (sizeOk s) (s .d) 0) ends tt (a .1) in
+      let c = then-is (demand (eqb (leftOf s 0) 1) (Ranks 0)) bonds tt (b .1) in
       both (bondOk s k) (kept k) (each-is Ranks (λ (i : ℕ). bondOk s i && kept i) (s .d) 0 (c .1) k (omega arith) (omega arith))
 
   pub kept-passes : (kept : ℕ → Bool) → shapeOk s kept ≡ done tt → (k : ℕ) → k < s .d → kept k ≡ true
