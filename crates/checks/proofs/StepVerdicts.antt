@@ -65,6 +65,10 @@ module _ (s : Shape) (xs : List Axis) (chain : List Float) (i j : ℕ)
 
 pub ruleset zones-found = (core-wrong, zones-right, axis-wrong)
 
+-- x is the record of axis k
+pub axis-found : (test : Axis → Bool) (xs : List Axis) (k : ℕ) (x : Axis) (b : Bool) → x ≡ axisAt xs k → b ≡ test x → b ≡ test (axisAt xs k)
+axis-found test xs k x b e f = f ∙ ap test e
+
 -- x is the record of axis k, y the shift of its core
 pub reaches-found : (t : Settings) (s : Shape) (xs : List Axis) (k : ℕ) (x : Axis) (y : Shift) (b : Bool)
     → x ≡ axisAt xs k → y ≡ shiftOf x (t .tau) (pointsOf s k) → b ≡ reaches y → b ≡ axisReaches t s xs k

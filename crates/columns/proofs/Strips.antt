@@ -1,12 +1,12 @@
 -- Pairs that are turned two at once, and runs of pairs one behind another. Assumes nothing.
-use mathlib.Core.Path.{_≡_, sym, ap, _∙_}
+use mathlib.Core.Path.{_≡_, refl, sym, ap, _∙_}
 use Prim.Native.Nat.{ℕ, _+_, _*_, _/_, _%_, _^_, _<_, _≤_}
-use native.Mathlib.Nat.{le-antisymm, mul-le-mul-right, suc-mul}
+use native.Mathlib.Nat.{le-antisymm, mul-le-mul-right, suc-mul, zero-mul}
 use native.Mathlib.Omega.{arith}
 use mathlib.Core.List.{List}
 use mir.Syntax.{w64}
 use mir.Val.{Fits}
-use lib.ListN.{set}
+use lib.ListN.{length, set}
 use lib.Seq.{getD-set-other, set-comm}
 use lib.Ieee.{Float, nan}
 use Rattle.numbers.specs.Arithmetic.{plus, minus, times}
@@ -46,13 +46,6 @@ module _ (i j : ℕ) (c s : Float) (l : List Float) where
   pub strip-turned : (t u : List Float) → t ≡ turnPairs 8 1 i j c s l → u ≡ turnPairs 8 1 (i + 8) (j + 8) c s t → u ≡ turnPairs 16 1 i j c s l
   strip-turned t u a b = runs-joined 8 8 t u a b
 
-  -- a run of w behind k of them, and all n of them
-  pub runs-more : (w k : ℕ) (t u : List Float) → t ≡ turnPairs (k * w) 1 i j c s l → u ≡ turnPairs w 1 (i + k * w) (j + k * w) c s t → u ≡ turnPairs ((k + 1) * w) 1 i j c s l
-  runs-more w k t u e d = let z : (k + 1) * w ≡ k * w + w = omega arith in rw z (runs-joined (k * w) w t u e d)
-
-  pub runs-done : (w k n : ℕ) (t : List Float) → t ≡ turnPairs (k * w) 1 i j c s l → k ≤ n → n ≤ k → t ≡ turnPairs (n * w) 1 i j c s l
-  runs-done w k n t e p q = rw (le-antisymm q p) e
-
   -- strips, then two at a time, then the last
   pub all-turned : (m : ℕ) (t u v : List Float) → t ≡ turnPairs (m / 16 * 16) 1 i j c s l → u ≡ turnPairs (m % 16 / 2 * 2) 1 (i + m / 16 * 16) (j + m / 16 * 16) c s t
       → v ≡ turnPairs (m % 2) 1 (i + m / 2 * 2) (j + m / 2 * 2) c s u → v ≡ turnPairs m 1 i j c s l
@@ -83,3 +76,26 @@ module _ (i j : ℕ) (c s : Float) (l : List Float) where
       let i1 : 1 + i ≡ i + 1 = omega arith in
       let j1 : 1 + j ≡ j + 1 = omega arith in
       e ∙ ap (λ (t : List Float). set t (j + 1) fourth) (set-comm (set l i first) (i + 1) j second third (λ d. omega arith)) ∙ rw (i0, j0, i1, j1, x, y)
+
+-- ---- the loop over n runs of w pairs each
+module _ (w n i j : ℕ) (c s : Float) (l : List Float) where
+  -- t is what the first k runs leave
+  pub record RunsTurned (k : ℕ) (t : List Float) : Type 0 where
+    pub most : k ≤ n
+    pub long : length t ≡ length l
+    pub turned : t ≡ turnPairs (k * w) 1 i j c s l
+
+  pub runs-none : RunsTurned 0 l
+  unfolding turnPairs
+  runs-none = record { most = omega arith; long = refl; turned = rw (zero-mul w) refl }
+
+  module _ (k : ℕ) (t : List Float) (r : RunsTurned k t) where
+    pub runs-more : (u : List Float) → k < n → length u ≡ length t → u ≡ turnPairs w 1 (i + k * w) (j + k * w) c s t → RunsTurned (k + 1) u
+    runs-more u h e d =
+        let z : (k + 1) * w ≡ k * w + w = omega arith in
+        record { most = omega arith; long = e ∙ r .long; turned = rw z (runs-joined i j c s l (k * w) w t u (r .turned) d) }
+
+    pub runs-done : n ≤ k → t ≡ turnPairs (n * w) 1 i j c s l
+    runs-done h = rw (le-antisymm h (r .most)) (r .turned)
+
+pub ruleset runs = (runs-none, runs-more, runs-done)

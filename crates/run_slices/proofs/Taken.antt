@@ -1,6 +1,6 @@
 -- The slot left of a zone, taken out of one list into the same place of another. Assumes nothing.
-use mathlib.Core.Path.{_≡_, sym, ap, _∙_, subst}
-use Prim.Native.Nat.{ℕ, zero, suc, _+_, _-_, _*_, _≤_, _<_, _^_}
+use mathlib.Core.Path.{_≡_, sym, ap, _∙_}
+use Prim.Native.Nat.{ℕ, zero, suc, _-_, _*_, _≤_, _<_}
 use native.Mathlib.Omega.{arith}
 use mathlib.Core.List.{List, _++_}
 use lib.ListN.{length, take, drop, length-drop}
@@ -14,54 +14,39 @@ use Rattle.shape.specs.declared.Shape.{Shape}
 use Rattle.shape.specs.Sizes.{SizesWithin}
 use Rattle.sumform.specs.Sums.{sumSize}
 use Rattle.product.proofs.Slotted.{sum-size, sums-most}
-use Rattle.run_slices.specs.Slices.{Beside, overFrom}
+use Rattle.run_slices.specs.Slices.{Beside, overFrom, overBetween}
 
-module _ (size : ℕ → ℕ) (z d : ℕ) where
-  -- left of zone 0 there is none
-  pub none-left : (l l' : List Float) → z < 1 → Beside size z l l'
-  none-left l l' h = go z h
-    where
-      go : (y : ℕ) → y < 1 → Beside size y l l'
-      go zero h = tt
-      go (suc k) h = let n : ⊥ = omega arith in absurd n
+-- left of zone 0 there is none
+pub none-left : (size : ℕ → ℕ) (z : ℕ) (l l' : List Float) → z < 1 → Beside size z l l'
+none-left size zero l l' h = tt
+none-left size (suc k) l l' h = let n : ⊥ = omega arith in absurd n
 
-  module _ (one : 1 ≤ z) (lt : z < d) (from to : List Float) (long : offset size d ≤ length from) (room : offset size d ≤ length to) (at end : ℕ) (e : at ≡ offset size (z - 1)) (f : end ≡ offset size z) where
-    pub starts : at ≤ end
-    starts = omega (arith, offset-mono size (z - 1) z (omega arith))
+module _ (size : ℕ → ℕ) (at end : ℕ) where
+  -- the slot left of zone z, of d
+  pub left-starts : (z : ℕ) → at ≡ offset size (z - 1) → end ≡ offset size z → at ≤ end
+  left-starts z e f = omega (arith, offset-mono size (z - 1) z (omega arith))
 
-    ends : end ≤ offset size d
-    ends = omega (arith, offset-mono size z d (omega arith))
+  pub left-ends : (z d n : ℕ) → end ≡ offset size z → z < d → offset size d ≤ n → end ≤ n
+  left-ends z d n f lt long = omega (arith, offset-mono size z d (omega arith))
 
-    pub part-ends : end ≤ length from
-    part-ends = omega (arith, ends)
+  pub left-taken : (z : ℕ) (from to to' : List Float) → to' ≡ overBetween at end to from → at ≡ offset size (z - 1) → end ≡ offset size z → 1 ≤ z
+      → end ≤ length from → end ≤ length to → Beside size z from to'
+  unfolding slot
+  left-taken zero from to to' g e f h long room = let n : ⊥ = omega arith in absurd n
+  left-taken (suc k) from to to' g e f h long room =
+      let a : offset size k ≡ at = let j : suc k - 1 ≡ k = omega arith in sym (e ∙ ap (offset size) j) in
+      let next = offset-suc size k in
+      let m : size k ≡ end - at = omega arith in
+      let part = take (end - at) (drop at from) in
+      let n = length-drop at from in
+      ap (λ (x : List Float). take (size k) (drop (offset size k) x)) g
+      ∙ ap (λ (i : ℕ). take (size k) (drop i (overBetween at end to from))) a
+      ∙ ap (take (size k)) (drop-at (take at to) (part ++ drop end to) at (length-take-le at to (omega arith)))
+      ∙ take-at part (drop end to) (size k) (length-take-le (end - at) (drop at from) (omega arith) ∙ sym m)
+      ∙ ap (λ (i : ℕ). take i (drop at from)) (sym m)
+      ∙ ap (λ (i : ℕ). take (size k) (drop i from)) (sym a)
 
-    part-long : length (take (end - at) (drop at from)) ≡ end - at
-    part-long = let n = length-drop at from in length-take-le (end - at) (drop at from) (omega (arith, starts, ends))
-
-    pub part-fits : at + length (take (end - at) (drop at from)) ≤ length to
-    part-fits = omega (arith, part-long, starts, ends)
-
-    taken : (rest : List Float) → Beside size z from (take at to ++ (take (end - at) (drop at from) ++ rest))
-    unfolding slot
-    taken rest = go z one e f
-      where
-        go : (y : ℕ) → 1 ≤ y → at ≡ offset size (y - 1) → end ≡ offset size y → Beside size y from (take at to ++ (take (end - at) (drop at from) ++ rest))
-        go zero h a b = let n : ⊥ = omega arith in absurd n
-        go (suc k) h a b =
-            let j : suc k - 1 ≡ k = omega arith in
-            let p : offset size k ≡ at = sym (a ∙ ap (offset size) j) in
-            let m : size k ≡ end - at = omega (arith, offset-suc size k) in
-            ap (λ (n : ℕ). take (size k) (drop n (take at to ++ (take (end - at) (drop at from) ++ rest)))) p
-            ∙ ap (take (size k)) (drop-at (take at to) (take (end - at) (drop at from) ++ rest) at (length-take-le at to (omega (arith, starts, ends))))
-            ∙ take-at (take (end - at) (drop at from)) rest (size k) (part-long ∙ sym m)
-            ∙ ap (λ (n : ℕ). take n (drop at from)) (sym m)
-            ∙ ap (λ (n : ℕ). take (size k) (drop n from)) (sym p)
-
-    pub taken-left : (rest to' : List Float) → to' ≡ take at to ++ (take (end - at) (drop at from) ++ rest) → Beside size z from to'
-    taken-left rest to' g = subst (Beside size z from) (sym g) (taken rest)
-
-    pub start-fits : length from * 8 < 2 ^ 63 → Fits w64 (at * 8)
-    start-fits small = record { fits = omega (arith, starts, ends) }
+pub ruleset taking = (none-left, left-starts, left-ends, left-taken)
 
 -- ---- where a commit starts
 pub slot-starts : (size : ℕ → ℕ) (z d : ℕ) → z ≤ d → (at : ℕ) → at ≡ offset size z → (n : ℕ) → n ≡ offset size d → at ≤ n

@@ -23,7 +23,7 @@ pub fn take_carry(z: usize, s: shape::Shape, carries: &[f64], held: &mut [f64])
     }
     let at = cuts::carry_offset(s, z - 1);
     let end = cuts::carry_offset(s, z);
-    copies::put_at(at, &carries[at..end], held);
+    copies::copy_between(at, end, carries, held);
 }
 
 // The sums left of zone z, in their slot of summed; left of zone 0 there are none.
@@ -37,7 +37,7 @@ pub fn take_sum(z: usize, s: shape::Shape, sums: &[f64], summed: &mut [f64])
     }
     let at = product::sums::sum_offset(s, z - 1);
     let end = product::sums::sum_offset(s, z);
-    copies::put_at(at, &sums[at..end], summed);
+    copies::copy_between(at, end, sums, summed);
 }
 
 // What the work left of the zones from z on goes into the run's slices. The figure is the first number of the last axis' sums.

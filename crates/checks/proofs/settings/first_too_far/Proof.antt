@@ -15,13 +15,7 @@ abbrev μ-loop : tie.MeasureT-loop
 μ-loop set s xs k₀ k = s .d - k
 
 pub first-too-far-spec : {M : Type 1} → statement M
-first-too-far-spec = tie.close (tie.spec
-    Inv-loop
-    μ-loop
-    (λ c. search ways)
-    (λ c κs. search ways)
-    (λ c. search ways)
-    (λ c. search ways)
-    (λ c. search ways)
-    (λ c. search ways)
+first-too-far-spec =
+    tie.close
+    (tie.spec Inv-loop μ-loop (λ c. search ways) (λ c κs. search needs) (λ c. search ways) (λ c. search needs) (λ c. search needs) (λ c. search ways)
     (λ c. search ways))

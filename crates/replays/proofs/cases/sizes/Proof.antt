@@ -14,14 +14,7 @@ abbrev μ-loop : tie.MeasureT-loop
 μ-loop n list₀ k₀ list k = mostAxes - k
 
 pub sizes-spec : {M : Type 1} → statement M
-sizes-spec = tie.close (tie.spec
-    Inv-loop
-    μ-loop
-    (λ c. search needs)
-    (λ c κs. search needs)
-    (λ c. search needs)
-    (λ c. search needs)
-    (λ c. search needs)
-    (λ c. search needs)
-    (λ c. search needs)
-    (λ c. search needs))
+sizes-spec =
+    tie.close
+    (tie.spec Inv-loop μ-loop (λ c. search needs) (λ c κs. search needs) (λ c. search needs) (λ c. search needs) (λ c. search needs) (λ c. search needs)
+    (λ c. search needs) (λ c. search needs))
