@@ -35,7 +35,7 @@ use Rattle.cutform.specs.declared.Bond.{Bond}
 use Rattle.runform.specs.Kept.{allCarries, allSums, leftHeld, rightHeld, heldCore, heldCarry}
 use Rattle.runform.specs.Checks.{rankOk, coreHeld, carryHeld, sumsHeld}
 use Rattle.run_checks.specs.Reach.{reachFrom}
-use Rattle.run_checks.proofs.Bonded.{rank-within, right-within, left-within}
+use Rattle.runform.proofs.KeptRanks.{rank-within, right-within, left-within}
 
 pub front-found : (l : List Float) (at used : ℕ) (b : Bool) → b ≡ allFinite (take (at + used - at) (drop at l)) → b ≡ allFinite (take used (drop at l))
 front-found l at used b e = let n : at + used - at ≡ used = omega arith in e ∙ ap (λ (m : ℕ). allFinite (take m (drop at l))) n

@@ -122,3 +122,7 @@ module _ (s : Shape) (i j l m n : ℕ) (f : (j ≤ l → m ≡ j) × (l < j → 
   made-first xs source weights a b c =
       least-fails (λ (k : ℕ). allFinite (coreAt s source k .entries)) (λ (k : ℕ). axisFinite (axisAt xs k) && allFinite (pointsAt s weights k)) (s .d) i m n a
       (least-fails (λ (k : ℕ). axisFinite (axisAt xs k)) (λ (k : ℕ). allFinite (pointsAt s weights k)) (s .d) j l m b c f) g
+
+-- two tests of one bond, by what code finds
+pub both-found : (a b p q : Bool) → a ≡ p → b ≡ q → (a && b) ≡ (p && q)
+both-found a b p q e f = ap (λ (x : Bool). x && b) e ∙ ap (λ (x : Bool). p && x) f

@@ -1,4 +1,4 @@
-// The kept ranks: refusal 3, and the shape that a kept chain has by them.
+// Refusals 1 to 3 of a run: its shape, and the ranks that are kept.
 ghost use mathlib.Core.Path.{_≡_};
 ghost use mathlib.Core.Bool.{_&&_};
 ghost use Prim.Native.Nat.{ℕ, _≤_, _<_};
@@ -6,9 +6,7 @@ ghost use Rattle.answers.specs.Outcome.{verdictOf};
 ghost use Rattle.lists.specs.Lists.{firstNot};
 ghost use Rattle.shape.specs.Limits.{mostAxes};
 ghost use Rattle.shape.specs.Shapes.{bondOk, shapeOk};
-ghost use Rattle.runform.specs.Kept.{leftHeld, rightHeld};
 ghost use Rattle.runform.specs.Checks.{rankOk};
-ghost use Rattle.run_checks.specs.Ranks.{Ranked};
 
 // Whether the kept rank of bond k is at least 1 and at most its source's; right of the last core there is none.
 fn rank_ok(s: shape::Shape, bonds: [cutform::Bond; shape::MOST_AXES], k: usize) -> bool
@@ -58,39 +56,4 @@ pub fn shape_ok(s: shape::Shape, bonds: [cutform::Bond; shape::MOST_AXES]) -> an
         return answers::Verdict::Refused(answers::Refusal::Ranks(bond));
     }
     answers::Verdict::Fits
-}
-
-// The kept ranks left and right of core k.
-pub fn left_rank(bonds: [cutform::Bond; shape::MOST_AXES], k: usize) -> usize
-    requires { ⌜ k < mostAxes ⌝ }
-    ensures { λ r. ⌜ r ≡ leftHeld bonds k ⌝ }
-{
-    if k < 1 {
-        return 1;
-    }
-    bonds[k - 1].rank
-}
-
-pub fn right_rank(s: shape::Shape, bonds: [cutform::Bond; shape::MOST_AXES], k: usize) -> usize
-    requires { ⌜ (k < s .d) × (s .d ≤ mostAxes) ⌝ }
-    ensures { λ r. ⌜ r ≡ rightHeld s bonds k ⌝ }
-{
-    if k + 1 < s.d {
-        return bonds[k].rank;
-    }
-    s.right[k]
-}
-
-// The shape of the chain that is kept: s with the kept ranks.
-pub fn kept_shape(s: shape::Shape, bonds: [cutform::Bond; shape::MOST_AXES]) -> shape::Shape
-    requires { ⌜ s .d ≤ mostAxes ⌝ }
-    ensures { λ t. ⌜ Ranked s bonds t (s .d) ⌝ }
-{
-    let mut t = s;
-    let mut k = 0;
-    while k < s.d {
-        t = t.with_core(k, left_rank(bonds, k), right_rank(s, bonds, k));
-        k += 1;
-    }
-    t
 }

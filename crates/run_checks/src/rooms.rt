@@ -33,8 +33,8 @@ fn core_held(
     ensures { λ r. ⌜ r ≡ coreHeld s bonds (now (chain .entry)) k ⌝ }
 {
     let at = s.offset(k);
-    let left = crate::ranks::left_rank(bonds, k);
-    let right = crate::ranks::right_rank(s, bonds, k);
+    let left = run_slices::ranks::left_rank(bonds, k);
+    let right = run_slices::ranks::right_rank(s, bonds, k);
     front_finite(chain, at, left * s.n[k] * right)
 }
 
@@ -65,7 +65,7 @@ fn sums_held(
     ensures { λ r. ⌜ r ≡ sumsHeld s bonds (now (sums .entry)) k ⌝ }
 {
     let at = product::sums::sum_offset(s, k);
-    let used = crate::ranks::right_rank(s, bonds, k);
+    let used = run_slices::ranks::right_rank(s, bonds, k);
     front_finite(sums, at, used)
 }
 

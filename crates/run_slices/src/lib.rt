@@ -1,5 +1,6 @@
 // What a run hands to the work from one zone on, and what it takes of it once nothing can refuse.
 pub mod copies;
+pub mod ranks;
 
 ghost use mathlib.Core.Path.{_≡_};
 ghost use Prim.Native.Nat.{_-_, _≤_, _<_};

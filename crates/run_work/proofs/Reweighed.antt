@@ -29,7 +29,7 @@ use Rattle.sumform.specs.Product.{contractAt, sumAxis}
 use Rattle.cutform.specs.Call.{scratchAfter}
 use Rattle.sumform.specs.Sums.{sumSize, sumsLeft, weighedIn, sumsFrom}
 use Rattle.stepform.specs.Zones.{rules}
-use Rattle.run_checks.specs.Ranks.{Ranked}
+use Rattle.run_work.specs.Ranked.{Ranked}
 use Rattle.runform.specs.declared.Run.{Run}
 use Rattle.runform.specs.declared.Ran.{Ran}
 use Rattle.runform.specs.Slices.{slices}
@@ -37,7 +37,7 @@ use Rattle.runform.specs.Kept.{Summed, Kept, running, keptOf}
 use Rattle.runform.specs.Work.{sumFrom}
 use Rattle.runform.specs.Requests.{newWeights, present}
 use Rattle.runform.specs.Call.{RunEnd, runEnd}
-use Rattle.run_checks.proofs.Resums.{resum-is}
+use Rattle.run_work.proofs.Resums.{resum-is}
 use Rattle.run_work.specs.Weights.{weightsEnd}
 
 -- ---- sums are refused with 9 alone

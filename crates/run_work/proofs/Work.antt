@@ -22,12 +22,12 @@ use Rattle.cuts.specs.Slots.{heldBy}
 use Rattle.sumform.specs.Sums.{sumsFrom}
 use Rattle.product.specs.Lent.{SumsStand}
 use Rattle.stepform.specs.Zones.{rules}
-use Rattle.run_checks.specs.Ranks.{Ranked}
-use Rattle.run_checks.proofs.Bonded.{ranked-inside}
+use Rattle.run_work.specs.Ranked.{Ranked}
+use Rattle.run_work.proofs.Ranked.{ranked-inside}
 use Rattle.runform.specs.Kept.{Inputs, Summed, Kept, running}
 use Rattle.runform.specs.Checks.{rankOk}
 use Rattle.runform.specs.Work.{restep, resum, sumFrom, workFrom}
-use Rattle.run_checks.proofs.Resums.{resum-is}
+use Rattle.run_work.proofs.Resums.{resum-is}
 use Rattle.run_work.specs.InPlace.{summedIn, heldIn, RanksWithin, Sums}
 
 pub few-axes : (s : Shape) → chainOk s ≡ done tt → s .d ≤ mostAxes

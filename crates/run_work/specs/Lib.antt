@@ -1,4 +1,5 @@
 pub mod InPlace
+pub mod Ranked
 -- what the functions cite
 pub mod Weights
 pub mod Renewed

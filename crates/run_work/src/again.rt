@@ -67,7 +67,7 @@ pub fn redo_from(
         return stepped;
     }
     let bonds = stepped.bonds;
-    let t = run_checks::ranks::kept_shape(s, bonds);
+    let t = crate::kept::kept_shape(s, bonds);
     let summed = product::sums::sum_from(z, s, t, work, weights, sums);
     judged(summed, stepped)
 }

@@ -99,7 +99,7 @@ fn worked(
     );
     let verdict = w.verdict;
     if let answers::Verdict::Refused(q) = verdict {
-        return run_checks::refused(q, r);
+        return crate::refused(q, r);
     }
     let figure = run_slices::commit(z, s, scratch, &held, &summed, chain, carries, sums);
     fitted(r, w, figure)

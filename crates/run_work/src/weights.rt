@@ -106,11 +106,11 @@ pub fn resummed(
 {
     let s = r.shape;
     let bonds = r.bonds;
-    let t = run_checks::ranks::kept_shape(s, bonds);
+    let t = crate::kept::kept_shape(s, bonds);
     let mut held = [0.0; shape::MOST_SUMS];
     let made = sums_anew(z, s, t, chain, weights, part, sums, &mut held);
     if let answers::Verdict::Refused(q) = made {
-        return run_checks::refused(q, r);
+        return crate::refused(q, r);
     }
     let figure = commit(s, z, part, &held, weights, sums);
     fitted(r, figure)

@@ -1,8 +1,9 @@
 -- what is asked of rules, and that those of 000 and 001 meet it
 pub mod Sound
 pub mod Rules
--- lengths in a row
+-- lengths in a row, and the ranks of a run
 pub mod InRow
+pub mod KeptRanks
 -- a fresh run: what its walks left is what it holds, and it is the step, then the inner product
 pub mod Trace
 pub mod Held

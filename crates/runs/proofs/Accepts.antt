@@ -17,7 +17,7 @@ use Rattle.shape.specs.Limits.{mostAxes, scratchFor}
 use Rattle.shape.specs.Shapes.{shapeOk, coreSize, entriesOf}
 use Rattle.shape.specs.Sizes.{SizesWithin}
 use Rattle.shape.proofs.Shaped.{shaped, chain-passes}
-use Rattle.run_checks.proofs.Bonded.{rank-within}
+use Rattle.runform.proofs.KeptRanks.{rank-within}
 use Rattle.cutform.specs.declared.Bond.{Bond}
 use Rattle.stepform.specs.declared.Axis.{Axis}
 use Rattle.stepform.specs.declared.Settings.{Settings}

@@ -58,7 +58,7 @@ pub fn fresh_run(
         scratch.len(),
     );
     if let answers::Verdict::Refused(q) = ok {
-        return run_checks::refused(q, r);
+        return run_work::refused(q, r);
     }
     run_work::renewal::take_sources(0, s, source, scratch);
     run_work::renewal::renew(0, r, weights, chain, carries, sums, scratch)
@@ -96,7 +96,7 @@ pub fn replace_core(
         scratch.len(),
     );
     if let answers::Verdict::Refused(q) = ok {
-        return run_checks::refused(q, r);
+        return run_work::refused(q, r);
     }
     let s = r.shape;
     run_work::renewal::take_core(z, s, source, part, scratch);
@@ -152,7 +152,7 @@ pub fn replace_axis(
         scratch.len(),
     );
     if let answers::Verdict::Refused(q) = ok {
-        return run_checks::refused(q, r);
+        return run_work::refused(q, r);
     }
     let s = r.shape;
     run_work::renewal::take_sources(z, s, source, scratch);
@@ -160,7 +160,7 @@ pub fn replace_axis(
     let ran = run_work::renewal::renew(z, anew, weights, chain, carries, sums, scratch);
     let verdict = ran.verdict;
     if let answers::Verdict::Refused(q) = verdict {
-        return run_checks::refused(q, r);
+        return run_work::refused(q, r);
     }
     ran
 }
@@ -197,7 +197,7 @@ pub fn replace_weights(
         scratch.len(),
     );
     if let answers::Verdict::Refused(q) = ok {
-        return run_checks::refused(q, r);
+        return run_work::refused(q, r);
     }
     let ran = run_work::weights::resummed(r, z, weights, chain, sums, part);
     lists::fill(scratch, 0.0);

@@ -1,6 +1,6 @@
 -- `run_checks::ranks::first_bad_bond`: the invariant: all bonds before k passed both tests (both-found); the first that does not is found (passing).
 use borrow.Author.Needs.{needs}
-use Rattle.run_checks.proofs.Bonded.{both-found}
+use Rattle.run_checks.proofs.Guards.{both-found}
 use Rattle.lists.proofs.Demands.{Passed, passing}
 use mathlib.Core.Bool.{_&&_}
 use Prim.Native.Nat.{ℕ, _-_, _≤_}

@@ -1,6 +1,6 @@
 -- `run_checks::ranks::rank_ok`: by whether core k has a next one, as the definition asks (rank-bond, rank-end).
 use borrow.Author.Needs.{needs}
-use Rattle.run_checks.proofs.Bonded.{rank-bond, rank-end}
+use Rattle.runform.proofs.KeptRanks.{rank-bond, rank-end}
 use Rattle.run_checks.proofs.ranks.rank_ok.Statement.{statement}
 use Rattle.run_checks.proofs.ranks.rank_ok.Tie as tie
 

@@ -4,7 +4,7 @@ use mathlib.Core.Path.{sym}
 use native.Mathlib.Nat.{le-of-eq}
 use native.Mathlib.Omega.{arith}
 use Rattle.shape.proofs.Shaped.{shaped}
-use Rattle.run_checks.proofs.Bonded.{ranked-inside}
+use Rattle.run_work.proofs.Ranked.{ranked-inside}
 use Rattle.run_work.proofs.Placed.{sums-fit}
 use Rattle.run_work.proofs.Reweighed.{resum-stops, resum-ends}
 use Rattle.run_work.proofs.weights.resummed.Statement.{statement}

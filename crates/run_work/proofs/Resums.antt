@@ -20,10 +20,10 @@ use Rattle.cutform.specs.Keeping.{Stepped}
 use Rattle.sumform.specs.Product.{sumAxis}
 use Rattle.sumform.specs.Sums.{sumSize, sumsLeft, weighedIn, sumsFrom}
 use Rattle.stepform.specs.Zones.{rules}
-use Rattle.run_checks.specs.Ranks.{Ranked}
-use Rattle.run_checks.proofs.Bonded.{right-bond}
 use Rattle.runform.specs.Kept.{Inputs, Summed, heldCore, keptCore, sumsAt, weighedAt, weighedFrom}
 use Rattle.runform.specs.Work.{keepSums, sumZone, resum}
+use Rattle.runform.proofs.KeptRanks.{right-bond}
+use Rattle.run_work.specs.Ranked.{Ranked}
 
 -- a chain of the kept shape t stands where the run keeps it
 core-kept : (s : Shape) (h : Stepped) (t : Shape) → Ranked s (h .bonds) t (s .d) → (k : ℕ) → k < s .d → standing s t (h .chain) k ≡ keptCore s h k

@@ -1,10 +1,10 @@
--- `run_checks::ranks::kept_shape`: the invariant (Ranked): the cores before k have their kept ranks (ranked-none, ranked-more, ranked-all).
+-- `run_work::kept::kept_shape`: the invariant (Ranked): the cores before k have their kept ranks (ranked-none, ranked-more, ranked-all).
 use borrow.Author.Needs.{needs}
-use Rattle.run_checks.proofs.Bonded.{ranked-none, ranked-more, ranked-all}
+use Rattle.run_work.proofs.Ranked.{ranked-none, ranked-more, ranked-all}
 use Prim.Native.Nat.{_-_, _≤_}
-use Rattle.run_checks.specs.Ranks.{Ranked}
-use Rattle.run_checks.proofs.ranks.kept_shape.Statement.{statement}
-use Rattle.run_checks.proofs.ranks.kept_shape.Tie as tie
+use Rattle.run_work.specs.Ranked.{Ranked}
+use Rattle.run_work.proofs.kept.kept_shape.Statement.{statement}
+use Rattle.run_work.proofs.kept.kept_shape.Tie as tie
 
 ruleset ways = (needs, ranked-none, ranked-more, ranked-all)
 

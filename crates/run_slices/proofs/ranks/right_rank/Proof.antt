@@ -1,8 +1,8 @@
--- `run_checks::ranks::right_rank`: by whether core k has a next one, as the definition asks (right-bond, right-end).
+-- `run_slices::ranks::right_rank`: by whether core k has a next one, as the definition asks (right-bond, right-end).
 use borrow.Author.Needs.{needs}
-use Rattle.run_checks.proofs.Bonded.{right-bond, right-end}
-use Rattle.run_checks.proofs.ranks.right_rank.Statement.{statement}
-use Rattle.run_checks.proofs.ranks.right_rank.Tie as tie
+use Rattle.runform.proofs.KeptRanks.{right-bond, right-end}
+use Rattle.run_slices.proofs.ranks.right_rank.Statement.{statement}
+use Rattle.run_slices.proofs.ranks.right_rank.Tie as tie
 
 ruleset ways = (needs, right-bond, right-end)
 
