@@ -8,5 +8,7 @@ pub mod Ranked
 pub mod Made
 pub mod Cuts
 pub mod BondSlots
+-- which refusals come in the work
+pub mod Late
 -- its counts
 pub mod CountedCall

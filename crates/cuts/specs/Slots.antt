@@ -3,10 +3,11 @@ use mathlib.Core.Path.{_≡_}
 use Prim.Native.Nat.{ℕ, zero, suc, _+_, _-_, _≤_, _<_}
 use mathlib.Core.List.{List}
 use lib.Dec.{ltb}
-use lib.ListN.{length, getD}
+use lib.ListN.{length, getD, replicate}
 use lib.Ieee.{Float}
 use Rattle.numbers.specs.Arithmetic.{zero64}
 use Rattle.answers.specs.declared.Verdict.{Verdict}
+use Rattle.answers.specs.declared.Verdict.the-variants.{Fits}
 use Rattle.answers.specs.Outcome.{Answer, done, bind, answered}
 use Rattle.lists.specs.Slots.{offset, slot, put, fit}
 use Rattle.shape.specs.declared.Shape.{Shape}
@@ -22,6 +23,10 @@ use Rattle.cutform.specs.declared.Cutting.{Cutting}
 use Rattle.cutform.specs.Bonds.{noBond}
 use Rattle.cutform.specs.Rounding.{Carry, Cut, roundCore, numbersIn}
 use Rattle.cutform.specs.Keeping.{bondSize, carrySize, Stepped, rankAt, carryLeft}
+
+-- a chain before any of its bonds is cut
+abbrev pub unrounded : Shape → Walked
+unrounded s = record { verdict = Fits; shape = s; bonds = replicate mostAxes noBond }
 
 -- ---- zone after zone
 -- what zone k leaves, in its slots

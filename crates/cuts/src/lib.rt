@@ -12,7 +12,7 @@ ghost use Rattle.lists.specs.Slots.{offset};
 ghost use Rattle.shape.specs.Limits.{mostAxes, mostCore};
 ghost use Rattle.shape.specs.Sizes.{SizesWithin, Inside};
 ghost use Rattle.cutform.specs.Keeping.{carrySize, roundFrom};
-ghost use Rattle.cuts.specs.Slots.{held, heldBy, placesOf, rankLeft, AtZone, Ready, ZoneCut};
+ghost use Rattle.cuts.specs.Slots.{unrounded, held, heldBy, placesOf, rankLeft, AtZone, Ready, ZoneCut};
 
 // How many numbers the slot of bond k's carry has; right of the last core there is none.
 pub fn carry_size(s: shape::Shape, k: usize) -> usize
@@ -44,6 +44,18 @@ pub struct Walked {
     pub verdict: answers::Verdict,
     pub shape: shape::Shape,
     pub bonds: [cutform::Bond; shape::MOST_AXES],
+}
+
+// A chain before any of its bonds is cut.
+pub fn unrounded(s: shape::Shape) -> Walked
+    ensures { λ w. ⌜ w ≡ unrounded s ⌝ }
+{
+    let none = bond::no_bond();
+    Walked {
+        verdict: answers::Verdict::Fits,
+        shape: s,
+        bonds: [none; shape::MOST_AXES],
+    }
 }
 
 // The rank on the left of zone k.

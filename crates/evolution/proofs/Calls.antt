@@ -33,7 +33,7 @@ use Rattle.stepform.specs.Call.{settingsOk, stepOk, stepOver, settingsFor, evol
 use Rattle.steps.specs.Held.{Came}
 use Rattle.evolution.specs.Held.{Finished, Answers}
 use Rattle.steps.proofs.Asked.{not-fits}
-use Rattle.steps.proofs.Late.{late-steps}
+use Rattle.stepform.proofs.Late.{late-steps}
 use Rattle.evolution.proofs.Ends.{finished-is, over-stops, over-goes, over-passed}
 
 pub came-inside : (T : Answer (List (Carry × Cut))) (s t : Shape) (v : Verdict) (u : Shape) (bonds : List Bond) (w : List Float) → Came T s t v u bonds w

@@ -10,25 +10,22 @@ use lib.ListN.{length, take, drop, getD, replicate, length-map, length-replicate
 use lib.Seq.{take-all, take-at, drop-at, length-take-le}
 use lib.Ieee.{Float}
 use Rattle.numbers.specs.Arithmetic.{zero64}
-use Rattle.answers.specs.declared.Part.the-variants.{Spectrum, Factor}
 use Rattle.answers.specs.declared.Refusal.{Refusal}
 use Rattle.answers.specs.declared.Refusal.the-variants.{Length, Number, Setting}
 use Rattle.answers.specs.declared.Verdict.{Verdict}
 use Rattle.answers.specs.declared.Verdict.the-variants.{Fits, Refused}
 use Rattle.answers.specs.Outcome.{Answer, Check, done, refused, bind, answered, _then_, verdictOf}
-use Rattle.answers.specs.Table.{Late}
 use Rattle.answers.proofs.Checks.{verdict-passed, verdict-refused, then-is}
-use Rattle.answers.proofs.Late.{Early, early-demand, early-then, late-done, late-bind, late-then, early-each}
+use Rattle.answers.proofs.Late.{Early, early-demand, early-then, early-each}
 use Rattle.answers.proofs.Outcomes.{bind-done, done-inj, done-refused, refused-inj}
 use Rattle.lists.specs.Lists.{listed, tab, flat, pick, joined}
 use Rattle.lists.specs.Slots.{offset, slot, fit, laid, write}
 use Rattle.lists.specs.Walks.{walk}
-use Rattle.lists.specs.Floats.{zeros, stored}
+use Rattle.lists.specs.Floats.{zeros}
 use Rattle.lists.proofs.Tables.{listed-same, listed-length, getD-tab}
 use Rattle.lists.proofs.Slots.{slot-before, slot-length, offset-mono, laid-length, fit-whole, fit-used}
 use Rattle.lists.proofs.Written.{written-slot}
 use Rattle.lists.proofs.Asked.{lengths-say}
-use Rattle.lists.proofs.Late.{late-walk}
 use Rattle.lists.proofs.Walks.{All, all-at, listed-all, walk-all, walk-length}
 use Rattle.shape.specs.declared.Shape.{Shape}
 use Rattle.shape.specs.Limits.{mostAxes, mostRank, scratchFor}
@@ -40,23 +37,20 @@ use Rattle.shape.proofs.Ranks.{reshaped-count}
 use Rattle.shape.proofs.Insides.{inside-itself, inside-size}
 use Rattle.shape.proofs.Shaped.{Shaped}
 use Rattle.shape.proofs.Packing.{Fitting, cut-pack}
-use Rattle.cutform.specs.Rotation.{eye}
-use Rattle.cutform.specs.Sweeps.{eig, diagonalized}
-use Rattle.cutform.specs.Values.{singulars, order, sorted, keptRank}
-use Rattle.cutform.specs.Factors.{leftFactor, carryOf}
 use Rattle.cutform.specs.declared.Cutting.{Cutting}
-use Rattle.cutform.specs.Bonds.{gram, noBond, cutBond, absorb}
+use Rattle.cutform.specs.Bonds.{noBond, cutBond}
 use Rattle.cutform.specs.declared.Rounded.{Rounded}
 use Rattle.cuts.specs.declared.Walked.{Walked}
 use Rattle.cutform.specs.Rounding.{Carry, none, some, Cut, takenIn, cutIf, roundCore, rounding, coresIn, bondsIn}
 use Rattle.cutform.specs.Keeping.{bondSize, Stepped, keepStep, carryLeft, roundFrom}
 use Rattle.cutform.specs.Call.{Ended, scratchAfter, endedBy, lengthsOk, roundFinite, roundOk, roundCall}
-use Rattle.cuts.specs.Slots.{AtZone, heldBy}
-use Rattle.rounding.specs.Slots.{unrounded, finished}
+use Rattle.cuts.specs.Slots.{unrounded, AtZone, heldBy}
+use Rattle.rounding.specs.Slots.{finished}
 use Rattle.rounding.specs.Left.{leftBy}
 use Rattle.cutform.proofs.BondSlots.{carries-most}
 use Rattle.cuts.proofs.From.{bonds-most, at-start}
 use Rattle.rounding.proofs.Chains.{packed-is}
+use Rattle.cutform.proofs.Late.{late-rounding}
 use Rattle.cutform.proofs.Cuts.{volume, round-of}
 
 -- ---- what stands in the work before any turn is the chain
@@ -76,32 +70,6 @@ module _ (cutting : Cutting) (s : Shape) (l work : List Float) (long : length l 
       ∙ ap (λ (cs : List Core). walk (λ (k : ℕ). roundCore cutting (ltb (suc k) (s .d)) k) 0 none cs) (listed-same (s .d) 0 (coreAt s l) (standing s s work) (λ k a b. standing-source k (omega arith)))
       ∙ ap (λ (n : ℕ). walk (λ (k : ℕ). roundCore cutting (ltb (suc k) (s .d)) k) 0 none (listed n 0 (standing s s work))) (sym (sub-zero (s .d)))
       ∙ ap (λ (x : List Float). walk (λ (k : ℕ). roundCore cutting (ltb (suc k) (s .d)) k) 0 none (listed (s .d - 0) 0 (standing s s x))) (sym e)
-
--- ---- a rounding refuses by its work alone
-late-bond : (k : ℕ) (cutting : Cutting) (c : Core) → Late (cutBond k cutting c)
-unfolding cutBond
-late-bond k cutting c =
-    late-then Spectrum k (stored (gram c)) _ (λ g.
-    late-then Spectrum k (diagonalized (c .rr) (eig g (eye (c .rr)))) _ (λ w.
-    late-then Spectrum k (stored (singulars (c .rr) (w .eig .g))) _ (λ sv.
-    let js = order (c .rr) sv in
-    let ss = sorted (c .rr) sv in
-    let r = keptRank (cutting .eps) (c .rr) ss in
-    late-then Factor k (stored (leftFactor c r ss js (w .eig .v))) _ (λ u.
-    late-then Factor k (stored (carryOf (c .rr) r ss js (w .eig .v))) _ (λ b.
-    late-done _)))))
-
-late-cut : (more : Bool) (k : ℕ) (cutting : Cutting) (c : Core) → Late (cutIf more k cutting c)
-late-cut false k cutting c = late-done (none, record { core = c; bonds = [] })
-late-cut true k cutting c = late-bind (cutBond k cutting c) _ (late-bond k cutting c) (λ b. late-done _)
-
-late-taken : (k : ℕ) (s : Carry) (c : Core) → Late (takenIn k s c)
-late-taken k none c = late-done c
-late-taken k (some n b) c = late-then Factor k (stored (absorb n b c)) _ (λ l. late-done _)
-
-pub late-rounding : (cutting : Cutting) (d k : ℕ) (s : Carry) (cs : List Core) → Late (walk (λ (k : ℕ). roundCore cutting (ltb (suc k) d) k) k s cs)
-unfolding roundCore
-late-rounding cutting d k s cs = late-walk (λ (k : ℕ). roundCore cutting (ltb (suc k) d) k) (λ k s c. late-bind (takenIn k s c) _ (late-taken k s c) (λ t. late-cut (ltb (suc k) d) k cutting t)) k s cs
 
 all-map : {R : Type 0} {P Q : ℕ → R → Type 0} → ((j : ℕ) (r : R) → P j r → Q j r) → (k : ℕ) (rs : List R) → All P k rs → All Q k rs
 all-map f k [] a = tt

@@ -1,4 +1,4 @@
--- A whole chain before its rounding, and the end of the call. Definitions for code only.
+-- The end of the call. Definitions for code only.
 use Prim.Native.Nat.{ℕ}
 use mathlib.Core.List.{List}
 use lib.ListN.{length, take, replicate}
@@ -15,10 +15,6 @@ use Rattle.shape.specs.Shapes.{coreSize}
 use Rattle.cutform.specs.Bonds.{noBond}
 use Rattle.cuts.specs.declared.Walked.{Walked}
 use Rattle.cutform.specs.Call.{Ended}
-
--- a chain before any of its bonds is cut
-abbrev pub unrounded : Shape → Walked
-unrounded s = record { verdict = Fits; shape = s; bonds = replicate mostAxes noBond }
 
 -- the end of a call, by what its rounding came to
 abbrev pub finishedBy : Verdict → Shape → Walked → List Float → List Float → Ended

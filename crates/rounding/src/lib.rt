@@ -13,7 +13,7 @@ ghost use Rattle.shape.specs.Cores.{coresOf};
 ghost use Rattle.cutform.specs.Bonds.{noBond};
 ghost use Rattle.cutform.specs.Rounding.{rounding};
 ghost use Rattle.cutform.specs.Call.{endedBy, roundCall};
-ghost use Rattle.rounding.specs.Slots.{unrounded, finished};
+ghost use Rattle.rounding.specs.Slots.{finished};
 use cutform::Rounded;
 
 // A refusal leaves the shape as it was and says nothing of any bond.
@@ -23,18 +23,6 @@ pub fn refused_rounding(r: answers::Refusal, s: shape::Shape) -> Rounded
     let none = bond::no_bond();
     Rounded {
         verdict: answers::Verdict::Refused(r),
-        shape: s,
-        bonds: [none; shape::MOST_AXES],
-    }
-}
-
-// A chain before any of its bonds is cut.
-pub fn unrounded(s: shape::Shape) -> cuts::Walked
-    ensures { λ w. ⌜ w ≡ unrounded s ⌝ }
-{
-    let none = bond::no_bond();
-    cuts::Walked {
-        verdict: answers::Verdict::Fits,
         shape: s,
         bonds: [none; shape::MOST_AXES],
     }
@@ -95,7 +83,7 @@ fn round_all(
     let w = cuts::round_from(
         0,
         s,
-        unrounded(s),
+        cuts::unrounded(s),
         cutting,
         scratch,
         &mut carries,

@@ -6,7 +6,6 @@ pub mod Ranked
 pub mod Resums
 pub mod Work
 -- a run's own work by that of the memory that a call works in
-pub mod Late
 pub mod Over
 -- what goes where, and the end
 pub mod Placed

@@ -7,25 +7,19 @@ use mathlib.Core.List.{List, _++_, map}
 use lib.ListN.{length, take, drop, take-append-drop}
 use lib.Ieee.{Float}
 use Rattle.numbers.specs.Arithmetic.{zero64}
-use Rattle.answers.specs.declared.Part.the-variants.{Sum}
 use Rattle.answers.specs.declared.Refusal.{Refusal}
 use Rattle.answers.specs.declared.Verdict.{Verdict}
 use Rattle.answers.specs.declared.Verdict.the-variants.{Fits, Refused}
 use Rattle.answers.specs.Outcome.{Answer, done, refused, bind, answered}
-use Rattle.answers.specs.Table.{Late}
-use Rattle.answers.proofs.Late.{late-done, late-making, late-bind}
 use Rattle.answers.proofs.Outcomes.{bind-assoc, bind-done, done-inj}
 use Rattle.lists.specs.Lists.{pick, listed}
 use Rattle.lists.specs.Slots.{offset, put}
 use Rattle.lists.specs.Walks.{walk}
-use Rattle.lists.specs.Floats.{at, zeros, stored}
+use Rattle.lists.specs.Floats.{at, zeros}
 use Rattle.lists.proofs.Slots.{offset-mono, write-before}
-use Rattle.lists.proofs.Late.{late-walk}
 use Rattle.shape.specs.declared.Shape.{Shape}
 use Rattle.shape.specs.Shapes.{leftOf, pointSize}
-use Rattle.shape.specs.Cores.{Core}
-use Rattle.sumform.specs.Contract.{contract}
-use Rattle.sumform.specs.Product.{contractAt, sumAxis}
+use Rattle.sumform.specs.Product.{sumAxis}
 use Rattle.cutform.specs.Call.{scratchAfter}
 use Rattle.sumform.specs.Sums.{sumSize, sumsLeft, weighedIn, sumsFrom}
 use Rattle.stepform.specs.Zones.{rules}
@@ -37,19 +31,11 @@ use Rattle.runform.specs.Kept.{Summed, Kept, running, keptOf}
 use Rattle.runform.specs.Work.{sumFrom}
 use Rattle.runform.specs.Requests.{newWeights, present}
 use Rattle.runform.specs.Call.{RunEnd, runEnd}
+use Rattle.runform.proofs.Late.{late-sums}
 use Rattle.run_work.proofs.Resums.{resum-is}
 use Rattle.run_work.specs.Weights.{weightsEnd}
 
--- ---- sums are refused with 9 alone
-late-axis : (k : ℕ) (eta : List Float) (p : Core × List Float) → Late (sumAxis k eta p)
-unfolding sumAxis contractAt
-late-axis k eta p = late-bind _ _ (late-making Sum k (stored (contract (p .0) (p .1) eta))) (λ e. late-done (e, tt))
-
 module _ (s t : Shape) (work weights : List Float) (z : ℕ) (sums : List Float) where
-  pub late-sums : Late (sumsFrom s t work weights z sums)
-  unfolding sumsFrom
-  late-sums = late-bind _ _ (late-walk sumAxis late-axis z (sumsLeft s (leftOf t z) sums z) (listed (s .d - z) z (weighedIn s t work weights))) (λ tr. late-done _)
-
   -- what stands before zone z is as it was
   pub sums-before : (p : List Float) → sumsFrom s t work weights z sums ≡ done p → z ≤ s .d → offset (sumSize s) (s .d) ≤ length sums → take (offset (sumSize s) z) p ≡ take (offset (sumSize s) z) sums
   unfolding sumsFrom
@@ -82,17 +68,19 @@ module _ (r : Run) (z : ℕ) (weights chain sums part : List Float) (t : Shape) 
   abbrev end : RunEnd
   end = weightsEnd r z (slices source weights chain carries sums) part scratch
 
+  summed : sumFrom rules anew z ≡ bind (answered v p) (λ l. done (running (anew .inputs) (anew .stepped) (summedAs (r .shape) l)))
+  summed = sum-from-is anew t R z lt ∙ ap (λ (o : Answer (List Float)). bind o (λ l. done (running (anew .inputs) (anew .stepped) (summedAs (r .shape) l)))) e
+
   opened : end ≡ runEnd before scratch (bind (answered v p) (λ l. done (running (anew .inputs) (anew .stepped) (summedAs (r .shape) l))))
   unfolding weightsEnd
-  opened =
-      ap (runEnd before scratch) (sum-from-is anew t R z lt ∙ ap (λ (o : Answer (List Float)). bind o (λ l. done (running (anew .inputs) (anew .stepped) (summedAs (r .shape) l)))) e)
+  opened = ap (runEnd before scratch) summed
 
   pub resum-stops : (q : Refusal) → v ≡ Refused q → (a : Ran) → a ≡ record { verdict = Refused q; run = r }
       → record { result = a; slices = slices source weights chain carries sums; scratch = zeros (length scratch) } ≡ end
   unfolding runEnd scratchAfter answered pick
   resum-stops q h a f =
-      let o : sumsFrom (r .shape) t chain (put (pointSize (r .shape)) z part weights) z sums ≡ refused q = e ∙ ap (λ (w : Verdict). answered w p) h in
-      let b = late-sums (r .shape) t chain (put (pointSize (r .shape)) z part weights) z sums q o in
+      let o : sumFrom rules anew z ≡ refused q = summed ∙ ap (λ (w : Verdict). bind (answered w p) (λ l. done (running (anew .inputs) (anew .stepped) (summedAs (r .shape) l)))) h in
+      let b = late-sums anew z q o in
       ap (λ (x : Ran). record { result = x; slices = slices source weights chain carries sums; scratch = zeros (length scratch) }) f
       ∙ sym
       (opened

@@ -23,6 +23,8 @@ pub mod Lending
 pub mod Demand3
 pub mod NotInOrder
 pub mod OnePage
+-- which refusals come in the work
+pub mod Late
 -- small runs, computed
 pub mod Computed
 -- the counts of sweeps

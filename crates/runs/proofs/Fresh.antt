@@ -34,7 +34,7 @@ use Rattle.runform.specs.Kept.{Inputs, Summed, Kept, running, inputsOf, keptOf,
 use Rattle.runform.specs.Work.{keepSums, sumZone, restep, resum, sumFrom, workFrom}
 use Rattle.runform.specs.Checks.{scratchLent, madeOk, freshOk, freshRun}
 use Rattle.runform.specs.Call.{runEnd, roomLent, freshBy, freshCall}
-use Rattle.run_work.proofs.Late.{late-work}
+use Rattle.runform.proofs.Late.{late-work}
 use Rattle.run_work.specs.Renewed.{SourcesFrom, RenewAsks, Renewed}
 use Rattle.runs.proofs.Replaced.{early-lent}
 use Rattle.runs.proofs.Ends.{checks-stop, checks-pass, ran-is, end-same, end-refused, end-done}

@@ -21,7 +21,7 @@ use Rattle.runform.specs.Work.{workFrom}
 use Rattle.runform.specs.Requests.{newCore, newAxis, replaceOk}
 use Rattle.runform.specs.Call.{replaceCoreCall, replaceAxisCall}
 use Rattle.runform.specs.Checks.{scratchLent}
-use Rattle.run_work.proofs.Late.{late-work}
+use Rattle.runform.proofs.Late.{late-work}
 use Rattle.run_work.specs.Renewed.{SourcesFrom, Renewed}
 use Rattle.runs.specs.Ended.{axisRun}
 use Rattle.runs.proofs.Ends.{ran-is, end-same, end-refused, end-done}

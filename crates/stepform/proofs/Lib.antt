@@ -2,5 +2,7 @@
 pub mod Still
 pub mod Examples
 pub mod Restart
+-- which refusals come in the work
+pub mod Late
 pub mod Rounds
 pub mod CountedSteps

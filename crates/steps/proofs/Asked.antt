@@ -18,14 +18,13 @@ use Rattle.shape.proofs.Shaped.{Shaped, shaped}
 use Rattle.stepform.specs.declared.Axis.{Axis}
 use Rattle.cuts.specs.declared.Walked.{Walked}
 use Rattle.cutform.specs.Keeping.{Stepped}
-use Rattle.cuts.specs.Slots.{AtZone, heldBy}
+use Rattle.cuts.specs.Slots.{unrounded, AtZone, heldBy}
 use Rattle.cuts.proofs.From.{at-start}
 use Rattle.cutform.proofs.BondSlots.{carries-most}
 use Rattle.stepform.specs.declared.Settings.{Settings}
 use Rattle.stepform.specs.Steps.{step}
 use Rattle.stepform.specs.Call.{axisReaches}
 use Rattle.checks.specs.Over.{Stands, Rooms, standFrom}
-use Rattle.rounding.specs.Slots.{unrounded}
 use Rattle.steps.specs.Held.{stepHeld, Came, Placed, Ready}
 use Rattle.steps.proofs.Steps.{with, moves, held-stops, came-of}
 

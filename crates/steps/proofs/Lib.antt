@@ -10,4 +10,3 @@ pub mod Steps
 pub mod Evolves
 pub mod Asked
 pub mod Taken
-pub mod Late

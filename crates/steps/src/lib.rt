@@ -74,7 +74,7 @@ fn one_step(
     step_from(
         0,
         s,
-        rounding::unrounded(t),
+        cuts::unrounded(t),
         set,
         xs,
         work,

@@ -14,9 +14,9 @@ use Rattle.sumform.specs.Product.{contractAt}
 use Rattle.cutform.specs.Keeping.{keepStep}
 use Rattle.stepform.specs.Zones.{rules}
 use Rattle.stepform.specs.Steps.{stepFrom}
-use Rattle.steps.proofs.Late.{late-from}
+use Rattle.stepform.proofs.Late.{late-from}
 use Rattle.runform.specs.Kept.{Kept, running, zonesFrom, carryAt, sumsAt, weighedFrom}
 use Rattle.runform.specs.Work.{keepSums, sumZone, restep, resum, sumFrom, workFrom}
 
 late-axis : (k : ℕ) (e : List Float) (p : Core × List Float) → Late (sumZone rules k e p)
 unfolding sumZone rules contractAt

@@ -1,7 +1,7 @@
 -- What `no_bond` answers stands at every place. Assumes nothing.
 use borrow.Author.Needs.{needs}
-use Rattle.rounding.proofs.unrounded.Statement.{statement}
-use Rattle.rounding.proofs.unrounded.Tie as tie
+use Rattle.cuts.proofs.unrounded.Statement.{statement}
+use Rattle.cuts.proofs.unrounded.Tie as tie
 
 returns : tie.Need-returns
 returns c = rw (c .no-bond .ensures)

@@ -12,15 +12,15 @@ use Rattle.lists.specs.Floats.{stored}
 use Rattle.lists.specs.Walks.{every}
 use Rattle.lists.proofs.Late.{late-every}
 use Rattle.shape.specs.Cores.{Core}
 use Rattle.stepform.specs.declared.Axis.{Axis}
 use Rattle.stepform.specs.declared.Shift.{Shift}
 use Rattle.stepform.specs.declared.Shift.the-variants.{Stay, By}
 use Rattle.stepform.specs.Shifts.{shiftOf, shifted, moveCore, scaled}
 use Rattle.cutform.specs.Rounding.{Carry, none, coresIn}
-use Rattle.rounding.proofs.Ends.{late-rounding}
+use Rattle.cutform.proofs.Late.{late-rounding}
 use Rattle.stepform.specs.declared.Settings.{Settings}
 use Rattle.stepform.specs.Zones.{Zone, zonesOf, rules}
 use Rattle.stepform.specs.Steps.{holding, shiftZone, scaleZone, roundZone, stepFrom, step, stepsAndOne}
 
 -- ---- one core
 late-move : (k : ℕ) (s : Shift) (c : Core) → Late (moveCore k s c)
