@@ -312,3 +312,16 @@ module _ {A : Type 0} (size : ℕ → ℕ) where
         (take-at (laid size o 0 xs) l (offset size (length xs)) laid-whole ∙ sym (take-at (laid size o 0 xs) (drop (offset size (length xs)) []) (offset size (length xs)) laid-whole))
         ∙ write-slot size o (length xs) xs [] k refl lt
         ∙ take-at (getD xs k []) (replicate (size k) o) (size k) (fits k lt)
+
+-- what is filled with o and then written over at its front is fitted
+pub filled-front : {A : Type 0} (o : A) (e n : ℕ) (x y u : List A) → e ≤ length x → e ≤ n → u ≡ replicate n o → y ≡ take (e - 0) x → y ++ drop (e - 0) u ≡ fit o n (take e x)
+filled-front {A} o e n x y u h g eu ey =
+    let z : e - 0 ≡ e = omega arith in
+    let long : length (take e x) ≡ e = length-take-le e x h in
+    let d : drop e (replicate n o) ≡ replicate (n - length (take e x)) o = rw long dropped in
+    rw (ey, eu, z, d) (sym (fit-whole o n (take e x) (omega arith)))
+  where
+    dropped : drop e (replicate n o) ≡ replicate (n - e) o
+    dropped =
+        let m : n ≡ e + (n - e) = omega arith in
+        ap (λ (k : ℕ). drop e (replicate k o)) m ∙ ap (drop e) (sym (replicate-append-replicate e (n - e) o)) ∙ drop-at (replicate e o) (replicate (n - e) o) e (length-replicate e o)

@@ -3,9 +3,11 @@ ghost use mathlib.Core.Path.{_≡_};
 ghost use mathlib.Core.Bool.{true};
 ghost use Prim.Native.Nat.{ℕ, _+_, _*_, _≤_, _<_};
 ghost use Rattle.numbers.specs.Finite.{finite};
-ghost use lib.ListN.{length, replicate};
+ghost use Rattle.numbers.specs.Arithmetic.{zero64};
+ghost use lib.ListN.{length, take, replicate};
 ghost use Rattle.answers.specs.Outcome.{stageOf};
 ghost use Rattle.lists.specs.Floats.{at, sumTo, allFinite, firstNotFinite, stored};
+ghost use Rattle.lists.specs.Slots.{fit};
 ghost use Rattle.lists.specs.Strips.{stripWidth, storedFrom};
 
 // Every number of s becomes v.
@@ -29,6 +31,15 @@ pub fn copy(s: &[f64], d: &mut [f64])
         d[i] = s[i];
         i += 1;
     }
+}
+
+// The first n numbers of s stand at the front of d, +0 behind them.
+pub fn fit(s: &[f64], n: usize, d: &mut [f64])
+    requires { ⌜ (n ≤ length (now s)) × (n ≤ length (now d)) ⌝ }
+    ensures { λ _. ⌜ now (d .exit) ≡ fit zero64 (length (now (d .entry))) (take n (now (s .entry))) ⌝ }
+{
+    fill(d, 0.0);
+    copy(&s[0..n], &mut d[0..n]);
 }
 
 // Eight sums.

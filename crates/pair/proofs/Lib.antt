@@ -13,5 +13,4 @@ pub mod Checked
 pub mod Calls
 -- for the code: checks, the outputs, the end
 pub mod Verdicts
-pub mod Fronts
 pub mod Ended

@@ -8,9 +8,7 @@ pub mod split;
 ghost use mathlib.Core.Path.{_≡_};
 ghost use Prim.Native.Nat.{_*_, _≤_};
 ghost use lib.ListN.{length, take};
-ghost use Rattle.numbers.specs.Arithmetic.{zero64};
 ghost use Rattle.answers.specs.Outcome.{done, answered};
-ghost use Rattle.lists.specs.Slots.{fit};
 ghost use Rattle.shape.specs.Limits.{mostRank, mostLines};
 ghost use Rattle.shape.specs.Cores.{coreWith};
 ghost use Rattle.pairform.specs.Splits.{pairOf};
@@ -48,15 +46,6 @@ fn pair_of(
     parts::split(eps, m, n, a, x, y)
 }
 
-// The first e numbers of x stand at the front of out, +0 behind them.
-fn put(x: &[f64], e: usize, out: &mut [f64])
-    requires { ⌜ (e ≤ length (now x)) × (e ≤ length (now out)) ⌝ }
-    ensures { λ _. ⌜ now (out .exit) ≡ fit zero64 (length (now (out .entry))) (take e (now (x .entry))) ⌝ }
-{
-    lists::fill(out, 0.0);
-    lists::copy(&x[0..e], &mut out[0..e]);
-}
-
 // The columns stand at the front of scratch. The outputs are written once nothing can refuse any more.
 fn pair_within(
     l: Sizes,
@@ -86,8 +75,8 @@ fn pair_within(
     if let answers::Verdict::Refused(q) = verdict {
         return split::refused_pair(q);
     }
-    put(&x, m * made.rank, lefts);
-    put(&y, made.rank * n, rights);
+    lists::fit(&x, m * made.rank, lefts);
+    lists::fit(&y, made.rank * n, rights);
     split::paired_as(answers::Verdict::Fits, made.rank, made.passes)
 }
 

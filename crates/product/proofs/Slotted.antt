@@ -1,10 +1,10 @@
 -- The sums of one axis in their slot, by what each call says. Assumes nothing.
 use mathlib.Core.Path.{_≡_, refl, sym, ap, _∙_, subst}
 use Prim.Native.Nat.{ℕ, zero, suc, _+_, _-_, _*_, _≤_, _<_, _^_}
-use native.Mathlib.Nat.{sub-zero, le-of-eq, mul-assoc}
+use native.Mathlib.Nat.{le-of-eq, mul-assoc}
 use native.Mathlib.Omega.{arith}
 use mathlib.Core.List.{List, [], _∷_, _++_}
-use lib.ListN.{length, take, drop, set, getD, replicate, length-drop}
+use lib.ListN.{length, take, drop, set, getD, length-drop}
 use lib.Seq.{length-take-le, take-take, take-at, drop-drop}
 use lib.Ieee.{Float}
 use mir.Syntax.{w64}
@@ -14,7 +14,7 @@ use Rattle.answers.specs.declared.Stage.{Stage}
 use Rattle.answers.specs.Outcome.{staged}
 use Rattle.lists.specs.Slots.{offset, slot, put, fit}
 use Rattle.lists.specs.Floats.{stored}
-use Rattle.lists.proofs.Slots.{offset-suc, offset-mono, fit-whole}
+use Rattle.lists.proofs.Slots.{offset-suc, offset-mono}
 use Rattle.shape.specs.declared.Shape.{Shape}
 use Rattle.shape.specs.Limits.{mostRank, mostSums}
 use Rattle.shape.specs.Shapes.{leftOf, pointsOf, rightOf, coreSize, pointSize}
@@ -95,22 +95,6 @@ module _ (s : Shape) (k r : ℕ) (sums eta : List Float) where
         ∙ left-read s r sums k l most
 
 -- ---- into the slot
-drop-zeros : (r n : ℕ) → drop r (replicate n zero64) ≡ replicate (n - r) zero64
-drop-zeros zero n = ap (λ (m : ℕ). replicate m zero64) (sym (sub-zero n))
-drop-zeros (suc r) zero = let e : 0 - suc r ≡ 0 = omega arith in ap (λ (m : ℕ). replicate m zero64) (sym e)
-drop-zeros (suc r) (suc n) = let e : suc n - suc r ≡ n - r = omega arith in drop-zeros r n ∙ ap (λ (m : ℕ). replicate m zero64) (sym e)
-
-pub kept-is : (r : ℕ) (eta filled copied : List Float) (n : ℕ) → r ≤ length eta → r ≤ n → filled ≡ replicate n zero64 → copied ≡ take (r - 0) eta
-    → copied ++ drop (r - 0) filled ≡ fit zero64 n (take r eta)
-kept-is r eta filled copied n h g e f =
-    let l = length-take-le r eta h in
-    let m : n - r ≡ n - length (take r eta) = omega arith in
-    ap (λ (x : List Float). x ++ drop (r - 0) filled) (f ∙ ap (λ (i : ℕ). take i eta) (sub-zero r))
-    ∙ ap (λ (x : List Float). take r eta ++ drop (r - 0) x) e
-    ∙ ap (λ (i : ℕ). take r eta ++ drop i (replicate n zero64)) (sub-zero r)
-    ∙ ap (λ (x : List Float). take r eta ++ x) (drop-zeros r n ∙ ap (λ (i : ℕ). replicate i zero64) m)
-    ∙ sym (fit-whole zero64 n (take r eta) (omega arith))
-
 -- the slot of axis k, which was lent and came back as x
 module _ (s : Shape) (k : ℕ) (sums : List Float) (lt : k < s .d) (held : offset (sumSize s) (s .d) ≤ length sums) (at : ℕ) (e : at ≡ offset (sumSize s) k) where
   pub slot-ends : at + rightOf s k ≤ length sums

@@ -69,16 +69,7 @@ fn axis_sums(
     )
 }
 
-// The first r numbers of eta into a slot, +0 behind them.
-fn keep(eta: &[f64], r: usize, slot: &mut [f64])
-    requires { ⌜ (r ≤ length (now eta)) × (r ≤ length (now slot)) ⌝ }
-    ensures { λ _. ⌜ now (slot .exit) ≡ fit zero64 (length (now (slot .entry))) (take r (now (eta .entry))) ⌝ }
-{
-    lists::fill(slot, 0.0);
-    lists::copy(&eta[0..r], &mut slot[0..r]);
-}
-
-// The same for the slot of axis k.
+// The first r numbers of eta into the slot of axis k, +0 behind them.
 fn keep_sums(eta: &[f64], r: usize, k: usize, s: shape::Shape, sums: &mut [f64])
     requires { ⌜ SizesWithin s ⌝ }
     requires { ⌜ (k < s .d) × (offset (sumSize s) (s .d) ≤ length (now sums)) × (r ≤ length (now eta)) × (r ≤ rightOf s k) ⌝ }
@@ -86,7 +77,7 @@ fn keep_sums(eta: &[f64], r: usize, k: usize, s: shape::Shape, sums: &mut [f64])
 {
     let at = sum_offset(s, k);
     let end = at + s.right[k];
-    keep(eta, r, &mut sums[at..end]);
+    lists::fit(eta, r, &mut sums[at..end]);
 }
 
 // Axis k.

@@ -42,24 +42,24 @@ pair-of-requires c κs =
 returns : tie.Need-returns
 returns c = ended-refused _ _ _ _ _ _ (c .before .before .before .before .before .before .before .before .pair-of .ensures) _ (c .before .before .verdict .given .1) _ (c .refused-pair .ensures)
 
-mul-put : tie.Need-mul-put
-mul-put c =
+mul-fit : tie.Need-mul-fit
+mul-fit c =
     let at-19 = c .before .before .before .before .before .before .before .before .before .before .before .before .before .before .before .before .before .before .before in
     let start = at-19 .args in
     let ok = ready (start .l) (start .r) _ (start .left .now) (start .right .now) _ _ _ (at-19 .pre) in
     let k = rank-small _ _ _ _ _ (ok .lines .some) (c .before .before .before .before .before .before .before .before .pair-of .ensures) (c .before .before .enum-told .given .1) in
     two-fit _ _ (ok .lines .rows) (omega (arith, k))
 
-put-requires : tie.Need-put-requires
-put-requires c κs =
+fit-requires : tie.Need-fit-requires
+fit-requires c κs =
     let at-20 = c .before .before .before .before .before .before .before .before .before .before .before .before .before .before .before .before .before .before .before .before in
     let start = at-20 .args in
     let ok = ready (start .l) (start .r) _ (start .left .now) (start .right .now) _ _ _ (at-20 .pre) in
     let k = rank-small _ _ _ _ _ (ok .lines .some) (c .before .before .before .before .before .before .before .before .before .pair-of .ensures) (c .before .before .before .enum-told .given .1) in
     (omega (arith, mul-le-mul (ok .lines .rows) k), omega (arith, mul-le-mul-left (start .l .rl * start .l .n) k, ok .leftOut))
 
-mul-put-2 : tie.Need-mul-put-2
-mul-put-2 c =
+mul-fit-2 : tie.Need-mul-fit-2
+mul-fit-2 c =
     let at-14 = c .before .before .before .before .before .before .before .before .before .before .before .before .before .before in
     let at-25 = at-14 .before .before .before .before .before .before .before .before .before .before .before in
     let start = at-25 .args in
@@ -67,8 +67,8 @@ mul-put-2 c =
     let k = rank-small _ _ _ _ _ (ok .lines .some) (at-14 .pair-of .ensures) (c .before .before .before .before .before .before .before .before .enum-told .given .1) in
     two-fit _ _ (omega (arith, k)) (ok .lines .columns)
 
-put-requires-2 : tie.Need-put-requires-2
-put-requires-2 c κs =
+fit-requires-2 : tie.Need-fit-requires-2
+fit-requires-2 c κs =
     let start = c .before .before .before .before .before .before .before .before .before .before .before .before .before .before .before .before .before .before .before .before .before .before .before .before .before .before .args in
     let ok =
     ready (start .l) (start .r) _ (start .left .now) (start .right .now) _ _ _
@@ -83,7 +83,7 @@ returns-2 c =
     ended-made _ _ _ _ _ _ _ _ _ _ _ _ _
     (c .before .before .before .before .before .before .before .before .before .before .before .before .before .before .before .before .before .before .before
     .pair-of .ensures) (c .before .before .before .before .before .before .before .before .before .before .before .before .before .enum-told .given .1) _ _ _
-    (c .paired-as .ensures) (c .before .before .before .before .before .before .before .before .before .put .ensures) (c .before .before .before .put2 .ensures)
+    (c .paired-as .ensures) (c .before .before .before .before .before .before .before .before .before .fit .ensures) (c .before .before .before .fit2 .ensures)
 
 pub pair-within-spec : {M : Type 1} → statement M
 pair-within-spec = tie.close (tie.spec
@@ -102,11 +102,11 @@ pair-within-spec = tie.close (tie.spec
     returns
     (λ c. search needs)
     (λ c. search needs)
-    mul-put
-    put-requires
+    mul-fit
+    fit-requires
     (λ c. search needs)
-    mul-put-2
-    put-requires-2
+    mul-fit-2
+    fit-requires-2
     (λ c κs. search needs)
     (λ c. search needs)
     (λ c. search needs)

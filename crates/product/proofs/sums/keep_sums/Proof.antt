@@ -14,21 +14,21 @@ add-end c =
     let small : length (start .sums .now) * 8 < 2 ^ 63 = search needs in
     slot-end-fits (start .t4) (start .k) (start .sums .now) (at-4 .pre .1 .0) (at-4 .pre .1 .1) _ (c .before .sum-offset .ensures) small
 
-mul-keep : tie.Need-mul-keep
-mul-keep c =
+mul-fit : tie.Need-mul-fit
+mul-fit c =
     let at-4 = c .before .before .before .before in
     let start = c .before .before .before .before .args in
     let small : length (start .sums .now) * 8 < 2 ^ 63 = search needs in
     slot-start-fits (start .t4) (start .k) (start .sums .now) (at-4 .pre .1 .0) (at-4 .pre .1 .1) _ (c .before .sum-offset .ensures) small
 
-part-keep-end : tie.Need-part-keep-end
-part-keep-end c =
+part-fit-end : tie.Need-part-fit-end
+part-fit-end c =
     let at-4 = c .before .before .before .before in
     let start = c .before .before .before .before .args in
     slot-ends (start .t4) (start .k) (start .sums .now) (at-4 .pre .1 .0) (at-4 .pre .1 .1) _ (c .before .sum-offset .ensures)
 
-keep-requires : tie.Need-keep-requires
-keep-requires c κs =
+fit-requires : tie.Need-fit-requires
+fit-requires c κs =
     let at-5 = c .before .before .before .before .before in
     let start = c .before .before .before .before .before .args in (
       at-5 .pre .1 .2,
@@ -45,7 +45,7 @@ returns c =
     let at-8 = c .before .before .before .before .before .before .before .before in
     let start = c .before .before .before .before .before .before .before .before .args in
     slot-kept (start .t4) (start .k) (start .sums .now) (at-8 .pre .1 .0) (at-8 .pre .1 .1) _ (c .before .before .before .before .before .sum-offset .ensures) _
-    _ (c .before .before .keep .ensures)
+    _ (c .before .before .fit .ensures)
 
 pub keep-sums-spec : {M : Type 1} → statement M
 keep-sums-spec = tie.close (tie.spec
@@ -53,10 +53,10 @@ keep-sums-spec = tie.close (tie.spec
     (λ c. search needs)
     (λ c. search needs)
     add-end
-    mul-keep
+    mul-fit
     (λ c. search needs)
     (λ c. search needs)
-    part-keep-end
-    keep-requires
+    part-fit-end
+    fit-requires
     (λ c. search needs)
     returns)
