@@ -17,4 +17,4 @@ pub turn-strips-spec : {M : Type 1} → statement M
 turn-strips-spec =
     tie.close
     (tie.spec Inv-loop μ-loop (λ c. search ways) (λ c. search needs) (λ c. search needs) (λ c. search needs) (λ c. search needs)
-    (λ c κs. search needs) (λ c. search ways) (λ c. search ways) (λ c. search ways) (λ c. search ways) (λ c. search ways))
+    (λ c κs. search needs) (λ c. search needs) (λ c. search needs) (λ c. search ways) (λ c. search needs) (λ c. search ways))

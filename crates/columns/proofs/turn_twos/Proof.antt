@@ -17,4 +17,4 @@ pub turn-twos-spec : {M : Type 1} → statement M
 turn-twos-spec =
     tie.close
     (tie.spec Inv-loop μ-loop (λ c. search ways) (λ c. search needs) (λ c. search needs) (λ c. search needs) (λ c. search needs)
-    (λ c κs. search needs) (λ c. search ways) (λ c. search ways) (λ c. search ways) (λ c. search ways) (λ c. search ways))
+    (λ c κs. search needs) (λ c. search needs) (λ c. search needs) (λ c. search ways) (λ c. search needs) (λ c. search ways))
