@@ -1,6 +1,6 @@
 -- The shape of the chain that is kept, core by core; it stands within the source's. Assumes nothing.
 use mathlib.Core.Path.{_≡_, refl, sym, ap, _∙_, subst}
-use Prim.Native.Nat.{ℕ, _+_, _≤_, _<_}
+use Prim.Native.Nat.{ℕ, suc, _+_, _≤_, _<_}
 use native.Mathlib.Omega.{arith}
 use mathlib.Core.Bool.{Bool, true, false}
 use mathlib.Core.List.{List, []}
@@ -18,7 +18,7 @@ use Rattle.shape.proofs.Ranks.{left-other, right-other, left-here, right-here}
 use Rattle.cutform.specs.declared.Bond.{Bond}
 use Rattle.runform.specs.Kept.{leftHeld, rightHeld}
 use Rattle.runform.specs.Checks.{rankOk}
-use Rattle.runform.proofs.KeptRanks.{right-within, left-within}
+use Rattle.runform.proofs.KeptRanks.{right-bond, right-end, right-within, left-within}
 use Rattle.run_work.specs.Ranked.{Ranked}
 
 pub ranked-none : (s : Shape) (bonds : List Bond) → length (s .left) ≡ mostAxes → length (s .right) ≡ mostAxes → Ranked s bonds s 0
