@@ -16,7 +16,7 @@ use Rattle.shape.specs.Shapes.{chainOk, entriesOf}
 use Rattle.stepform.specs.Zones.{rules}
 use Rattle.stepform.specs.Call.{axisReaches}
 use Rattle.run_checks.proofs.Guards.{size-stops, size-passes}
-use Rattle.runform.specs.Slices.{Outputs, outputsInOrder}
+use Rattle.runform.specs.Slices.{Outputs, outputsInOrder, sliceCount}
 use Rattle.runform.specs.Kept.{Inputs}
 use Rattle.runform.specs.Checks.{slicesLent, inputsLent, outputsLent, scratchLent, inReachAt, madeOk, freshOk}
 use Rattle.runform.specs.Call.{roomLent}
@@ -45,38 +45,38 @@ module _ (i : Inputs) (m : Outputs ℕ) (n : ℕ) where
   abbrev numbers : Check
   numbers = madeOk i then shifts
 
-  fresh-row : Fresh ≡ chainOk s then Lent then scratchLent s 5 n then numbers
+  fresh-row : Fresh ≡ chainOk s then Lent then scratchLent s sliceCount n then numbers
   unfolding freshOk roomLent
   fresh-row =
       let all : demandEach Reach (inReachAt rules i) (s .d) 0 ≡ shifts = ap (λ (j : ℕ). demandEach Reach (inReachAt rules i) j 0) (sym (sub-zero (s .d))) in
       let parts : Lent ≡ inputsLent i then outputsLent s m = lent-parts 0 2 (length (i .source) ∷ length (i .weights) ∷ []) _ (outputsInOrder m) _ refl refl in
       ap (λ (o : Check). chainOk s then inputsLent i then roomLent s m n then madeOk i then o) all
-      ∙ row (chainOk s) (inputsLent i) (outputsLent s m) (scratchLent s 5 n) numbers
-      ∙ ap (λ (l : Check). chainOk s then l then scratchLent s 5 n then numbers) (sym parts)
+      ∙ row (chainOk s) (inputsLent i) (outputsLent s m) (scratchLent s sliceCount n) numbers
+      ∙ ap (λ (l : Check). chainOk s then l then scratchLent s sliceCount n then numbers) (sym parts)
 
   module _ (v : Verdict) (e : v ≡ verdictOf (chainOk s)) where
     pub shape-stops : (r : Refusal) → v ≡ Refused r → Refused r ≡ verdictOf Fresh
-    shape-stops r h = then-stops (chainOk s) (Lent then scratchLent s 5 n then numbers) v e r h ∙ ap verdictOf (sym fresh-row)
+    shape-stops r h = then-stops (chainOk s) (Lent then scratchLent s sliceCount n then numbers) v e r h ∙ ap verdictOf (sym fresh-row)
 
     module _ (h : v ≡ Fits) (w : Verdict) (f : w ≡ verdictOf Lent) where
-      past : (x : Verdict) → x ≡ verdictOf (Lent then scratchLent s 5 n then numbers) → x ≡ verdictOf Fresh
-      past x o = then-passes (chainOk s) (Lent then scratchLent s 5 n then numbers) v e x h o ∙ ap verdictOf (sym fresh-row)
+      past : (x : Verdict) → x ≡ verdictOf (Lent then scratchLent s sliceCount n then numbers) → x ≡ verdictOf Fresh
+      past x o = then-passes (chainOk s) (Lent then scratchLent s sliceCount n then numbers) v e x h o ∙ ap verdictOf (sym fresh-row)
 
       pub lent-stops : (r : Refusal) → w ≡ Refused r → Refused r ≡ verdictOf Fresh
-      lent-stops r g = past (Refused r) (then-stops Lent (scratchLent s 5 n then numbers) w f r g)
+      lent-stops r g = past (Refused r) (then-stops Lent (scratchLent s sliceCount n then numbers) w f r g)
 
       module _ (g : w ≡ Fits) (a : ℕ) (o : a ≡ scratchFor (entriesOf s)) where
-        further : (x : Verdict) → x ≡ verdictOf (scratchLent s 5 n then numbers) → x ≡ verdictOf Fresh
-        further x p = past x (then-passes Lent (scratchLent s 5 n then numbers) w f x g p)
+        further : (x : Verdict) → x ≡ verdictOf (scratchLent s sliceCount n then numbers) → x ≡ verdictOf Fresh
+        further x p = past x (then-passes Lent (scratchLent s sliceCount n then numbers) w f x g p)
 
-        pub scratch-stops : (n ≡ a → ⊥) → Refused (Length 5) ≡ verdictOf Fresh
+        pub scratch-stops : (n ≡ a → ⊥) → Refused (Length sliceCount) ≡ verdictOf Fresh
         unfolding scratchLent
-        scratch-stops q = further (Refused (Length 5)) (size-stops numbers (Length 5) n (scratchFor (entriesOf s)) a o q)
+        scratch-stops q = further (Refused (Length sliceCount)) (size-stops numbers (Length sliceCount) n (scratchFor (entriesOf s)) a o q)
 
         module _ (q : n ≡ a) (y : Verdict) (p : y ≡ verdictOf (madeOk i)) where
           onward : (x : Verdict) → x ≡ verdictOf numbers → x ≡ verdictOf Fresh
           unfolding scratchLent
-          onward x b = further x (size-passes numbers (Length 5) n (scratchFor (entriesOf s)) a o q x b)
+          onward x b = further x (size-passes numbers (Length sliceCount) n (scratchFor (entriesOf s)) a o q x b)
 
           pub numbers-stop : (r : Refusal) → y ≡ Refused r → Refused r ≡ verdictOf Fresh
           numbers-stop r h = onward (Refused r) (then-stops (madeOk i) shifts y p r h)

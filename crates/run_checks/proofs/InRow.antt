@@ -22,6 +22,7 @@ use Rattle.stepform.specs.declared.Axis.{Axis}
 use Rattle.stepform.specs.Zones.{Rules, rules}
 use Rattle.stepform.specs.Call.{axisReaches}
 use Rattle.run_checks.proofs.Guards.{size-stops, size-passes}
+use Rattle.runform.specs.Slices.{sliceCount, behindPart}
 use Rattle.runform.specs.Kept.{Kept, lengthsOf}
 use Rattle.runform.specs.Checks.{rankOk, slicesLent, scratchLent}
 use Rattle.runform.specs.Requests.{Request, newCore, newAxis, newWeights, zoneOf, partFits, foundOk, foundNumbers, numbersOk, replaceOk}
@@ -35,7 +36,7 @@ module _ (R : Rules) (room : Check) (k : Kept) (q : Request) where
   s = k .inputs .shape
 
   abbrev rest : Check
-  rest = demand (partFits s q) (Length 5) then room then numbersOk R k q
+  rest = demand (partFits s q) (Length sliceCount) then room then numbersOk R k q
 
   found-first : replaceOk R room k q ≡ foundOk k (zoneOf q) then rest
   unfolding replaceOk
@@ -70,28 +71,28 @@ module _ (R : Rules) (k : Kept) (z : ℕ) (ws : List Float) where
 
   module _ (n : ℕ) (v : Verdict) (e : v ≡ verdictOf (foundOk k z)) (h : v ≡ Fits) where
     abbrev Asks : Check
-    Asks = replaceOk R (scratchLent (k .inputs .shape) 6 n) k (newWeights z ws)
+    Asks = replaceOk R (scratchLent (k .inputs .shape) behindPart n) k (newWeights z ws)
 
     abbrev later : Check
-    later = scratchLent (k .inputs .shape) 6 n then numbersOk R k (newWeights z ws)
+    later = scratchLent (k .inputs .shape) behindPart n then numbersOk R k (newWeights z ws)
 
-    pub weights-wrong : (length ws ≡ pointsOf (k .inputs .shape) z → ⊥) → Refused (Length 5) ≡ verdictOf Asks
+    pub weights-wrong : (length ws ≡ pointsOf (k .inputs .shape) z → ⊥) → Refused (Length sliceCount) ≡ verdictOf Asks
     unfolding pointSize
-    weights-wrong f = found-goes R (scratchLent (k .inputs .shape) 6 n) k (newWeights z ws) v e h (Refused (Length 5)) (size-stops later (Length 5) (length ws) (pointSize (k .inputs .shape) z) (pointsOf (k .inputs .shape) z) refl f)
+    weights-wrong f = found-goes R (scratchLent (k .inputs .shape) behindPart n) k (newWeights z ws) v e h (Refused (Length sliceCount)) (size-stops later (Length sliceCount) (length ws) (pointSize (k .inputs .shape) z) (pointsOf (k .inputs .shape) z) refl f)
 
     module _ (f : length ws ≡ pointsOf (k .inputs .shape) z) (m : ℕ) (g : m ≡ scratchFor (entriesOf (k .inputs .shape))) where
       go : (w : Verdict) → w ≡ verdictOf later → w ≡ verdictOf Asks
       unfolding pointSize
-      go w o = found-goes R (scratchLent (k .inputs .shape) 6 n) k (newWeights z ws) v e h w (size-passes later (Length 5) (length ws) (pointSize (k .inputs .shape) z) (pointsOf (k .inputs .shape) z) refl f w o)
+      go w o = found-goes R (scratchLent (k .inputs .shape) behindPart n) k (newWeights z ws) v e h w (size-passes later (Length sliceCount) (length ws) (pointSize (k .inputs .shape) z) (pointsOf (k .inputs .shape) z) refl f w o)
 
-      pub weights-room : (n ≡ m → ⊥) → Refused (Length 6) ≡ verdictOf Asks
+      pub weights-room : (n ≡ m → ⊥) → Refused (Length behindPart) ≡ verdictOf Asks
       unfolding scratchLent
-      weights-room o = go (Refused (Length 6)) (size-stops (numbersOk R k (newWeights z ws)) (Length 6) n (scratchFor (entriesOf (k .inputs .shape))) m g o)
+      weights-room o = go (Refused (Length behindPart)) (size-stops (numbersOk R k (newWeights z ws)) (Length behindPart) n (scratchFor (entriesOf (k .inputs .shape))) m g o)
 
       pub weights-fit : n ≡ m → (part : Bool) → part ≡ allFinite ws → (w : Verdict) → w ≡ verdictOf (foundNumbers k z part true) → w ≡ verdictOf Asks
       unfolding scratchLent
       weights-fit o part p w y =
-          go w (size-passes (numbersOk R k (newWeights z ws)) (Length 6) n (scratchFor (entriesOf (k .inputs .shape))) m g o w
+          go w (size-passes (numbersOk R k (newWeights z ws)) (Length behindPart) n (scratchFor (entriesOf (k .inputs .shape))) m g o w
           (y ∙ ap (λ (b : Bool). verdictOf (foundNumbers k z b true)) p ∙ ap verdictOf (sym weights-numbers)))
 
 -- ---- a new core
@@ -101,27 +102,27 @@ module _ (k : Kept) (z : ℕ) (xs : List Float) where
 
   module _ (n : ℕ) (v : Verdict) (e : v ≡ verdictOf (foundOk k z)) (h : v ≡ Fits) (l : ℕ) (sz : l ≡ coreSize (k .inputs .shape) z) where
     abbrev CoreAsks : Check
-    CoreAsks = replaceOk rules (scratchLent (k .inputs .shape) 6 n) k (newCore z xs)
+    CoreAsks = replaceOk rules (scratchLent (k .inputs .shape) behindPart n) k (newCore z xs)
 
     abbrev behind : Check
-    behind = scratchLent (k .inputs .shape) 6 n then numbersOk rules k (newCore z xs)
+    behind = scratchLent (k .inputs .shape) behindPart n then numbersOk rules k (newCore z xs)
 
-    pub core-wrong : (length xs ≡ l → ⊥) → Refused (Length 5) ≡ verdictOf CoreAsks
-    core-wrong f = found-goes rules (scratchLent (k .inputs .shape) 6 n) k (newCore z xs) v e h (Refused (Length 5)) (size-stops behind (Length 5) (length xs) (coreSize (k .inputs .shape) z) l sz f)
+    pub core-wrong : (length xs ≡ l → ⊥) → Refused (Length sliceCount) ≡ verdictOf CoreAsks
+    core-wrong f = found-goes rules (scratchLent (k .inputs .shape) behindPart n) k (newCore z xs) v e h (Refused (Length sliceCount)) (size-stops behind (Length sliceCount) (length xs) (coreSize (k .inputs .shape) z) l sz f)
 
     module _ (f : length xs ≡ l) (m : ℕ) (g : m ≡ scratchFor (entriesOf (k .inputs .shape))) where
       past : (w : Verdict) → w ≡ verdictOf behind → w ≡ verdictOf CoreAsks
-      past w o = found-goes rules (scratchLent (k .inputs .shape) 6 n) k (newCore z xs) v e h w (size-passes behind (Length 5) (length xs) (coreSize (k .inputs .shape) z) l sz f w o)
+      past w o = found-goes rules (scratchLent (k .inputs .shape) behindPart n) k (newCore z xs) v e h w (size-passes behind (Length sliceCount) (length xs) (coreSize (k .inputs .shape) z) l sz f w o)
 
-      pub core-room : (n ≡ m → ⊥) → Refused (Length 6) ≡ verdictOf CoreAsks
+      pub core-room : (n ≡ m → ⊥) → Refused (Length behindPart) ≡ verdictOf CoreAsks
       unfolding scratchLent
-      core-room o = past (Refused (Length 6)) (size-stops (numbersOk rules k (newCore z xs)) (Length 6) n (scratchFor (entriesOf (k .inputs .shape))) m g o)
+      core-room o = past (Refused (Length behindPart)) (size-stops (numbersOk rules k (newCore z xs)) (Length behindPart) n (scratchFor (entriesOf (k .inputs .shape))) m g o)
 
       module _ (o : n ≡ m) (part : Bool) (p : part ≡ allFinite xs) (u : Verdict) (y : u ≡ verdictOf (foundNumbers k z part true)) where
         onward : (w : Verdict) → w ≡ verdictOf (foundNumbers k z (allFinite xs) true then shifts) → w ≡ verdictOf CoreAsks
         unfolding scratchLent numbersOk
         onward w i =
-            past w (size-passes (numbersOk rules k (newCore z xs)) (Length 6) n (scratchFor (entriesOf (k .inputs .shape))) m g o w i)
+            past w (size-passes (numbersOk rules k (newCore z xs)) (Length behindPart) n (scratchFor (entriesOf (k .inputs .shape))) m g o w i)
 
         told : u ≡ verdictOf (foundNumbers k z (allFinite xs) true)
         told = y ∙ ap (λ (b : Bool). verdictOf (foundNumbers k z b true)) p
@@ -139,21 +140,21 @@ module _ (k : Kept) (z : ℕ) (x : Axis) where
 
   module _ (n : ℕ) (v : Verdict) (e : v ≡ verdictOf (foundOk k z)) (h : v ≡ Fits) (m : ℕ) (g : m ≡ scratchFor (entriesOf (k .inputs .shape))) where
     abbrev AxisAsks : Check
-    AxisAsks = replaceOk rules (scratchLent (k .inputs .shape) 5 n) k (newAxis z x)
+    AxisAsks = replaceOk rules (scratchLent (k .inputs .shape) sliceCount n) k (newAxis z x)
 
-    beyond : (w : Verdict) → w ≡ verdictOf (scratchLent (k .inputs .shape) 5 n then numbersOk rules k (newAxis z x)) → w ≡ verdictOf AxisAsks
+    beyond : (w : Verdict) → w ≡ verdictOf (scratchLent (k .inputs .shape) sliceCount n then numbersOk rules k (newAxis z x)) → w ≡ verdictOf AxisAsks
     unfolding demand
-    beyond w o = found-goes rules (scratchLent (k .inputs .shape) 5 n) k (newAxis z x) v e h w o
+    beyond w o = found-goes rules (scratchLent (k .inputs .shape) sliceCount n) k (newAxis z x) v e h w o
 
-    pub axis-room : (n ≡ m → ⊥) → Refused (Length 5) ≡ verdictOf AxisAsks
+    pub axis-room : (n ≡ m → ⊥) → Refused (Length sliceCount) ≡ verdictOf AxisAsks
     unfolding scratchLent
-    axis-room o = beyond (Refused (Length 5)) (size-stops (numbersOk rules k (newAxis z x)) (Length 5) n (scratchFor (entriesOf (k .inputs .shape))) m g o)
+    axis-room o = beyond (Refused (Length sliceCount)) (size-stops (numbersOk rules k (newAxis z x)) (Length sliceCount) n (scratchFor (entriesOf (k .inputs .shape))) m g o)
 
     module _ (o : n ≡ m) (part mild : Bool) (p : part ≡ axisFinite x) (q : mild ≡ axisOk x) (u : Verdict) (y : u ≡ verdictOf (foundNumbers k z part mild)) where
       further : (w : Verdict) → w ≡ verdictOf (foundNumbers k z (axisFinite x) (axisOk x) then newShifts) → w ≡ verdictOf AxisAsks
       unfolding scratchLent numbersOk
       further w i =
-          beyond w (size-passes (numbersOk rules k (newAxis z x)) (Length 5) n (scratchFor (entriesOf (k .inputs .shape))) m g o w i)
+          beyond w (size-passes (numbersOk rules k (newAxis z x)) (Length sliceCount) n (scratchFor (entriesOf (k .inputs .shape))) m g o w i)
 
       heard : u ≡ verdictOf (foundNumbers k z (axisFinite x) (axisOk x))
       heard = y ∙ ap (λ (b : Bool). verdictOf (foundNumbers k z b mild)) p ∙ ap (λ (b : Bool). verdictOf (foundNumbers k z (axisFinite x) b)) q

@@ -1,7 +1,7 @@
 // All that a fresh run, a new core and new weights ask, in their order.
 ghost use mathlib.Core.Path.{_≡_};
 ghost use Rattle.answers.specs.Outcome.{verdictOf};
-ghost use Rattle.runform.specs.Slices.{outputs, slices};
+ghost use Rattle.runform.specs.Slices.{outputs, slices, behindPart};
 ghost use Rattle.runform.specs.Kept.{keptOf};
 ghost use Rattle.runform.specs.Checks.{scratchLent, freshOk};
 ghost use Rattle.runform.specs.Call.{roomLent};
@@ -39,7 +39,7 @@ pub fn fresh_ok(
         return answers::Verdict::Refused(q);
     }
     if scratch != checks::scratch_of(s) {
-        return answers::Verdict::Refused(answers::Refusal::Length(5));
+        return answers::Verdict::Refused(answers::Refusal::Length(runform::SLICES));
     }
     let numbers = crate::numeric::numbers_made(s, xs, set, source, weights);
     if let answers::Verdict::Refused(q) = numbers {
@@ -60,7 +60,7 @@ pub fn weights_ok(
     part: &[f64],
     scratch: usize,
 ) -> answers::Verdict
-    ensures { λ v. ⌜ v ≡ verdictOf (replaceOk rules (scratchLent (r .shape) 6 scratch)
+    ensures { λ v. ⌜ v ≡ verdictOf (replaceOk rules (scratchLent (r .shape) behindPart scratch)
         (keptOf r (slices (now (source .entry)) (now (weights .entry)) (now (chain .entry)) (now (carries .entry)) (now (sums .entry))))
         (newWeights z (now (part .entry)))) ⌝ }
 {
@@ -70,10 +70,10 @@ pub fn weights_ok(
         return answers::Verdict::Refused(q);
     }
     if part.len() != s.n[z] {
-        return answers::Verdict::Refused(answers::Refusal::Length(5));
+        return answers::Verdict::Refused(answers::Refusal::Length(runform::SLICES));
     }
     if scratch != checks::scratch_of(s) {
-        return answers::Verdict::Refused(answers::Refusal::Length(6));
+        return answers::Verdict::Refused(answers::Refusal::Length(runform::BEHIND_PART));
     }
     let finite = lists::all_finite(part);
     crate::numeric::numbers_found(r, z, finite, true, source, weights, chain, carries, sums)
@@ -91,7 +91,7 @@ pub fn core_ok(
     part: &[f64],
     scratch: usize,
 ) -> answers::Verdict
-    ensures { λ v. ⌜ v ≡ verdictOf (replaceOk rules (scratchLent (r .shape) 6 scratch)
+    ensures { λ v. ⌜ v ≡ verdictOf (replaceOk rules (scratchLent (r .shape) behindPart scratch)
         (keptOf r (slices (now (source .entry)) (now (weights .entry)) (now (chain .entry)) (now (carries .entry)) (now (sums .entry))))
         (newCore z (now (part .entry)))) ⌝ }
 {
@@ -101,10 +101,10 @@ pub fn core_ok(
         return answers::Verdict::Refused(q);
     }
     if part.len() != s.core_size(z) {
-        return answers::Verdict::Refused(answers::Refusal::Length(5));
+        return answers::Verdict::Refused(answers::Refusal::Length(runform::SLICES));
     }
     if scratch != checks::scratch_of(s) {
-        return answers::Verdict::Refused(answers::Refusal::Length(6));
+        return answers::Verdict::Refused(answers::Refusal::Length(runform::BEHIND_PART));
     }
     let finite = lists::all_finite(part);
     let numbers = crate::numeric::numbers_found(

@@ -2,7 +2,7 @@
 ghost use mathlib.Core.Path.{_≡_};
 ghost use Rattle.answers.specs.Outcome.{verdictOf};
 ghost use Rattle.stepform.specs.Zones.{rules};
-ghost use Rattle.runform.specs.Slices.{slices};
+ghost use Rattle.runform.specs.Slices.{slices, sliceCount};
 ghost use Rattle.runform.specs.Kept.{keptOf};
 ghost use Rattle.runform.specs.Requests.{newAxis, replaceOk};
 ghost use Rattle.runform.specs.Checks.{scratchLent};
@@ -18,7 +18,7 @@ pub fn axis_ok(
     sums: &[f64],
     scratch: usize,
 ) -> answers::Verdict
-    ensures { λ v. ⌜ v ≡ verdictOf (replaceOk rules (scratchLent (r .shape) 5 scratch)
+    ensures { λ v. ⌜ v ≡ verdictOf (replaceOk rules (scratchLent (r .shape) sliceCount scratch)
         (keptOf r (slices (now (source .entry)) (now (weights .entry)) (now (chain .entry)) (now (carries .entry)) (now (sums .entry))))
         (newAxis z a)) ⌝ }
 {
@@ -28,7 +28,7 @@ pub fn axis_ok(
         return answers::Verdict::Refused(q);
     }
     if scratch != checks::scratch_of(s) {
-        return answers::Verdict::Refused(answers::Refusal::Length(5));
+        return answers::Verdict::Refused(answers::Refusal::Length(runform::SLICES));
     }
     let finite = axes::axis_finite(a);
     let mild = axes::axis_ok(a);

@@ -6,6 +6,7 @@ use Rattle.answers.proofs.Checks.{demand-is, then-is}
 use Rattle.lists.proofs.Tests.{ltb-is}
 use Rattle.shape.specs.Shapes.{shapeOk}
 use Rattle.stepform.specs.Zones.{Rules}
+use Rattle.runform.specs.Slices.{sliceCount}
 use Rattle.runform.specs.Kept.{Kept, running, lengthsOf}
 use Rattle.runform.specs.Checks.{rankOk, slicesLent}
 use Rattle.runform.specs.Requests.{Request, zoneOf, present, partFits, InOrder, foundOk, numbersOk, replaceOk, redo, replace}
@@ -28,7 +29,7 @@ checks-say R room k q e =
     let g = then-is _ _ tt (f .1) in
     record {
       shape = a .0;
-      order = record { inside = ltb-is (zoneOf q) (s .d) (demand-is _ Zone (b .0)); fits = demand-is (partFits s q) (Length 5) (f .0) };
+      order = record { inside = ltb-is (zoneOf q) (s .d) (demand-is _ Zone (b .0)); fits = demand-is (partFits s q) (Length sliceCount) (f .0) };
       slices = b .1;
       scratch = g .0;
       numbers = g .1;

@@ -27,6 +27,7 @@ use Rattle.cutform.specs.declared.Bond.{Bond}
 use Rattle.cutform.specs.Bonds.{noBond}
 use Rattle.cutform.specs.Rounding.{Carry, Cut, numbersIn}
 use Rattle.stepform.specs.Zones.{Rules}
+use Rattle.runform.specs.Slices.{sliceCount}
 use Rattle.runform.specs.Kept.{Inputs, Summed, Kept, running, leftRank, rightRank, keptCore, keptCarry, keptSums, lengthsOf, heldCore}
 use Rattle.cutform.specs.Keeping.{Stepped, bondSize, carrySize, rankAt, keepStep}
 use Rattle.stepform.specs.Lone.{loneFinite}
@@ -103,7 +104,7 @@ module _ (R : Rules) (i : Inputs) (t t' : Stepped) (u u' : Summed) (E : Alike (r
       then-on _ _ _ _
       (then-on _ _ _ _ (shape-same s (rankOk s (t .bonds)) (rankOk s (t' .bonds)) (λ k lt. rank-same k))
       (ap (λ (x : Check). demand (ltb (zoneOf q) (s .d)) Zone then x) lent-same))
-      (ap (λ (x : Check). demand (partFits s q) (Length 5) then room then x) (numbers-same q))
+      (ap (λ (x : Check). demand (partFits s q) (Length sliceCount) then room then x) (numbers-same q))
 
 -- ---- what a writing from z on leaves in slot k, where the slots before z are not asked for
 -- the step

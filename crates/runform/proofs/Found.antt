@@ -24,6 +24,7 @@ use Rattle.stepform.specs.Axes.{axisOk, axisAt}
 use Rattle.cutform.specs.Rounding.{Carry, Cut, numbersIn}
 use Rattle.stepform.specs.Zones.{Rules}
 use Rattle.sumform.specs.Sums.{sumSize}
+use Rattle.runform.specs.Slices.{sliceCount}
 use Rattle.runform.specs.Kept.{Inputs, Summed, allCarries, allSums, lengthsFor, lengthsOf, bare, blank, keptCarry}
 use Rattle.cutform.specs.Keeping.{Stepped, carrySize, rankAt, keepStep}
 use Rattle.runform.specs.Work.{keepSums}
@@ -95,7 +96,7 @@ module _ (R : Rules) (S : Sound R) (i : Inputs) (T : Trace R i) where
       let P = T .step .ok in
       let d = s .d in
       then-skip _ _ _ (run-passes (zoneOf q) (O .inside))
-      (then-skip _ _ _ (demand-yes (partFits s q) (Length 5) (O .fits))
+      (then-skip _ _ _ (demand-yes (partFits s q) (Length sliceCount) (O .fits))
       (then-on _ _ _ _
       (then-skip _ _ _ (demand-yes (loneFinite (i .set) && finite (u .figure)) (Number 0) (and-yes _ _ (P .lone) (figure-finite R S i T)))
       (then-on _ _ _ _

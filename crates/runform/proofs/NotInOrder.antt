@@ -13,7 +13,7 @@ use Rattle.lists.proofs.Tests.{ltb-yes, ltb-no, eqb-no}
 use Rattle.shape.specs.Limits.{scratchFor}
 use Rattle.shape.specs.Shapes.{shapeOk, entriesOf}
 use Rattle.stepform.specs.Zones.{Rules}
-use Rattle.runform.specs.Slices.{Slices}
+use Rattle.runform.specs.Slices.{Slices, sliceCount}
 use Rattle.runform.specs.Kept.{Inputs, Kept, lengthsFor, lengthsOf}
 use Rattle.runform.specs.Checks.{rankOk, scratchLent}
 use Rattle.runform.specs.Requests.{Request, zoneOf, partFits, InOrder, foundOk, replaceOk, replace}
@@ -42,7 +42,7 @@ module _ (R : Rules) (S : Sound R) (i : Inputs) (T : Trace R i) (q : Request) wh
     unfolding replace replaceOk foundOk demand
     found-wrong j W lt = rw found-shape (rw (ltb-yes (zoneOf q) (i .shape .d) lt) (rw (wrong-length (found (keptBy T) m) j W) refl))
 
-  found-length : (room : Check) → zoneOf q < i .shape .d → partFits (i .shape) q ≡ false → replace R room (keptBy T) q ≡ refused (Length 5)
+  found-length : (room : Check) → zoneOf q < i .shape .d → partFits (i .shape) q ≡ false → replace R room (keptBy T) q ≡ refused (Length sliceCount)
   unfolding replace replaceOk demand
   found-length room lt ne = rw (run-passes R S i T (zoneOf q) lt) (rw ne refl)
 
@@ -67,8 +67,8 @@ module _ (R : Rules) (S : Sound R) (i : Inputs) (k : Kept) (F : AsFresh R i k) (
       let W' : FirstWrong j (lengthsOf (found (keptBy (taken-apart .0)) m)) (lengthsFor (i .shape)) = subst (λ (x : Kept). FirstWrong j (lengthsOf (found x m)) (lengthsFor (i .shape))) (sym (taken-apart .1)) W in
       answered-by m (Length j) (found-wrong R S i (taken-apart .0) q m _ j W' lt)
 
-  pub part-misfits : zoneOf q < i .shape .d → partFits (i .shape) q ≡ false → replaceBy R k q scratch .result .verdict ≡ Refused (Length 5)
-  part-misfits lt ne = answered-by ownSlices (Length 5) (found-length R S i (taken-apart .0) q _ lt ne)
+  pub part-misfits : zoneOf q < i .shape .d → partFits (i .shape) q ≡ false → replaceBy R k q scratch .result .verdict ≡ Refused (Length sliceCount)
+  part-misfits lt ne = answered-by ownSlices (Length sliceCount) (found-length R S i (taken-apart .0) q _ lt ne)
 
   pub scratch-misfits : InOrder (i .shape) q → ¬ (length scratch ≡ scratchFor (entriesOf (i .shape))) → replaceBy R k q scratch .result .verdict ≡ Refused (Length (scratchPlace q))
   unfolding scratchLent demand

@@ -18,7 +18,7 @@ use Rattle.shape.specs.Limits.{mostAxes, scratchFor}
 use Rattle.shape.specs.Shapes.{entriesOf}
 use Rattle.cutform.specs.Call.{scratchAfter}
 use Rattle.stepform.specs.Zones.{Rules}
-use Rattle.runform.specs.Slices.{eachOutput}
+use Rattle.runform.specs.Slices.{eachOutput, sliceCount}
 use Rattle.runform.specs.Kept.{Inputs, Kept, allCarries, allSums, roomFor, bare, blank}
 use Rattle.runform.specs.Work.{workFrom}
 use Rattle.runform.specs.Checks.{scratchLent, freshOk, freshRun}
@@ -52,7 +52,7 @@ unfolding roomLent scratchLent
 room-there s =
     let long : (n : ℕ) → length (zeros n) ≡ n = λ n. length-replicate n zero64 in
     then-skip _ _ _ (lent-passes 2 _ _ (cc (long (entriesOf s), long (allCarries s), long (allSums s))))
-    (demand-yes _ (Length 5) (eqb-yes _ _ (long (scratchFor (entriesOf s)))))
+    (demand-yes _ (Length sliceCount) (eqb-yes _ _ (long (scratchFor (entriesOf s)))))
 
 module _ (R : Rules) where
   -- ---- an accepted fresh run had its room, and holds its inputs

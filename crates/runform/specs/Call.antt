@@ -11,7 +11,7 @@ use Rattle.stepform.specs.declared.Settings.{Settings}
 use Rattle.stepform.specs.Zones.{Rules, rules}
 use Rattle.runform.specs.declared.Run.{Run}
 use Rattle.runform.specs.declared.Ran.{Ran}
-use Rattle.runform.specs.Slices.{Outputs, Slices, eachOutput}
+use Rattle.runform.specs.Slices.{Outputs, Slices, sliceCount, behindPart, eachOutput}
 use Rattle.runform.specs.Kept.{Inputs, Kept, inputsOf, keptOf, recordOf, slicesOf, bare}
 use Rattle.runform.specs.Checks.{outputsLent, scratchLent, freshRun}
 use Rattle.runform.specs.Requests.{Request, newCore, newAxis, newWeights, replace}
@@ -35,16 +35,16 @@ pub record Room : Type 0 where
 
 -- 5 of it, by the lengths
 unfoldable pub roomLent : Shape → Outputs ℕ → ℕ → Check
-roomLent s m scratch = outputsLent s m then scratchLent s 5 scratch
+roomLent s m scratch = outputsLent s m then scratchLent s sliceCount scratch
 
 abbrev pub roomOk : Shape → Room → Check
 roomOk s m = roomLent s (eachOutput length (m .outputs)) (length (m .scratch))
 
 -- ---- a replacement is lent the run's slices, the part where there is one, which it reads, and scratch
 abbrev pub scratchPlace : Request → ℕ
-scratchPlace (newCore z xs) = 6
-scratchPlace (newAxis z a) = 5
-scratchPlace (newWeights z ws) = 6
+scratchPlace (newCore z xs) = behindPart
+scratchPlace (newAxis z a) = sliceCount
+scratchPlace (newWeights z ws) = behindPart
 
 -- ---- by any rules
 module _ (R : Rules) where

@@ -18,6 +18,7 @@ use Rattle.stepform.specs.declared.Axis.{Axis}
 use Rattle.stepform.specs.Axes.{axisFinite, axisOk, axisAt}
 use Rattle.stepform.specs.Zones.{Rules}
 use Rattle.stepform.specs.Lone.{loneFinite, loneOk}
+use Rattle.runform.specs.Slices.{sliceCount}
 use Rattle.runform.specs.Kept.{Inputs, Kept, running, lengthsOf}
 use Rattle.runform.specs.Work.{sumFrom, workFrom}
 use Rattle.runform.specs.Checks.{rankOk, slicesLent, zoneFinite, keptFinite, inReachAt}
@@ -90,11 +91,11 @@ module _ (R : Rules) where
   unfoldable pub numbersOk : Kept → Request → Check
   numbersOk k q = foundNumbers k (zoneOf q) (newFinite q) (newOk q) then shiftsOk (present (k .inputs) q) q
 
-  -- the part is slice 5; `room` is 5 for scratch, which comes last
+  -- the part comes behind the run's slices; `room` is 5 for scratch, which comes last
   unfoldable pub replaceOk : Check → Kept → Request → Check
   replaceOk room k q =
       foundOk k (zoneOf q)
-      then demand (partFits (k .inputs .shape) q) (Length 5)
+      then demand (partFits (k .inputs .shape) q) (Length sliceCount)
       then room
       then numbersOk k q
 

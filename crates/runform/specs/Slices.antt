@@ -1,5 +1,7 @@
 -- The slices of a run, listed once, with one thing of each: its numbers, its length, what a call is lent for it. Definitions only.
+use Prim.Native.Nat.{ℕ, suc}
 use mathlib.Core.List.{List, [], _∷_}
+use lib.ListN.{length}
 
 -- what it keeps: the stepped chain, the carries of its bonds, the partial sums
 pub record Outputs (A : Type 0) : Type 0 where
@@ -25,6 +27,13 @@ outputsInOrder m = m .chain ∷ m .carries ∷ m .sums ∷ []
 
 abbrev pub inOrder : {A : Type 0} → Slices A → List A
 inOrder m = m .source ∷ m .weights ∷ outputsInOrder (m .outputs)
+
+-- how many they are: what a call is lent behind them, a new part and then scratch, has the places from there on
+abbrev pub sliceCount : ℕ
+sliceCount = length (inOrder (slices {A = ℕ} 0 0 0 0 0))
+
+abbrev pub behindPart : ℕ
+behindPart = suc sliceCount
 
 -- slice by slice
 abbrev pub eachOutput : {A B : Type 0} → (A → B) → Outputs A → Outputs B

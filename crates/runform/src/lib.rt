@@ -10,6 +10,12 @@ pub struct Run {
     pub figure: f64,
 }
 
+// How many slices a run has. What a call is lent behind them, a new part and then scratch, has the places
+// from there on.
+pub const SLICES: usize = 5;
+
+pub const BEHIND_PART: usize = SLICES + 1;
+
 // The lengths of a run's slices, in their order.
 pub struct Lengths {
     pub source: usize,

@@ -24,7 +24,7 @@ use Rattle.stepform.specs.declared.Settings.{Settings}
 use Rattle.stepform.specs.Zones.{rules}
 use Rattle.stepform.specs.Call.{axisReaches}
 use Rattle.runform.specs.declared.Run.{Run}
-use Rattle.runform.specs.Slices.{Slices, eachOutput}
+use Rattle.runform.specs.Slices.{Slices, eachOutput, sliceCount, behindPart}
 use Rattle.runform.specs.Kept.{Inputs, Kept, inputsOf, keptOf, roomFor, blankRun}
 use Rattle.runform.specs.Checks.{rankOk, scratchLent, inReachAt, freshOk}
 use Rattle.runform.specs.Call.{roomLent}
@@ -85,34 +85,34 @@ module _ (r : Run) (m : Slices (List Float)) where
         }
 
   -- a new core
-  module _ (z : ℕ) (part : List Float) (n : ℕ) (v : Verdict) (e : v ≡ verdictOf (replaceOk rules (scratchLent (r .shape) 6 n) run (newCore z part))) (h : v ≡ Fits) where
+  module _ (z : ℕ) (part : List Float) (n : ℕ) (v : Verdict) (e : v ≡ verdictOf (replaceOk rules (scratchLent (r .shape) behindPart n) run (newCore z part))) (h : v ≡ Fits) where
     pub core-asks : SizesWithin (r .shape) × ((z < r .shape .d) × (length (m .source) ≡ entriesOf (r .shape)) × (length part ≡ coreSize (r .shape) z) × (length (m .source) ≤ n))
     core-asks =
         let q = newCore z part in
-        (sizes 6 n q v e h, (say 6 n q v e h .order .inside, source-long 6 n q v e h, eqb-is (length part) (coreSize s z) (say 6 n q v e h .order .fits), room 6 n q v e h))
+        (sizes behindPart n q v e h, (say behindPart n q v e h .order .inside, source-long behindPart n q v e h, eqb-is (length part) (coreSize s z) (say behindPart n q v e h .order .fits), room behindPart n q v e h))
 
     pub core-asked : (scratch : List Float) → length scratch ≡ n → RenewAsks r z (m .weights) (m .outputs) scratch
     core-asked scratch l =
         let q = newCore z part in
-        let S = shifts-pass q (say 6 n q v e h .numbers) in
+        let S = shifts-pass q (say behindPart n q v e h .numbers) in
         let i = present (run .inputs) q in
-        asked 6 n q v e h (r .axes) (λ k a b. each-is Reach (inReachAt rules i) (s .d - z) z S k a (omega arith)) scratch l
+        asked behindPart n q v e h (r .axes) (λ k a b. each-is Reach (inReachAt rules i) (s .d - z) z S k a (omega arith)) scratch l
 
   -- a new axis record
-  module _ (z : ℕ) (x : Axis) (n : ℕ) (v : Verdict) (e : v ≡ verdictOf (replaceOk rules (scratchLent (r .shape) 5 n) run (newAxis z x))) (h : v ≡ Fits) where
+  module _ (z : ℕ) (x : Axis) (n : ℕ) (v : Verdict) (e : v ≡ verdictOf (replaceOk rules (scratchLent (r .shape) sliceCount n) run (newAxis z x))) (h : v ≡ Fits) where
     pub axis-asks : SizesWithin (r .shape) × ((z ≤ r .shape .d) × (length (m .source) ≡ entriesOf (r .shape)) × (length (m .source) ≤ n))
-    axis-asks = let q = newAxis z x in (sizes 5 n q v e h, (omega (arith, say 5 n q v e h .order .inside), source-long 5 n q v e h, room 5 n q v e h))
+    axis-asks = let q = newAxis z x in (sizes sliceCount n q v e h, (omega (arith, say sliceCount n q v e h .order .inside), source-long sliceCount n q v e h, room sliceCount n q v e h))
 
     pub axis-few : z < mostAxes
-    axis-few = let q = newAxis z x in omega (arith, say 5 n q v e h .order .inside, sizes 5 n q v e h .axes .most)
+    axis-few = let q = newAxis z x in omega (arith, say sliceCount n q v e h .order .inside, sizes sliceCount n q v e h .axes .most)
 
     pub axis-asked : (y : Run) → y ≡ axisRun r z x → (scratch : List Float) → length scratch ≡ n → RenewAsks y z (m .weights) (m .outputs) scratch
     axis-asked y p scratch l =
         let q = newAxis z x in
-        let S = shifts-pass q (say 5 n q v e h .numbers) in
+        let S = shifts-pass q (say sliceCount n q v e h .numbers) in
         let i = present (run .inputs) q in
         subst (λ (t : Run). RenewAsks t z (m .weights) (m .outputs) scratch) (sym p)
-        (asked 5 n q v e h (set (r .axes) z x) (λ k a b. each-is Reach (inReachAt rules i) (s .d - z) z S k a (omega arith)) scratch l)
+        (asked sliceCount n q v e h (set (r .axes) z x) (λ k a b. each-is Reach (inReachAt rules i) (s .d - z) z S k a (omega arith)) scratch l)
 
 -- ---- a fresh run
 module _ (s : Shape) (xs : List Axis) (set : Settings) (m : Slices (List Float)) (n : ℕ) where
@@ -126,7 +126,7 @@ module _ (s : Shape) (xs : List Axis) (set : Settings) (m : Slices (List Float))
         let P = passed rules (roomLent s (eachOutput length (m .outputs)) n) i (verdict-passed _ v e h) .1 in
         let o = then-is _ _ tt P in
         let l = lent-is 2 _ _ refl (o .0) in
-        (cc, scratch-is s 5 n (o .1))
+        (cc, scratch-is s sliceCount n (o .1))
 
     pub fresh-asks : SizesWithin s × ((0 ≤ s .d) × (length (m .source) ≡ entriesOf s) × (length (m .source) ≤ n))
     fresh-asks =

@@ -29,7 +29,7 @@ use Rattle.stepform.specs.Zones.{rules}
 use Rattle.stepform.specs.Steps.{stepFrom}
 use Rattle.runform.specs.declared.Run.{Run}
 use Rattle.runform.specs.declared.Ran.{Ran}
-use Rattle.runform.specs.Slices.{Outputs, Slices, eachOutput}
+use Rattle.runform.specs.Slices.{Outputs, Slices, eachOutput, sliceCount}
 use Rattle.runform.specs.Kept.{Inputs, Summed, Kept, running, inputsOf, keptOf, allCarries, allSums, roomFor, blankRun, bare, blank, zonesFrom, carryAt, sumsAt, weighedFrom}
 use Rattle.runform.specs.Work.{keepSums, sumZone, restep, resum, sumFrom, workFrom}
 use Rattle.runform.specs.Checks.{scratchLent, madeOk, freshOk, freshRun}
@@ -56,7 +56,7 @@ early-fresh room h i =
 
 early-room : (s : Shape) (m : Outputs ℕ) (n : ℕ) → Early (roomLent s m n)
 unfolding roomLent scratchLent
-early-room s m n = early-then _ _ (early-lent 2 _ _) (early-demand _ (Length 5) refl)
+early-room s m n = early-then _ _ (early-lent 2 _ _) (early-demand _ (Length sliceCount) refl)
 
 -- ---- from zone 0 on every slot is written, so what stood there is not asked
 write-all : (size : ℕ → ℕ) (o : Float) (d : ℕ) (q : List (List Float)) (l l' : List Float) → length l ≡ offset size d → length l' ≡ offset size d → write size o d 0 q l ≡ write size o d 0 q l'

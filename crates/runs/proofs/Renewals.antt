@@ -15,7 +15,7 @@ use Rattle.stepform.specs.declared.Axis.{Axis}
 use Rattle.stepform.specs.Zones.{rules}
 use Rattle.runform.specs.declared.Run.{Run}
 use Rattle.runform.specs.declared.Ran.{Ran}
-use Rattle.runform.specs.Slices.{Outputs, Slices}
+use Rattle.runform.specs.Slices.{Outputs, Slices, sliceCount, behindPart}
 use Rattle.runform.specs.Kept.{Kept, keptOf}
 use Rattle.runform.specs.Work.{workFrom}
 use Rattle.runform.specs.Requests.{newCore, newAxis, replaceOk}
@@ -46,7 +46,7 @@ module _ (r : Run) (z : ℕ) (weights : List Float) (m : Outputs (List Float)) (
 
 -- ---- a new core
 module _ (r : Run) (z : ℕ) (m : Slices (List Float)) (part scratch : List Float) (v : Verdict)
-    (e : v ≡ verdictOf (replaceOk rules (scratchLent (r .shape) 6 (length scratch)) (keptOf r m) (newCore z part))) (h : v ≡ Fits)
+    (e : v ≡ verdictOf (replaceOk rules (scratchLent (r .shape) behindPart (length scratch)) (keptOf r m) (newCore z part))) (h : v ≡ Fits)
     (work : List Float) (a : Ran) (m' : Outputs (List Float)) (R : Renewed r z (m .weights) (m .outputs) work a m')
     (S : SourcesFrom (r .shape) z (put (coreSize (r .shape)) z part (m .source)) work)
     (u : List Float) (c : u ≡ zeros (length scratch)) where
@@ -77,7 +77,7 @@ module _ (r : Run) (z : ℕ) (m : Slices (List Float)) (part scratch : List Floa
 
 -- ---- a new axis record
 module _ (r : Run) (z : ℕ) (x : Axis) (m : Slices (List Float)) (scratch : List Float) (v : Verdict)
-    (e : v ≡ verdictOf (replaceOk rules (scratchLent (r .shape) 5 (length scratch)) (keptOf r m) (newAxis z x))) (h : v ≡ Fits)
+    (e : v ≡ verdictOf (replaceOk rules (scratchLent (r .shape) sliceCount (length scratch)) (keptOf r m) (newAxis z x))) (h : v ≡ Fits)
     (y : Run) (i : y ≡ axisRun r z x)
     (work : List Float) (a : Ran) (m' : Outputs (List Float)) (R : Renewed y z (m .weights) (m .outputs) work a m') (S : SourcesFrom (r .shape) z (m .source) work)
     (u : List Float) (c : u ≡ zeros (length scratch)) where

@@ -13,6 +13,7 @@ use Rattle.answers.proofs.Outcomes.{done-refused}
 use Rattle.answers.proofs.Late.{Early, early-demand, early-then, early-each}
 use Rattle.shape.proofs.Early.{early-shape}
 use Rattle.stepform.specs.Zones.{rules}
+use Rattle.runform.specs.Slices.{sliceCount}
 use Rattle.runform.specs.declared.Ran.{Ran}
 use Rattle.runform.specs.Kept.{Kept, running, recordOf, slicesOf, lengthsFor, lengthsOf}
 use Rattle.runform.specs.Checks.{lentFrom, scratchLent}
@@ -40,7 +41,7 @@ early-replace room h k q =
     early-then _ _
     (early-then _ _ (early-shape (k .inputs .shape) _)
     (early-then _ _ (early-demand _ Zone refl) (early-lent 0 (lengthsOf k) (lengthsFor (k .inputs .shape)))))
-    (early-then _ _ (early-demand _ (Length 5) refl)
+    (early-then _ _ (early-demand _ (Length sliceCount) refl)
     (early-then _ _ h
     (early-then _ _
     (early-then _ _ (early-demand _ (Number 0) refl)

@@ -15,7 +15,7 @@ use Rattle.shape.specs.Shapes.{shapeOk, pointSize}
 use Rattle.stepform.specs.Zones.{rules}
 use Rattle.runform.specs.declared.Run.{Run}
 use Rattle.runform.specs.declared.Ran.{Ran}
-use Rattle.runform.specs.Slices.{Slices}
+use Rattle.runform.specs.Slices.{Slices, behindPart}
 use Rattle.runform.specs.Kept.{Inputs, Summed, Kept, running, keptOf}
 use Rattle.runform.specs.Work.{resum, sumFrom}
 use Rattle.runform.specs.Checks.{rankOk, scratchLent}
@@ -27,12 +27,12 @@ use Rattle.run_work.specs.Weights.{Lent, weightsEnd}
 use Rattle.runs.proofs.Replaced.{replace-goes}
 
 module _ (r : Run) (z : ℕ) (m : Slices (List Float)) (part scratch : List Float) (v : Verdict)
-    (e : v ≡ verdictOf (replaceOk rules (scratchLent (r .shape) 6 (length scratch)) (keptOf r m) (newWeights z part))) (h : v ≡ Fits) where
+    (e : v ≡ verdictOf (replaceOk rules (scratchLent (r .shape) behindPart (length scratch)) (keptOf r m) (newWeights z part))) (h : v ≡ Fits) where
   -- what the checks let the work ask
   pub weights-lent : (shapeOk (r .shape) (rankOk (r .shape) (r .bonds)) ≡ done tt) × Lent (r .shape) z part (m .weights) (m .outputs .chain) (m .outputs .sums)
   weights-lent =
       let k = keptOf r m in
-      let A = checks-say rules (scratchLent (r .shape) 6 (length scratch)) k (newWeights z part) (verdict-passed _ v e h) in
+      let A = checks-say rules (scratchLent (r .shape) behindPart (length scratch)) k (newWeights z part) (verdict-passed _ v e h) in
       let S = slices-are k (A .slices) in
       let part-long = eqb-is (length part) (pointSize (r .shape) z) (A .order .fits) in
       (A .shape, record { zone = A .order .inside; part-long = part-long; weights-long = S .weights; chain-long = S .chain; sums-long = S .sums })
@@ -49,7 +49,7 @@ module _ (r : Run) (z : ℕ) (m : Slices (List Float)) (part scratch : List Floa
 pub weights-leave : (r : Run) (z : ℕ) (m : Slices (List Float)) (part scratch : List Float) → let x = replaceWeightsCall r z m part scratch .slices in
     (x .source ≡ m .source) × (x .outputs .chain ≡ m .outputs .chain) × (x .outputs .carries ≡ m .outputs .carries)
 unfolding replaceBy replace runEnd sumFrom
-weights-leave r z m part scratch = go (replaceOk rules (scratchLent (r .shape) 6 (length scratch)) k (newWeights z part)) (resum rules i (k .stepped) (k .summed) z)
+weights-leave r z m part scratch = go (replaceOk rules (scratchLent (r .shape) behindPart (length scratch)) k (newWeights z part)) (resum rules i (k .stepped) (k .summed) z)
   where
     k : Kept
     k = keptOf r m
