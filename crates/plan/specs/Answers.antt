@@ -5,6 +5,7 @@ use mathlib.Core.List.{List}
 use lib.Ieee.{Float}
 use Rattle.answers.specs.declared.Verdict.the-variants.{Fits}
 use Rattle.lists.specs.Floats.{zeros}
+use Rattle.shape.specs.Limits.{scratchFor}
 use Rattle.stepform.specs.declared.Axis.{Axis}
 use Rattle.runform.specs.Slices.{Slices, slices}
 use Rattle.runform.specs.Call.{RunEnd, freshCall, replaceCoreCall, replaceWeightsCall, replaceAxisCall}
@@ -14,7 +15,7 @@ use Rattle.plan.specs.declared.plans.Answer.{Answer}
 
 -- the scratch of a call
 abbrev pub scratch : List Float
-scratch = zeros 2392
+scratch = zeros (scratchFor 86)
 
 -- the slices of a plan's run
 abbrev pub lent : Plan → Slices (List Float)

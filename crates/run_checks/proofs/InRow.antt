@@ -78,7 +78,9 @@ module _ (R : Rules) (k : Kept) (z : ℕ) (ws : List Float) where
 
     pub weights-wrong : (length ws ≡ pointsOf (k .inputs .shape) z → ⊥) → Refused (Length sliceCount) ≡ verdictOf Asks
     unfolding pointSize
-    weights-wrong f = found-goes R (scratchLent (k .inputs .shape) behindPart n) k (newWeights z ws) v e h (Refused (Length sliceCount)) (size-stops later (Length sliceCount) (length ws) (pointSize (k .inputs .shape) z) (pointsOf (k .inputs .shape) z) refl f)
+    weights-wrong f =
+        found-goes R (scratchLent (k .inputs .shape) behindPart n) k (newWeights z ws) v e h (Refused (Length sliceCount))
+        (size-stops later (Length sliceCount) (length ws) (pointSize (k .inputs .shape) z) (pointsOf (k .inputs .shape) z) refl f)
 
     module _ (f : length ws ≡ pointsOf (k .inputs .shape) z) (m : ℕ) (g : m ≡ scratchFor (entriesOf (k .inputs .shape))) where
       go : (w : Verdict) → w ≡ verdictOf later → w ≡ verdictOf Asks

@@ -8,7 +8,7 @@ use lib.ListN.{length, take, drop, drop-of-length-le}
 use lib.Seq.{drop-drop}
 use lib.Ieee.{Float}
 use Rattle.lists.proofs.Slots.{take-drop}
-use Rattle.run_slices.specs.Slices.{overFrom, overBetween}
+use Rattle.run_slices.specs.Passing.{overFrom, overBetween}
 
 module _ (at : ℕ) (to p : List Float) where
   -- the part from at up to n, with x for what it was

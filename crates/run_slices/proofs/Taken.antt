@@ -14,7 +14,7 @@ use Rattle.shape.specs.declared.Shape.{Shape}
 use Rattle.shape.specs.Sizes.{SizesWithin}
 use Rattle.sumform.specs.Sums.{sumSize}
 use Rattle.product.proofs.Slotted.{sum-size, sums-most}
-use Rattle.run_slices.specs.Slices.{Beside, overFrom, overBetween}
+use Rattle.run_slices.specs.Passing.{Beside, overFrom, overBetween}
 
 -- left of zone 0 there is none
 pub none-left : (size : ℕ → ℕ) (z : ℕ) (l l' : List Float) → z < 1 → Beside size z l l'

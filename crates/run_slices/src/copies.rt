@@ -3,7 +3,7 @@ ghost use mathlib.Core.Path.{_≡_};
 ghost use mathlib.Core.List.{_++_};
 ghost use Prim.Native.Nat.{_+_, _≤_};
 ghost use lib.ListN.{length, take, drop};
-ghost use Rattle.run_slices.specs.Slices.{overFrom, overBetween};
+ghost use Rattle.run_slices.specs.Passing.{overFrom, overBetween};
 
 // What stands in `from` from `at` up to `end`, in the same place of `to`; what stands before and behind is not written.
 pub fn copy_between(at: usize, end: usize, from: &[f64], to: &mut [f64])

@@ -11,7 +11,7 @@ ghost use Rattle.shape.specs.Shapes.{coreSize, entriesOf};
 ghost use Rattle.shape.specs.Sizes.{SizesWithin};
 ghost use Rattle.cutform.specs.Keeping.{carrySize};
 ghost use Rattle.sumform.specs.Sums.{sumSize};
-ghost use Rattle.run_slices.specs.Slices.{Beside, overFrom};
+ghost use Rattle.run_slices.specs.Passing.{Beside, overFrom};
 
 // The carry left of zone z, in its slot of held; left of zone 0 there is none.
 pub fn take_carry(z: usize, s: shape::Shape, carries: &[f64], held: &mut [f64])

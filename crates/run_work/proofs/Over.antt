@@ -33,7 +33,7 @@ use Rattle.stepform.proofs.Restart.{step-length}
 use Rattle.run_slices.proofs.Committed.{committed-from}
 use Rattle.runform.specs.Kept.{Inputs, Summed, Kept, running, allCarries, allSums, zoneAt, zonesFrom, leftRank, rightRank, heldCore, keptCore, carryAt, sumsAt, weighedAt, weighedFrom}
 use Rattle.runform.specs.Work.{keepSums, sumZone, restep, resum, sumFrom, workFrom}
-use Rattle.run_slices.specs.Slices.{Beside, overFrom}
+use Rattle.run_slices.specs.Passing.{Beside, overFrom}
 use Rattle.run_work.specs.InPlace.{inPlace, summedIn, Memory, steppedOver, summedOver}
 
 abbrev Traces : Type 0

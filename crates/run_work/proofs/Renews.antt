@@ -29,7 +29,7 @@ use Rattle.runform.specs.declared.Ran.{Ran}
 use Rattle.runform.specs.Slices.{Outputs, Slices, outputs}
 use Rattle.runform.specs.Kept.{keptOf, allCarries, allSums}
 use Rattle.runform.specs.Work.{workFrom}
-use Rattle.run_slices.specs.Slices.{Beside, overFrom}
+use Rattle.run_slices.specs.Passing.{Beside, overFrom}
 use Rattle.run_work.specs.InPlace.{inPlace, heldIn, Steps, Sums, Memory}
 use Rattle.run_work.proofs.Over.{work-over}
 use Rattle.run_work.specs.Renewed.{SourcesFrom, RenewAsks, Renewed, walkedOf, runWith}

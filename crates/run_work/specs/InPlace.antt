@@ -9,7 +9,7 @@ use Rattle.answers.specs.declared.Verdict.the-variants.{Fits}
 use Rattle.answers.specs.Outcome.{done}
 use Rattle.lists.specs.Slots.{offset, slot}
 use Rattle.cutform.specs.declared.Bond.{Bond}
-use Rattle.run_slices.specs.Slices.{Beside, overFrom}
+use Rattle.run_slices.specs.Passing.{Beside, overFrom}
 use Rattle.lists.specs.Floats.{at}
 use Rattle.shape.specs.declared.Shape.{Shape}
 use Rattle.shape.specs.Shapes.{rightOf, chainOk, coreSize, entriesOf, allPoints}
