@@ -2,3 +2,4 @@ pub mod Outcomes
 pub mod Checks
 pub mod Late
 pub mod Same
+pub mod Told

@@ -1,10 +1,22 @@
--- The scope's table of refusals: the number and the place of each. Definitions only.
+-- The scope's table of refusals: the number, the place and the index of each. Definitions only.
 use mathlib.Core.Path.{_≡_}
 use Prim.Native.Nat.{ℕ}
 use mathlib.Core.Bool.{Bool, true, false}
+use mathlib.Core.List.{List, [], _∷_}
+use Rattle.answers.specs.declared.Part.{Part}
+use Rattle.answers.specs.declared.Part.the-variants.{Entry, Spectrum, Factor, Sum}
 use Rattle.answers.specs.declared.Refusal.{Refusal}
 use Rattle.answers.specs.declared.Refusal.the-variants.{Axes, Size, Ranks, Zone, Length, Number, Setting, Reach, Stored, PairRank, File}
+use Rattle.answers.specs.declared.Verdict.{Verdict}
+use Rattle.answers.specs.declared.Verdict.the-variants.{Fits, Refused}
 use Rattle.answers.specs.Outcome.{Answer, refused}
+
+-- where a number to be stored isn't finite, what was being made decides
+abbrev pub partNumber : Part → ℕ
+partNumber Entry = 9
+partNumber Spectrum = 12
+partNumber Factor = 13
+partNumber Sum = 14
 
 abbrev pub numberOf : Refusal → ℕ
 numberOf Axes = 1
@@ -15,7 +27,7 @@ numberOf (Length i) = 5
 numberOf (Number k) = 6
 numberOf (Setting k) = 7
 numberOf (Reach k) = 8
-numberOf (Stored part k i) = 9
+numberOf (Stored part k i) = partNumber part
 numberOf PairRank = 10
 numberOf (File b) = 11
 
@@ -31,6 +43,25 @@ placeOf (Reach k) = k
 placeOf (Stored part k i) = k
 placeOf PairRank = 0
 placeOf (File b) = b
+
+-- the flat index inside what was being stored; any other refusal has none, and 0 stands for it
+abbrev pub indexOf : Refusal → ℕ
+indexOf Axes = 0
+indexOf (Size k) = 0
+indexOf (Ranks k) = 0
+indexOf Zone = 0
+indexOf (Length i) = 0
+indexOf (Number k) = 0
+indexOf (Setting k) = 0
+indexOf (Reach k) = 0
+indexOf (Stored part k i) = i
+indexOf PairRank = 0
+indexOf (File b) = 0
+
+-- what is told of a verdict: nothing, or number, place and index
+abbrev pub toldOf : Verdict → List ℕ
+toldOf Fits = []
+toldOf (Refused r) = numberOf r ∷ placeOf r ∷ indexOf r ∷ []
 
 -- one that a check gives before any work: it leaves scratch unwritten
 abbrev pub beforeWork : Refusal → Bool

@@ -2,7 +2,7 @@
 ghost use mathlib.Core.Path.{_≡_};
 ghost use Rattle.answers.specs.declared.Refusal.the-variants.{Stored};
 ghost use Rattle.answers.specs.Outcome.{storedIn};
-ghost use Rattle.answers.specs.Table.{numberOf, placeOf, beforeWork};
+ghost use Rattle.answers.specs.Table.{partNumber, numberOf, placeOf, indexOf, beforeWork};
 
 // What was being made where a number to be stored isn't finite.
 pub enum Part {
@@ -53,6 +53,18 @@ pub enum Stage {
     Spilt(usize),
 }
 
+// The number that the scope's table has for a part.
+fn part_number(part: Part) -> u8
+    ensures { λ n. ⌜ n ≡ partNumber part ⌝ }
+{
+    match part {
+        Part::Entry => 9,
+        Part::Spectrum => 12,
+        Part::Factor => 13,
+        Part::Sum => 14,
+    }
+}
+
 // The number of a refusal in the scope's table.
 pub fn number(r: Refusal) -> u8
     ensures { λ n. ⌜ n ≡ numberOf r ⌝ }
@@ -66,7 +78,7 @@ pub fn number(r: Refusal) -> u8
         Refusal::Number(k) => 6,
         Refusal::Setting(k) => 7,
         Refusal::Reach(k) => 8,
-        Refusal::Stored(part, k, i) => 9,
+        Refusal::Stored(part, k, i) => part_number(part),
         Refusal::PairRank => 10,
         Refusal::File(b) => 11,
     }
@@ -88,6 +100,25 @@ pub fn place(r: Refusal) -> usize
         Refusal::Stored(part, k, i) => k,
         Refusal::PairRank => 0,
         Refusal::File(b) => b,
+    }
+}
+
+// The index, inside what was being stored, of the first number that isn't finite; 0 where nothing was.
+pub fn index(r: Refusal) -> usize
+    ensures { λ i. ⌜ i ≡ indexOf r ⌝ }
+{
+    match r {
+        Refusal::Axes => 0,
+        Refusal::Size(k) => 0,
+        Refusal::Ranks(k) => 0,
+        Refusal::Zone => 0,
+        Refusal::Length(i) => 0,
+        Refusal::Number(k) => 0,
+        Refusal::Setting(k) => 0,
+        Refusal::Reach(k) => 0,
+        Refusal::Stored(part, k, i) => i,
+        Refusal::PairRank => 0,
+        Refusal::File(b) => 0,
     }
 }
 

@@ -8,8 +8,9 @@ use Rattle.records.specs.declared.told.CFormed.{CFormed}
 use Rattle.records.specs.declared.told.CRounded.{CRounded}
 use Rattle.records.specs.declared.told.CRefusal.{CRefusal}
 
-pub told-as : (n p m k : ℕ) → n ≡ m → p ≡ k → _≡_ {A = CRefusal} (record { number = n; place = p }) (record { number = m; place = k })
-told-as n p m k e f = ap (λ (x : ℕ). record { number = x; place = p }) e ∙ ap (λ (x : ℕ). record { number = m; place = x }) f
+pub told-as : (n p i m k j : ℕ) → n ≡ m → p ≡ k → i ≡ j
+    → _≡_ {A = CRefusal} (record { number = n; place = p; index = i }) (record { number = m; place = k; index = j })
+told-as n p i m k j e f g = rw (e, f, g)
 
 pub formed-as : (r q : CRefusal) (s t : CShape) → r ≡ q → s ≡ t → _≡_ {A = CFormed} (record { refusal = r; shape = s }) (record { refusal = q; shape = t })
 formed-as r q s t e f = ap (λ (x : CRefusal). record { refusal = x; shape = s }) e ∙ ap (λ (x : CShape). record { refusal = q; shape = x }) f

@@ -4,7 +4,7 @@ use mathlib.Core.List.{map}
 use Rattle.numbers.specs.Arithmetic.{zero64}
 use Rattle.answers.specs.declared.Verdict.{Verdict}
 use Rattle.answers.specs.declared.Verdict.the-variants.{Fits, Refused}
-use Rattle.answers.specs.Table.{numberOf, placeOf}
+use Rattle.answers.specs.Table.{numberOf, placeOf, indexOf}
 use Rattle.shape.specs.declared.Shape.{Shape}
 use Rattle.cutform.specs.declared.Bond.{Bond}
 use Rattle.cutform.specs.declared.Rounded.{Rounded}
@@ -23,10 +23,10 @@ use Rattle.records.specs.declared.told.CFormed.{CFormed}
 use Rattle.records.specs.declared.told.CPaired.{CPaired}
 use Rattle.records.specs.declared.told.CSeen.{CSeen}
 
--- number and place of the table; number 0 is no refusal
+-- number, place and index of the table; number 0 is no refusal
 abbrev pub refusalOf : Verdict → CRefusal
-refusalOf Fits = record { number = 0; place = 0 }
-refusalOf (Refused q) = record { number = numberOf q; place = placeOf q }
+refusalOf Fits = record { number = 0; place = 0; index = 0 }
+refusalOf (Refused q) = record { number = numberOf q; place = placeOf q; index = indexOf q }
 
 abbrev pub shapeOut : Shape → CShape
 shapeOut s = record { d = s .d; left = s .left; n = s .n; right = s .right }

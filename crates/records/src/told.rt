@@ -5,11 +5,12 @@ ghost use Rattle.answers.specs.declared.Verdict.the-variants.{Refused};
 ghost use Rattle.records.specs.Told.{refusalOf, shapeOut, bondOut, roundedOut, figureOut, startedOut, pairedOut, readOut, seenOut};
 use crate::given;
 
-// A refusal by its number in the scope's table and its place; number 0 is none.
+// A refusal by its number in the scope's table, its place, and the index inside what was being stored; number 0 is none.
 #[repr(C)]
 pub struct CRefusal {
     pub number: u8,
     pub place: usize,
+    pub index: usize,
 }
 
 // What is said of a bond: the rank kept, the sweeps made, and whether the sum is below 1e-30 at their end.
@@ -63,6 +64,7 @@ fn refused_as(q: answers::Refusal) -> CRefusal
     CRefusal {
         number: answers::number(q),
         place: answers::place(q),
+        index: answers::index(q),
     }
 }
 
@@ -75,6 +77,7 @@ pub fn refusal_of(v: answers::Verdict) -> CRefusal
     CRefusal {
         number: 0,
         place: 0,
+        index: 0,
     }
 }
 
