@@ -1,4 +1,4 @@
--- Every sum done by hand comes out as it is written, by computation. Assumes nothing.
+-- Every sum done by hand, and every refusal in the work, comes out as it is written, by computation. Assumes nothing.
 use mathlib.Core.Path.{refl}
 use lib.Ieee.{add, sub, mul, div, neg, lt, le, eq, ofInt, ofBits, toBits}
 use Rattle.answers.specs.Outcome.{demand, demandEach}
@@ -30,13 +30,25 @@ use Rattle.stepform.specs.Call.{reachesAt, zonesFinite, settingsOk, stepOk, ste
 use Rattle.stepform.specs.Steps.{shiftZone, scaleZone, roundZone, stepFrom, step}
 use Rattle.stepform.specs.Zones.{zonesOf, rules}
 use Rattle.hand_sums.specs.Cases.{cases, AllRight}
+use Rattle.hand_sums.specs.Overflows.{overflows}
 
-pub by-hand : AllRight cases
-unfolding cases add sub mul div neg lt le eq ofInt ofBits toBits demand demandEach floorOf wrap rootIn wholeRoot rootOfUnits rootOf wholeOf fractionOf
+both : AllRight cases × AllRight overflows
+unfolding cases overflows add sub mul div neg lt le eq ofInt ofBits toBits demand demandEach floorOf wrap rootIn wholeRoot rootOfUnits rootOf wholeOf fractionOf
     sumOn sumTo sumRows allFinite firstNotFinite stored pick listed flat first count pairs folded offset slot fit along every walk place entry block coreAt
     coresOf pointsAt reshaped sizeOk bondOk shapeOk coreSize pointSize axisFinite axisOk distance spacing shiftOf shifted scaled cubicBandWeights bandOn
     shiftedAt gram divided leftFactor carryOf cutBond absorb tangentOf slopeOf cosineOf turnedAt eye turnColumns turnRows cleared turned skipped rotate
     sweep offSum settled sweepsFrom diagonalized singularOf singulars placeIn indexAt order sorted thresholdOf keptRank lengthsOk coreFinite notBelowZero cuttingFinite cuttingOk
     roundFinite roundOk scratchAfter endedBy roundCall roundCore rounding innerLent innerFinite innerOk weighed innerCall contract contractAt sumAxis sums
     inner loneFinite loneOk reachesAt zonesFinite settingsOk stepOk stepOver shiftZone scaleZone roundZone stepFrom step zonesOf rules
-by-hand = (refl, (refl, (refl, (refl, (refl, (refl, (refl, (refl, (refl, (refl, (refl, tt)))))))))))
+both = (
+  (refl, (refl, (refl, (refl, (refl, (refl, (refl, (refl, (refl, (refl, (refl, tt))))))))))),
+  (refl, (refl, (refl, (refl, (refl, (refl, (refl, (refl, (refl, (refl, (refl, (refl, tt)))))))))))),
+)
+
+-- the sums of the scope
+pub by-hand : AllRight cases
+by-hand = both .0
+
+-- which part overflowed
+pub by-part : AllRight overflows
+by-part = both .1

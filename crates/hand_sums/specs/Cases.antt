@@ -8,7 +8,7 @@ use lib.Ieee.{Float, fin, binary64, toBits}
 use mathlib.Core.Bool.{true, false, cond}
 use Rattle.answers.specs.declared.Verdict.{Verdict}
 use Rattle.answers.specs.declared.Verdict.the-variants.{Fits, Refused}
-use Rattle.answers.specs.Table.{numberOf, placeOf}
+use Rattle.answers.specs.Table.{toldOf}
 use Rattle.numbers.specs.Arithmetic.{zero64, one64, two64, half64, quarter64}
 use Rattle.numbers.specs.Root.{rootOf}
 use Rattle.numbers.specs.Floor.{floorOf}
@@ -31,7 +31,7 @@ abbrev pub bits : List Float → List ℕ
 bits xs = map (toBits binary64) xs
 
 -- m * 2 ^ e
-abbrev power : ℕ → ℤ → Float
+abbrev pub power : ℕ → ℤ → Float
 power m e = fin false m e
 
 abbrev pub whole : ℕ → Float
@@ -42,7 +42,7 @@ abbrev integer : WholeNumber → List ℕ
 integer w = cond (w .below) 1 0 ∷ w .size ∷ []
 
 -- ---- chains
-abbrev two-cores : ℕ → ℕ → ℕ → Shape
+abbrev pub two-cores : ℕ → ℕ → ℕ → Shape
 two-cores n r m = record { d = 2; left = 1 ∷ r ∷ replicate 14 0; n = n ∷ m ∷ replicate 14 0; right = r ∷ 1 ∷ replicate 14 0 }
 
 abbrev pub D-shape : Shape
@@ -51,10 +51,10 @@ D-shape = two-cores 2 2 1
 abbrev D : List Float
 D = whole 3 ∷ zero64 ∷ zero64 ∷ power 1 (pos 2) ∷ one64 ∷ one64 ∷ []
 
--- ---- what a call answers: the number and place of a refusal, or the right ranks, the sweeps and the chain of n cores
+-- ---- what a call answers: what is told of a refusal, or the right ranks, the sweeps and the chain of n cores
 abbrev ended : ℕ → Rounded → List Float → Verdict → List ℕ
 ended n r l Fits = take n (r .shape .right) ++ (take n (map (λ (b : Bond). b .sweeps) (r .bonds)) ++ bits l)
-ended n r l (Refused e) = numberOf e ∷ placeOf e ∷ []
+ended n r l (Refused e) = toldOf (Refused e)
 
 abbrev endedBits : ℕ → Ended → List ℕ
 endedBits n e = ended n (e .result) (e .chain) (e .result .verdict)
@@ -65,7 +65,7 @@ rounded s eps l = endedBits 2 (roundCall s (record { eps = eps }) l (zeros (scra
 -- or the shape that it leaves: d, then the left ranks, the sizes and the right ranks of two cores
 abbrev shapeLeft : Shape → Verdict → List ℕ
 shapeLeft s Fits = s .d ∷ take 2 (s .left) ++ (take 2 (s .n) ++ take 2 (s .right))
-shapeLeft s (Refused e) = numberOf e ∷ placeOf e ∷ []
+shapeLeft s (Refused e) = toldOf (Refused e)
 
 abbrev shapeRounded : Shape → Float → List Float → List ℕ
 shapeRounded s eps l = let r = roundCall s (record { eps = eps }) l (zeros (scratchFor (length l))) .result in shapeLeft (r .shape) (r .verdict)

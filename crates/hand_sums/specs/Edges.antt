@@ -1,14 +1,12 @@
--- Calls with two things wrong at once, as one list: which refusal is told, and at which place; and slabs whose only terms are -0. Definitions only.
+-- Calls with two things wrong at once, as one list: which refusal is told; and slabs whose only terms are -0. Definitions only.
 use Prim.Native.Nat.{ℕ}
 use mathlib.Core.Bool.{true, false}
 use mathlib.Core.List.{List, [], _∷_}
 use lib.IntN.{pos}
 use lib.ListN.{replicate}
 use lib.Ieee.{Float, fin, nan}
-use Rattle.answers.specs.declared.Verdict.{Verdict}
-use Rattle.answers.specs.declared.Verdict.the-variants.{Fits, Refused}
 use Rattle.answers.specs.Outcome.{verdictOf}
-use Rattle.answers.specs.Table.{numberOf, placeOf}
+use Rattle.answers.specs.Table.{toldOf}
 use Rattle.numbers.specs.Arithmetic.{zero64, one64}
 use Rattle.lists.specs.Floats.{zeros}
 use Rattle.shape.specs.declared.Shape.{Shape}
@@ -21,11 +19,6 @@ use Rattle.sumform.specs.Start.{startCall}
 use Rattle.stepform.specs.Call.{stepCall, evolveCall}
 use Rattle.hand_sums.specs.Cases.{bits, whole, D-shape, Case, case}
 
--- number and place
-abbrev told : Verdict → List ℕ
-told Fits = []
-told (Refused e) = numberOf e ∷ placeOf e ∷ []
-
 abbrev minus-one : Float
 minus-one = fin true 1 (pos 0)
 
@@ -36,7 +29,7 @@ minus-nought = fin true 0 (pos 0)
 abbrev three-cores : ℕ → ℕ → ℕ → ℕ → ℕ → ℕ → List ℕ
 three-cores l0 r0 l1 r1 l2 r2 =
     let none : List ℕ = replicate 13 0 in
-    told (verdictOf (chainOk (record { d = 3; left = l0 ∷ l1 ∷ l2 ∷ none; n = 1 ∷ 1 ∷ 1 ∷ none; right = r0 ∷ r1 ∷ r2 ∷ none })))
+    toldOf (verdictOf (chainOk (record { d = 3; left = l0 ∷ l1 ∷ l2 ∷ none; n = 1 ∷ 1 ∷ 1 ∷ none; right = r0 ∷ r1 ∷ r2 ∷ none })))
 
 -- ---- D with x for its last number, which is core 1's, and with these settings
 abbrev D-with : Float → List Float
@@ -50,17 +43,17 @@ still = axis zero64 zero64
 
 abbrev stepped : Float → Float → Float → Axis → Axis → Float → List ℕ
 stepped tau c eps a0 a1 x =
-    told (stepCall (record { tau = tau; c = c; cutting = record { eps = eps } }) D-shape (a0 ∷ a1 ∷ []) (D-with x) (zeros (scratchFor 6)) .result .verdict)
+    toldOf (stepCall (record { tau = tau; c = c; cutting = record { eps = eps } }) D-shape (a0 ∷ a1 ∷ []) (D-with x) (zeros (scratchFor 6)) .result .verdict)
 
 abbrev evolved : Float → ℕ → Float → List ℕ
 evolved final steps x =
-    told (evolveCall final steps zero64 (record { eps = zero64 }) D-shape (still ∷ still ∷ []) (D-with x) (zeros (scratchFor 6)) .result .verdict)
+    toldOf (evolveCall final steps zero64 (record { eps = zero64 }) D-shape (still ∷ still ∷ []) (D-with x) (zeros (scratchFor 6)) .result .verdict)
 
 -- ---- the start of two axes, of one and two points
 abbrev started : List Float → List Float → List ℕ
 started vectors chain =
     let s : Shape = record { d = 2; left = replicate 16 0; n = 1 ∷ 2 ∷ replicate 14 0; right = replicate 16 0 } in
-    told (startCall s vectors chain .result .verdict)
+    toldOf (startCall s vectors chain .result .verdict)
 
 -- the slab of the cores (1, 1, 2) and (2, 1, 1)
 abbrev slabOf : List Float → List Float → List ℕ
@@ -70,27 +63,27 @@ slabOf l r = bits (slab (coreWith 1 1 2 l) (coreWith 2 1 1 r))
 unfoldable pub edges : List Case
 edges =
     -- 3: the left end at core 0, a bond at its left core, the right end at the last core; the lowest of two. A size comes first
-    case 3 (three-cores 2 1 1 2 3 1) (3 ∷ 0 ∷ [])
-    ∷ case 3 (three-cores 2 1 1 1 1 2) (3 ∷ 0 ∷ [])
-    ∷ case 3 (three-cores 1 1 2 1 1 2) (3 ∷ 0 ∷ [])
-    ∷ case 3 (three-cores 1 1 1 1 2 2) (3 ∷ 1 ∷ [])
-    ∷ case 3 (three-cores 1 1 1 1 1 2) (3 ∷ 2 ∷ [])
-    ∷ case 2 (three-cores 2 1 1 1 9 1) (2 ∷ 2 ∷ [])
+    case 3 (three-cores 2 1 1 2 3 1) (3 ∷ 0 ∷ 0 ∷ [])
+    ∷ case 3 (three-cores 2 1 1 1 1 2) (3 ∷ 0 ∷ 0 ∷ [])
+    ∷ case 3 (three-cores 1 1 2 1 1 2) (3 ∷ 0 ∷ 0 ∷ [])
+    ∷ case 3 (three-cores 1 1 1 1 2 2) (3 ∷ 1 ∷ 0 ∷ [])
+    ∷ case 3 (three-cores 1 1 1 1 1 2) (3 ∷ 2 ∷ 0 ∷ [])
+    ∷ case 2 (three-cores 2 1 1 1 9 1) (2 ∷ 2 ∷ 0 ∷ [])
     -- 6 before 7: a NaN in core 1, in axis 1 and in a lone setting, each beside a setting below zero
-    ∷ case 6 (stepped minus-one zero64 zero64 still still nan) (6 ∷ 1 ∷ [])
-    ∷ case 6 (stepped one64 zero64 minus-one still (axis zero64 nan) one64) (6 ∷ 1 ∷ [])
-    ∷ case 6 (stepped minus-one nan zero64 still still one64) (6 ∷ 0 ∷ [])
-    ∷ case 6 (stepped one64 zero64 zero64 (axis minus-one zero64) still nan) (6 ∷ 1 ∷ [])
-    ∷ case 6 (evolved one64 0 nan) (6 ∷ 1 ∷ [])
-    ∷ case 6 (evolved minus-one 1 nan) (6 ∷ 1 ∷ [])
+    ∷ case 6 (stepped minus-one zero64 zero64 still still nan) (6 ∷ 1 ∷ 0 ∷ [])
+    ∷ case 6 (stepped one64 zero64 minus-one still (axis zero64 nan) one64) (6 ∷ 1 ∷ 0 ∷ [])
+    ∷ case 6 (stepped minus-one nan zero64 still still one64) (6 ∷ 0 ∷ 0 ∷ [])
+    ∷ case 6 (stepped one64 zero64 zero64 (axis minus-one zero64) still nan) (6 ∷ 1 ∷ 0 ∷ [])
+    ∷ case 6 (evolved one64 0 nan) (6 ∷ 1 ∷ 0 ∷ [])
+    ∷ case 6 (evolved minus-one 1 nan) (6 ∷ 1 ∷ 0 ∷ [])
     -- 7: a lone setting before an axis; before 8
-    ∷ case 7 (stepped one64 zero64 minus-one still (axis minus-one zero64) one64) (7 ∷ 0 ∷ [])
-    ∷ case 7 (stepped one64 zero64 zero64 (axis zero64 (fin false 1 (pos 40))) (axis minus-one zero64) one64) (7 ∷ 1 ∷ [])
+    ∷ case 7 (stepped one64 zero64 minus-one still (axis minus-one zero64) one64) (7 ∷ 0 ∷ 0 ∷ [])
+    ∷ case 7 (stepped one64 zero64 zero64 (axis zero64 (fin false 1 (pos 40))) (axis minus-one zero64) one64) (7 ∷ 1 ∷ 0 ∷ [])
     -- 5: a start's vectors are slice 0, its chain slice 1
-    ∷ case 5 (started (zeros 2) (zeros 3)) (5 ∷ 0 ∷ [])
-    ∷ case 5 (started (zeros 3) (zeros 2)) (5 ∷ 1 ∷ [])
-    ∷ case 5 (started (nan ∷ []) (zeros 2)) (5 ∷ 0 ∷ [])
-    ∷ case 6 (started (zero64 ∷ zero64 ∷ nan ∷ []) (zeros 3)) (6 ∷ 1 ∷ [])
+    ∷ case 5 (started (zeros 2) (zeros 3)) (5 ∷ 0 ∷ 0 ∷ [])
+    ∷ case 5 (started (zeros 3) (zeros 2)) (5 ∷ 1 ∷ 0 ∷ [])
+    ∷ case 5 (started (nan ∷ []) (zeros 2)) (5 ∷ 0 ∷ 0 ∷ [])
+    ∷ case 6 (started (zero64 ∷ zero64 ∷ nan ∷ []) (zeros 3)) (6 ∷ 1 ∷ 0 ∷ [])
     -- a slab's sums start at +0, and +0 + -0 is +0; so they stay where every term is skipped
     ∷ case 0 (slabOf (one64 ∷ one64 ∷ []) (minus-nought ∷ minus-nought ∷ [])) (0 ∷ [])
     ∷ case 0 (slabOf (zero64 ∷ minus-nought ∷ []) (one64 ∷ one64 ∷ [])) (0 ∷ [])

@@ -12,7 +12,7 @@ use Rattle.numbers.specs.Root.{rootIn, wholeRoot, rootOfUnits, rootOf}
 use Rattle.answers.specs.declared.Verdict.{Verdict}
 use Rattle.answers.specs.declared.Verdict.the-variants.{Fits, Refused}
 use Rattle.answers.specs.Outcome.{demand}
-use Rattle.answers.specs.Table.{numberOf, placeOf}
+use Rattle.answers.specs.Table.{toldOf}
 use Rattle.lists.specs.Lists.{pick, listed, flat, first, count, pairs}
 use Rattle.lists.specs.Slots.{fit}
 use Rattle.lists.specs.Walks.{along}
@@ -34,13 +34,13 @@ tolerance-nearest : tolerance64 ≡ round binary64 false 1 (10 ^ 14)
 unfolding ofBits round
 tolerance-nearest = refl
 
--- ---- what a call answers: the number and place of a refusal, or the rank, the passes and the first i and j numbers of its outputs, by their bits
+-- ---- what a call answers: what is told of a refusal, or the rank, the passes and the first i and j numbers of its outputs, by their bits
 abbrev bits : List Float → List ℕ
 bits xs = map (toBits binary64) xs
 
 abbrev told : ℕ → ℕ → PairEnded → Verdict → List ℕ
 told i j e Fits = e .result .rank ∷ e .result .passes ∷ (bits (take i (e .left)) ++ bits (take j (e .right)))
-told i j e (Refused r) = numberOf r ∷ placeOf r ∷ []
+told i j e (Refused r) = toldOf (Refused r)
 
 -- the outputs hold ones before the call
 abbrev answer : ℕ → ℕ → Core → Core → Float → List ℕ
@@ -75,19 +75,24 @@ cases =
     ∷ (answer 4 4 (coreWith 1 2 2 (one64 ∷ zero64 ∷ zero64 ∷ one64 ∷ [])) (coreWith 2 2 1 (one64 ∷ tolerance64 ∷ zero64 ∷ one64 ∷ [])) zero64, 2 ∷ 1 ∷ (bits (one64 ∷ tolerance64 ∷ zero64 ∷ one64 ∷ []) ++ bits (one64 ∷ zero64 ∷ zero64 ∷ one64 ∷ [])))
     -- columns so small that bp*bq is zero are not turned either: the kept rank is their number, above the rows, and 9 is refused
     ∷ (answer 0 0 (points (small false 300 ∷ [])) (ones 8) zero64, 8 ∷ 1 ∷ [])
-    ∷ (answer 0 0 (points (small false 300 ∷ [])) (ones 9) zero64, 10 ∷ 0 ∷ [])
+    ∷ (answer 0 0 (points (small false 300 ∷ [])) (ones 9) zero64, 10 ∷ 0 ∷ 0 ∷ [])
     -- a value of zero: 0 of the column's sign
     ∷ (answer 1 1 (points (small true 600 ∷ [])) (ones 1) zero64, 1 ∷ 1 ∷ 0x8000_0000_0000_0000 ∷ 0x3ff0_0000_0000_0000 ∷ [])
-    -- the slab's number is too large, and the sum of squares
-    ∷ (answer 0 0 (points (large 512 ∷ [])) (points (large 512 ∷ [])) zero64, 9 ∷ 0 ∷ [])
-    ∷ (answer 0 0 (points (large 512 ∷ [])) (ones 1) zero64, 9 ∷ 0 ∷ [])
+    -- the slab, row after row, at its first number that is too large
+    ∷ (answer 0 0 (points (large 512 ∷ [])) (points (large 512 ∷ [])) zero64, 9 ∷ 0 ∷ 0 ∷ [])
+    ∷ (answer 0 0 (points (one64 ∷ large 512 ∷ [])) (points (one64 ∷ large 512 ∷ large 512 ∷ [])) zero64, 9 ∷ 0 ∷ 4 ∷ [])
+    -- the values as they are made: the second column's sum of squares is too large, its product with the first one isn't
+    ∷ (answer 0 0 (points (large 512 ∷ [])) (ones 1) zero64, 12 ∷ 0 ∷ 0 ∷ [])
+    ∷ (answer 0 0 (ones 1) (points (one64 ∷ large 512 ∷ [])) zero64, 12 ∷ 0 ∷ 1 ∷ [])
+    -- the columns after a rotation, column after column: with two such columns their product is too large too, and the angle is no number
+    ∷ (answer 0 0 (ones 2) (points (one64 ∷ large 512 ∷ large 512 ∷ [])) zero64, 12 ∷ 0 ∷ 2 ∷ [])
     -- 65 rows, 65 columns, middle ranks that differ
-    ∷ (answer 0 0 (coreWith 5 13 1 []) (coreWith 1 13 5 []) zero64, 2 ∷ 0 ∷ [])
-    ∷ (answer 0 0 (ones 1) (coreWith 1 13 5 []) zero64, 2 ∷ 1 ∷ [])
-    ∷ (answer 0 0 (coreWith 1 1 2 (one64 ∷ one64 ∷ [])) (ones 1) zero64, 3 ∷ 0 ∷ [])
+    ∷ (answer 0 0 (coreWith 5 13 1 []) (coreWith 1 13 5 []) zero64, 2 ∷ 0 ∷ 0 ∷ [])
+    ∷ (answer 0 0 (ones 1) (coreWith 1 13 5 []) zero64, 2 ∷ 1 ∷ 0 ∷ [])
+    ∷ (answer 0 0 (coreWith 1 1 2 (one64 ∷ one64 ∷ [])) (ones 1) zero64, 3 ∷ 0 ∷ 0 ∷ [])
     -- eps: no number, below zero, -0
-    ∷ (answer 0 0 (ones 1) (ones 1) nan, 6 ∷ 0 ∷ [])
-    ∷ (answer 0 0 (ones 1) (ones 1) (fin true 1 (pos 0)), 7 ∷ 0 ∷ [])
+    ∷ (answer 0 0 (ones 1) (ones 1) nan, 6 ∷ 0 ∷ 0 ∷ [])
+    ∷ (answer 0 0 (ones 1) (ones 1) (fin true 1 (pos 0)), 7 ∷ 0 ∷ 0 ∷ [])
     ∷ (answer 1 1 (ones 1) (ones 1) (fin true 0 (pos 0)), 1 ∷ 1 ∷ bits (one64 ∷ one64 ∷ []))
     ∷ []
 
@@ -100,4 +105,5 @@ unfolding cases add sub mul div lt le eq ofBits toBits magnitudeOf rootIn wholeR
     sumTo allFinite firstNotFinite stored place entry block tangentOf slopeOf cosineOf turnedAt eye placeIn indexAt order sorted thresholdOf keptRank
     notBelowZero scratchAfter plusProduct slabEntry slab turnStored turnedSvd dot skipped rotate pass passesFrom orthogonalized start values inverse leftNumbers
     rightNumbers formed cut split pairOf sizesOk coreNumbers leftRoom rightRoom pairSized pairLent pairFinite pairOk pairBy pairCall
-by-hand = (refl, (refl, (refl, (refl, (refl, (refl, (refl, (refl, (refl, (refl, (refl, (refl, (refl, (refl, tt))))))))))))))
+by-hand =
+    (refl, (refl, (refl, (refl, (refl, (refl, (refl, (refl, (refl, (refl, (refl, (refl, (refl, (refl, (refl, (refl, (refl, tt)))))))))))))))))

@@ -53,7 +53,7 @@ unfolding cases freshEdges replacedEdges add sub mul div neg lt le eq ofInt ofBi
     workFrom rankOk lentFrom scratchLent loneFinite madeFinite coreHeld carryHeld sumsHeld heldFinite loneOk madeOk freshOk freshRun foundOk foundNumbers
     numbersOk replaceOk replace roomLent runEnd freshBy replaceBy
 computed = record {
-  right = (refl, (refl, (refl, (refl, (refl, (refl, (refl, (refl, (refl, (refl, (refl, (refl, (refl, (refl, (refl, (refl, (refl, tt)))))))))))))))));
+  right = (refl, (refl, (refl, (refl, (refl, (refl, (refl, (refl, (refl, (refl, (refl, (refl, (refl, (refl, (refl, (refl, (refl, (refl, (refl, tt)))))))))))))))))));
   fresh-edges = (refl, (refl, (refl, (refl, (refl, (refl, (refl, (refl, (refl, (refl, (refl, tt)))))))))));
   replaced-edges = (refl, (refl, (refl, (refl, (refl, (refl, (refl, (refl, (refl, (refl, (refl, (refl, (refl, (refl, (refl, (refl, (refl, (refl, (refl, (refl, (refl, (refl, (refl, (refl, tt))))))))))))))))))))))));
   refused-fresh = (refl, refl);

@@ -1,11 +1,13 @@
 -- DEMAND 3 of the public calls, whole: the record `Holds` (specs/OnePage.antt) of every run that a fresh run and any replacements leave.
-use mathlib.Core.Path.{_≡_, subst, _∙_}
+use mathlib.Core.Path.{_≡_, ap, subst, _∙_}
 use native.Mathlib.Nat.{zero-add}
 use native.Mathlib.Omega.{arith}
 use mathlib.Core.List.{List}
 use lib.ListN.{length, length-replicate}
 use lib.Ieee.{Float}
+use Rattle.answers.specs.declared.Verdict.{Verdict}
 use Rattle.answers.specs.declared.Verdict.the-variants.{Fits}
+use Rattle.answers.specs.Table.{toldOf}
 use Rattle.lists.proofs.Written.{written-from}
 use Rattle.shape.specs.declared.Shape.{Shape}
 use Rattle.shape.specs.Limits.{mostAxes}
@@ -20,7 +22,7 @@ use Rattle.runform.specs.Kept.{Inputs, Kept, inputsOf, blank, bare}
 use Rattle.runform.specs.Call.{freshCall}
 use Rattle.runform.specs.Left.{Arrays}
 use Rattle.runform.specs.Sequence.{keptAfter, AsFresh, Asked, keptAfterAll, presentAfterAll, AllLend}
-use Rattle.runform.specs.OnePage.{Holds}
+use Rattle.runform.specs.OnePage.{Alike, Holds}
 use Rattle.runform.proofs.Rules.{rules-sound}
 use Rattle.runform.proofs.Trace.{Trace, traced, keptBy}
 use Rattle.runform.proofs.Held.{cuts-length, sizes}
@@ -49,11 +51,14 @@ trace-arrays i T all =
 fresh-arrays : (i : Inputs) (k : Kept) → AsFresh rules i k → Arrays k
 fresh-arrays i k F = let T = traced rules i k (ran-fresh rules i k F) in subst Arrays (T .1) (trace-arrays i (T .0) (F .array))
 
+alike-by : (v w : Verdict) → v ≡ w → Alike v w
+alike-by v w e = record { same = e; told = ap toldOf e }
+
 holds : (i : Inputs) (k : Kept) → AsFresh rules i k → Holds i k
 holds i k F = record {
   fresh = F;
   before = λ q scratch e. untouched rules k q scratch (fresh-arrays i k F) e;
-  alike = λ q O scratch long m room. refused-same rules rules-sound i k F q O scratch long m room;
+  alike = λ q O scratch long m room. alike-by _ _ (refused-same rules rules-sound i k F q O scratch long m room);
   left = λ c r e. refused-call rules k c r e;
   wrong = λ c j W lt. slice-misfits rules rules-sound i k F (c .request) (c .scratch) (c .slices) j W lt;
   outside = λ c out. no-such-zone rules rules-sound i k F (c .request) (c .scratch) (c .slices) out;

@@ -10,7 +10,7 @@ use lib.Ieee.{Float, fin, nan, binary64, toBits}
 use Rattle.numbers.specs.Arithmetic.{zero64, one64, two64}
 use Rattle.answers.specs.declared.Verdict.{Verdict}
 use Rattle.answers.specs.declared.Verdict.the-variants.{Fits, Refused}
-use Rattle.answers.specs.Table.{numberOf, placeOf}
+use Rattle.answers.specs.Table.{toldOf}
 use Rattle.lists.specs.Floats.{zeros}
 use Rattle.shape.specs.declared.Shape.{Shape}
 use Rattle.shape.specs.Limits.{scratchFor}
@@ -59,10 +59,10 @@ settings eps = record { tau = one64; c = zero64; cutting = record { eps = eps } 
 abbrev scratch : List Float
 scratch = zeros (scratchFor 6)
 
--- ---- what a call leaves: number and place of a refusal, or the first rank, the figure, the chain, the carries and the sums
+-- ---- what a call leaves: what is told of a refusal, or the first rank, the figure, the chain, the carries and the sums
 abbrev pub shown : Kept → Verdict → List ℕ
 shown k Fits = rankAt (k .stepped) 0 ∷ bits (k .summed .figure ∷ (k .stepped .chain ++ (k .stepped .carries ++ k .summed .sums)))
-shown k (Refused r) = numberOf r ∷ placeOf r ∷ []
+shown k (Refused r) = toldOf (Refused r)
 
 abbrev pub told : RunEnd → List ℕ
 told e = shown (keptAfter e) (e .result .verdict)
@@ -126,17 +126,20 @@ cases =
     ∷ case (shown wide Fits) (widely (number 20 0) (number 28 0) (number 3 0) (number 9 0) (number 173 0))
     ∷ case (moved (axisOf zero64 one64)) (widely (number 24 0) (number 24 0) (number 6 0) (number 6 0) (number 162 0))
     -- each refusal
-    ∷ case (told (freshly (shapeOf 0 1))) (1 ∷ 0 ∷ [])
-    ∷ case (told (freshly (shapeOf 2 65))) (2 ∷ 1 ∷ [])
-    ∷ case (after (left axes 3 (number 1 2) zero64) (newCore 1 new)) (3 ∷ 0 ∷ [])
-    ∷ case (after kept (newCore 2 new)) (4 ∷ 0 ∷ [])
-    ∷ case (after kept (newCore 1 (two64 ∷ []))) (5 ∷ 5 ∷ [])
-    ∷ case (after kept (newWeights 1 (nan ∷ []))) (6 ∷ 1 ∷ [])
-    ∷ case (after kept (newAxis 1 (axisOf (fin true 1 (pos 0)) zero64))) (7 ∷ 1 ∷ [])
-    ∷ case (after kept (newAxis 0 (axisOf zero64 (number 1 40)))) (8 ∷ 0 ∷ [])
-    ∷ case (after kept (newCore 0 (one64 ∷ one64 ∷ one64 ∷ number 1 600 ∷ []))) (9 ∷ 0 ∷ [])
+    ∷ case (told (freshly (shapeOf 0 1))) (1 ∷ 0 ∷ 0 ∷ [])
+    ∷ case (told (freshly (shapeOf 2 65))) (2 ∷ 1 ∷ 0 ∷ [])
+    ∷ case (after (left axes 3 (number 1 2) zero64) (newCore 1 new)) (3 ∷ 0 ∷ 0 ∷ [])
+    ∷ case (after kept (newCore 2 new)) (4 ∷ 0 ∷ 0 ∷ [])
+    ∷ case (after kept (newCore 1 (two64 ∷ []))) (5 ∷ 5 ∷ 0 ∷ [])
+    ∷ case (after kept (newWeights 1 (nan ∷ []))) (6 ∷ 1 ∷ 0 ∷ [])
+    ∷ case (after kept (newAxis 1 (axisOf (fin true 1 (pos 0)) zero64))) (7 ∷ 1 ∷ 0 ∷ [])
+    ∷ case (after kept (newAxis 0 (axisOf zero64 (number 1 40)))) (8 ∷ 0 ∷ 0 ∷ [])
+    -- a wild forecast: its own Gram matrix, or the core that takes in what is handed on, which is 4, 3; and a wild weight
+    ∷ case (after kept (newCore 0 (one64 ∷ one64 ∷ one64 ∷ number 1 600 ∷ []))) (12 ∷ 0 ∷ 3 ∷ [])
+    ∷ case (after kept (newCore 1 (number 1 1023 ∷ one64 ∷ []))) (13 ∷ 1 ∷ 1 ∷ [])
+    ∷ case (after kept (newWeights 1 (number 1 1022 ∷ []))) (14 ∷ 1 ∷ 0 ∷ [])
     -- a run that others wrote to: 6 in used room, not in unused room; 8 of a shift that is made, not of zone 0's
-    ∷ case (after (left axes 1 nan zero64) (newCore 1 new)) (6 ∷ 0 ∷ [])
+    ∷ case (after (left axes 1 nan zero64) (newCore 1 new)) (6 ∷ 0 ∷ 0 ∷ [])
     ∷ case (after (left axes 1 (number 1 2) nan) (newCore 1 new)) (leaving nan)
     ∷ case (after (left (axisOf zero64 (number 1 40) ∷ axes) 1 (number 1 2) zero64) (newCore 1 new)) (leaving zero64)
     ∷ []

@@ -88,7 +88,7 @@ abbrev each : Kept → List ℕ
 each k = after k (newCore 1 new) ++ (after k (newAxis 1 still) ++ after k (newWeights 1 (one64 ∷ [])))
 
 abbrev thrice : ℕ → ℕ → List ℕ
-thrice n p = n ∷ p ∷ n ∷ p ∷ n ∷ p ∷ []
+thrice n p = n ∷ p ∷ 0 ∷ n ∷ p ∷ 0 ∷ n ∷ p ∷ 0 ∷ []
 
 -- each of them with a NaN
 abbrev eachNaN : Kept → List ℕ
@@ -110,18 +110,18 @@ rankOne o = 1 ∷ bits (number 1 3 ∷ zero64 ∷ one64 ∷ o ∷ o ∷ number 1
 unfoldable pub freshEdges : List Case
 freshEdges =
     -- 6 before 7
-    case (freshly axes (setOf minus-one zero64 zero64) D (one64 ∷ two64 ∷ nan ∷ [])) (6 ∷ 1 ∷ [])
-    ∷ case (freshly (axesOf (axisOf minus-one zero64) still) set (D-with nan) weights) (6 ∷ 1 ∷ [])
-    ∷ case (freshly axes (setOf zero64 nan minus-one) D weights) (6 ∷ 0 ∷ [])
+    case (freshly axes (setOf minus-one zero64 zero64) D (one64 ∷ two64 ∷ nan ∷ [])) (6 ∷ 1 ∷ 0 ∷ [])
+    ∷ case (freshly (axesOf (axisOf minus-one zero64) still) set (D-with nan) weights) (6 ∷ 1 ∷ 0 ∷ [])
+    ∷ case (freshly axes (setOf zero64 nan minus-one) D weights) (6 ∷ 0 ∷ 0 ∷ [])
     -- 7 before 8
-    ∷ case (freshly (axesOf far (axisOf minus-one zero64)) set D weights) (7 ∷ 1 ∷ [])
+    ∷ case (freshly (axesOf far (axisOf minus-one zero64)) set D weights) (7 ∷ 1 ∷ 0 ∷ [])
     -- the slices: source, weights, chain, carries, sums, scratch
-    ∷ case (lent 7 4 7 5 4 1) (5 ∷ 0 ∷ [])
-    ∷ case (lent 6 4 7 5 4 1) (5 ∷ 1 ∷ [])
-    ∷ case (lent 6 3 7 5 4 1) (5 ∷ 2 ∷ [])
-    ∷ case (lent 6 3 6 5 4 1) (5 ∷ 3 ∷ [])
-    ∷ case (lent 6 3 6 4 4 1) (5 ∷ 4 ∷ [])
-    ∷ case (lent 6 3 6 4 3 1) (5 ∷ 5 ∷ [])
+    ∷ case (lent 7 4 7 5 4 1) (5 ∷ 0 ∷ 0 ∷ [])
+    ∷ case (lent 6 4 7 5 4 1) (5 ∷ 1 ∷ 0 ∷ [])
+    ∷ case (lent 6 3 7 5 4 1) (5 ∷ 2 ∷ 0 ∷ [])
+    ∷ case (lent 6 3 6 5 4 1) (5 ∷ 3 ∷ 0 ∷ [])
+    ∷ case (lent 6 3 6 4 4 1) (5 ∷ 4 ∷ 0 ∷ [])
+    ∷ case (lent 6 3 6 4 3 1) (5 ∷ 5 ∷ 0 ∷ [])
     -- unused room is +0, whatever was there
     ∷ case (freshly axes set D weights) (rankOne zero64)
     ∷ []
@@ -135,16 +135,16 @@ replacedEdges =
     ∷ case (eachBeyond (holding (shapeOf 2 1) axes set weights 3 (number 1 3))) (thrice 3 0)
     ∷ case (eachBeyond well) (thrice 4 0)
     -- scratch comes last
-    ∷ case (short (newCore 1 new)) (5 ∷ 6 ∷ [])
-    ∷ case (short (newAxis 1 still)) (5 ∷ 5 ∷ [])
-    ∷ case (short (newWeights 1 (one64 ∷ []))) (5 ∷ 6 ∷ [])
+    ∷ case (short (newCore 1 new)) (5 ∷ 6 ∷ 0 ∷ [])
+    ∷ case (short (newAxis 1 still)) (5 ∷ 5 ∷ 0 ∷ [])
+    ∷ case (short (newWeights 1 (one64 ∷ []))) (5 ∷ 6 ∷ 0 ∷ [])
     -- 6 at the lowest zone, be it the new part's or not
     ∷ case (eachNaN (spoilt axes set (one64 ∷ nan ∷ one64 ∷ []))) (thrice 6 0)
-    ∷ case (after (spoilt axes set (one64 ∷ two64 ∷ nan ∷ [])) (newCore 0 (replicate 4 nan))) (6 ∷ 0 ∷ [])
+    ∷ case (after (spoilt axes set (one64 ∷ two64 ∷ nan ∷ [])) (newCore 0 (replicate 4 nan))) (6 ∷ 0 ∷ 0 ∷ [])
     -- 6 before 7: of the settings, of another axis, and of the new record
     ∷ case (eachNaN (spoilt axes (setOf one64 zero64 minus-one) weights)) (thrice 6 1)
     ∷ case (eachNaN (spoilt (axesOf (axisOf minus-one zero64) still) set weights)) (thrice 6 1)
-    ∷ case (after (spoilt axes set (one64 ∷ two64 ∷ nan ∷ [])) (newAxis 0 (axisOf minus-one zero64))) (6 ∷ 1 ∷ [])
+    ∷ case (after (spoilt axes set (one64 ∷ two64 ∷ nan ∷ [])) (newAxis 0 (axisOf minus-one zero64))) (6 ∷ 1 ∷ 0 ∷ [])
     -- what is held is asked too: the settings, the figure, the records, also one that is to be replaced
     ∷ case (each (spoilt axes (setOf nan zero64 zero64) weights)) (thrice 6 0)
     ∷ case (each (spoilt axes (setOf one64 nan zero64) weights)) (thrice 6 0)
@@ -158,7 +158,7 @@ replacedEdges =
     -- unused room of what is made anew is +0
     ∷ case (after well (newCore 0 (number 3 0 ∷ zero64 ∷ zero64 ∷ number 1 2 ∷ []))) (rankOne zero64)
     -- new weights make no shift: never 8, which a new core of the same zone gives
-    ∷ case (after (spoilt (axesOf far far) set weights) (newCore 0 (zeros 4))) (8 ∷ 0 ∷ [])
+    ∷ case (after (spoilt (axesOf far far) set weights) (newCore 0 (zeros 4))) (8 ∷ 0 ∷ 0 ∷ [])
     ∷ case (after (spoilt (axesOf far far) set weights) (newWeights 1 (one64 ∷ []))) (rankOne minus-nought)
     ∷ []
 

@@ -6,8 +6,10 @@ use lib.ListN.{length, take, getD}
 use lib.Ieee.{Float}
 use Rattle.answers.specs.declared.Refusal.{Refusal}
 use Rattle.answers.specs.declared.Refusal.the-variants.{Zone, Length}
+use Rattle.answers.specs.declared.Verdict.{Verdict}
 use Rattle.answers.specs.declared.Verdict.the-variants.{Fits, Refused}
 use Rattle.answers.specs.Outcome.{done}
+use Rattle.answers.specs.Table.{toldOf}
 use Rattle.shape.specs.Limits.{scratchFor}
 use Rattle.shape.specs.Shapes.{entriesOf}
 use Rattle.stepform.specs.Zones.{rules}
@@ -22,6 +24,11 @@ pub record FirstWrong (j : ℕ) (xs ys : List ℕ) : Type 0 where
   pub before : take j xs ≡ take j ys
   pub wrong : ¬ (getD xs j 0 ≡ getD ys j 0)
 
+-- two verdicts that are the same, and are told alike: by number, core and index, or both by nothing
+pub record Alike (v w : Verdict) : Type 0 where
+  pub same : v ≡ w
+  pub told : toldOf v ≡ toldOf w
+
 -- the run k, whose present inputs are i
 pub record Holds (i : Inputs) (k : Kept) : Type 0 where
   -- "every kept number is bit for bit that of a fresh run on the present inputs"
@@ -29,10 +36,10 @@ pub record Holds (i : Inputs) (k : Kept) : Type 0 where
   -- "zones before the replaced one are not written"
   pub before : (q : Request) (scratch : List Float) → replaceBy rules k q scratch .result .verdict ≡ Fits
       → Left k (keptAfter (replaceBy rules k q scratch)) q
-  -- "a replacement is refused exactly when the fresh run would be, with the same number and place"
+  -- "a replacement is refused exactly when the fresh run would be, with the same number and place", which is core and index
   pub alike : (q : Request) → InOrder (i .shape) q → (scratch : List Float) → length scratch ≡ scratchFor (entriesOf (i .shape))
       → (m : Room) → roomOk (i .shape) m ≡ done tt
-      → replaceBy rules k q scratch .result .verdict ≡ freshBy rules (present i q) m .result .verdict
+      → Alike (replaceBy rules k q scratch .result .verdict) (freshBy rules (present i q) m .result .verdict)
   -- "a refused call leaves all": what it was lent, the run's own or not, and the run
   pub left : (c : Asked) (r : Refusal) → endOf rules k c .result .verdict ≡ Refused r
       → (keptAfter (endOf rules k c) ≡ found k (c .slices)) × (keptAfterCall rules k c ≡ k)
