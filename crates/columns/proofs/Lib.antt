@@ -1,4 +1,3 @@
-pub mod Finite
 pub mod Strips
 pub mod Plainly
 -- for the code: columns of which two were turned

@@ -28,7 +28,7 @@ use Rattle.rotation.specs.Pairs.{turnPairs}
 use Rattle.rotation.proofs.Turned.{rows-turned}
 use Rattle.pairform.specs.Columns.{turnStored, dot, skipped}
 use Rattle.columns.specs.Loops.{squares, FiniteElsewhere}
-use Rattle.columns.proofs.Finite.{grid-finite}
+use Rattle.lists.proofs.Finite.{grid-finite}
 
 -- ---- whether a pair is skipped
 module _ (alpha low high sq : Float) (e : sq ≡ rootOf (times low high)) where

@@ -1,4 +1,6 @@
 pub mod Examples
+-- what stays finite
+pub mod Whole
 -- the stages of a cut
 pub mod Stages
 -- the count and the flag of sweeps: of one bond, and of a rounding

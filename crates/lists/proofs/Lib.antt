@@ -21,6 +21,7 @@ pub mod Eighths
 -- tests, and lists of f64
 pub mod Tests
 pub mod Floats
+pub mod Finite
 pub mod Sums
 pub mod Order
 -- slots and walks
@@ -28,4 +29,5 @@ pub mod Slots
 pub mod Written
 pub mod Packs
 pub mod Walks
+pub mod Keeps
 pub mod Late

@@ -17,7 +17,7 @@ use Rattle.lists.proofs.Floats.{stored-is, finite-getD}
 use Rattle.lists.proofs.Parts.{span-again}
 use Rattle.lists.proofs.Stages.{stored-staged, staged-on, staged-stop}
 use Rattle.lists.proofs.Tables.{length-grid}
-use Rattle.columns.proofs.Finite.{grid-finite}
+use Rattle.lists.proofs.Finite.{grid-finite}
 use Rattle.pair.specs.SlabLoops.{slabAt, columnsOf, slabColumns}
 
 -- the slab stands at the front of its room

@@ -26,7 +26,7 @@ use Rattle.lists.proofs.Loops.{iter-same}
 use Rattle.cutform.specs.Rotation.{tangentOf, slopeOf, cosineOf, turnedAt}
 use Rattle.pairform.specs.Columns.{turnStored, dot, skipped}
 use Rattle.columns.specs.Loops.{squares}
-use Rattle.columns.proofs.Finite.{grid-finite}
+use Rattle.lists.proofs.Finite.{grid-finite}
 use Rattle.columns.proofs.TwoColumns.{squares-at}
 use Rattle.pairform.specs.Passes.{svd, Svd, Pass, passed, turnedSvd, rotate, pass}
 use Rattle.passes.specs.Loops.{passRow}

@@ -1,6 +1,3 @@
-pub mod Laws
--- the columns and the basis stay whole; the count of passes
-pub mod Wholes
 -- for the code: rotations, passes
 pub mod Rotated
 pub mod Backward

@@ -14,16 +14,17 @@ use Rattle.numbers.specs.Arithmetic.{times}
 use Rattle.lists.specs.Lists.{pick}
 use Rattle.lists.specs.Floats.{at, allFinite, stored}
 use Rattle.lists.specs.Walks.{turning}
+use Rattle.lists.proofs.Keeps.{turning-keeps}
 use Rattle.lists.proofs.Pairs.{along-pairs}
 use Rattle.lists.proofs.Stages.{stored-staged, staged-on, staged-stop, staged-last, turning-start}
-use Rattle.cutform.specs.Rotation.{tangentOf, slopeOf, cosineOf}
-use Rattle.cutform.specs.Rotation.{eye}
+use Rattle.cutform.specs.Rotation.{tangentOf, slopeOf, cosineOf, eye}
+use Rattle.cutform.proofs.Whole.{eye-length, eye-finite}
 use Rattle.pairform.specs.Columns.{turnStored, dot, skipped}
 use Rattle.pairform.specs.Passes.{Svd, svd, turnedSvd, Pass, passed, rotate, pass, Passes, made, passesFrom, mostPasses, orthogonalized}
 use Rattle.columns.specs.Loops.{squares}
 use Rattle.passes.specs.Loops.{passRow, Held}
 use Rattle.columns.proofs.TwoColumns.{squares-length, squares-at}
-use Rattle.passes.proofs.Wholes as wholes
+use Rattle.pairform.proofs.Wholes as wholes
 
 -- ---- one rotation
 module _ (m n p q : ℕ) (c s : Float) (a v a' v' : List Float) (ea : a' ≡ turnStored m n p q c s a) (ev : v' ≡ turnStored n n p q c s v) (r : Stage) (er : r ≡ stageOf (stored a')) where
@@ -64,13 +65,19 @@ module _ (m n p q : ℕ) (a v ss : List Float) (quiet : Bool) (es : ss ≡ squar
       let y : slopeOf (dot m a p p) (dot m a q q) (dot m a p q) ≡ x = sym (ex ∙ rw (el, low, high)) in
       rw (test, f, y, ← et, ← ec, d) (staged-last r e (λ z. passed z false))
 
+-- ---- a row of a pass keeps the columns and the basis whole
+row-whole : (m n p : ℕ) (x y : Pass) → wholes.Whole m n (x .svd) → passRow m n p x ≡ done y → wholes.Whole m n (y .svd)
+unfolding passRow
+row-whole m n p x y w h =
+    turning-keeps (λ (z : Pass). wholes.Whole m n (z .svd)) (λ (q : ℕ). rotate m n p q) (λ q a b u g. wholes.rotate-whole m n p q a b u g) (n - (p + 1)) (p + 1) x y w h
+
 -- ---- what is held before the first pass, and stays held
 pub held-first : (m n : ℕ) (a v ss : List Float) → length a ≡ n * m → allFinite a ≡ true → v ≡ eye n → ss ≡ squares m n a → Held m n a v ss
 held-first m n a v ss long fine ev es = record {
   long = long;
-  wide = ap length ev ∙ wholes.eye-length n;
+  wide = ap length ev ∙ eye-length n;
   fine = fine;
-  basis-fine = ap allFinite ev ∙ wholes.eye-finite n;
+  basis-fine = ap allFinite ev ∙ eye-finite n;
   count = squares-length m n a ss es;
   kept = es;
 }
@@ -88,7 +95,7 @@ module _ (m n : ℕ) (a v ss a' v' ss' : List Float) (H : Held m n a v ss) (es :
 
   pub row-held : (p : ℕ) (b b' : Bool) → passRow m n p (passed (svd a v) b) ≡ staged r (passed (svd a' v') b') → Held m n a' v' ss'
   unfolding staged
-  row-held p b b' e = held (wholes.row-whole m n p (passed (svd a v) b) (passed (svd a' v') b') still (e ∙ rw w))
+  row-held p b b' e = held (row-whole m n p (passed (svd a v) b) (passed (svd a' v') b') still (e ∙ rw w))
 
   pub pass-held : (b' : Bool) → pass m n (svd a v) ≡ staged r (passed (svd a' v') b') → Held m n a' v' ss'
   unfolding staged

@@ -1,28 +1,25 @@
 -- The columns and the basis are finite and keep their lengths: as made from a slab that was stored, and by every pass. Assumes nothing.
 use mathlib.Core.Path.{_≡_, refl, ap, _∙_, sym}
-use Prim.Native.Nat.{ℕ, zero, suc, _+_, _-_, _*_}
+use Prim.Native.Nat.{ℕ, zero, suc, _+_, _*_}
 use native.Mathlib.Omega.{arith}
 use mathlib.Core.Bool.{Bool, true, false}
 use mathlib.Core.List.{List}
-use lib.Dec.{eqb}
 use lib.ListN.{length}
-use lib.Ieee.{Float, nan, ofBits}
-use Rattle.numbers.specs.Arithmetic.{times, one64, zero64}
-use Rattle.numbers.specs.Finite.{finite}
+use lib.Ieee.{Float, nan}
+use Rattle.numbers.specs.Arithmetic.{times}
 use Rattle.answers.specs.Outcome.{done, bind}
 use Rattle.answers.proofs.Outcomes.{bind-done, done-inj}
 use Rattle.lists.specs.Lists.{pick, pairs}
 use Rattle.lists.specs.Floats.{allFinite, stored}
 use Rattle.lists.proofs.Cells.{cell-lt}
 use Rattle.lists.proofs.Floats.{finite-getD, stored-is}
+use Rattle.lists.proofs.Finite.{grid-finite}
+use Rattle.lists.proofs.Keeps.{along-keeps}
 use Rattle.lists.proofs.Tables.{length-grid}
 use Rattle.cutform.specs.Rotation.{tangentOf, slopeOf, cosineOf}
-use Rattle.cutform.specs.Rotation.{eye}
+use Rattle.cutform.proofs.Whole.{eye-length, eye-finite}
 use Rattle.pairform.specs.Columns.{turnStored, dot, skipped}
 use Rattle.pairform.specs.Passes.{Svd, svd, turnedSvd, Pass, passed, rotate, pass, Passes, passesFrom, mostPasses, orthogonalized, start}
-use Rattle.passes.specs.Loops.{passRow}
-use Rattle.passes.proofs.Laws.{turning-keeps, along-keeps}
-use Rattle.columns.proofs.Finite.{grid-finite}
 
 -- ---- n columns of m numbers, and a basis of n by n
 pub record Whole (m n : ℕ) (e : Svd) : Type 0 where
@@ -31,19 +28,7 @@ pub record Whole (m n : ℕ) (e : Svd) : Type 0 where
   pub columnsFinite : allFinite (e .columns) ≡ true
   pub basisFinite : allFinite (e .basis) ≡ true
 
--- the basis as made holds ones and zeros, the columns the slab's numbers
-pub eye-length : (n : ℕ) → length (eye n) ≡ n * n
-unfolding eye
-eye-length n = length-grid n n _
-
-pub eye-finite : (n : ℕ) → allFinite (eye n) ≡ true
-unfolding eye pick ofBits
-eye-finite n = grid-finite n n _ (λ i j a b. go (eqb i j))
-  where
-    go : (b : Bool) → finite (pick b one64 zero64) ≡ true
-    go true = refl
-    go false = refl
-
+-- the basis as made, and the slab's numbers as columns
 pub start-whole : (m n : ℕ) (s : List Float) → length s ≡ m * n → allFinite s ≡ true → Whole m n (start m n s)
 unfolding start
 start-whole m n s l f = record {
@@ -73,10 +58,6 @@ module _ (m n : ℕ) where
       go : (b : Bool) (c s : Float) → pick b (done x) (bind (turnedSvd m n p q c s (x .svd)) (λ e. done (passed e false))) ≡ done y → Whole m n (y .svd)
       go true c s h = rw (← done-inj h) w
       go false c s h = let (e, t, g) = bind-done (turnedSvd m n p q c s (x .svd)) (λ e. done (passed e false)) y h in rw (← done-inj g) (turned-whole p q c s (x .svd) e t)
-
-  pub row-whole : (p : ℕ) (x y : Pass) → Whole m n (x .svd) → passRow m n p x ≡ done y → Whole m n (y .svd)
-  unfolding passRow
-  row-whole p x y w h = turning-keeps (λ (z : Pass). Whole m n (z .svd)) (λ (q : ℕ). rotate m n p q) (λ q a b u g. rotate-whole p q a b u g) (n - (p + 1)) (p + 1) x y w h
 
   pub pass-whole : (e : Svd) (y : Pass) → Whole m n e → pass m n e ≡ done y → Whole m n (y .svd)
   unfolding pass
