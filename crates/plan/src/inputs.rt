@@ -14,6 +14,8 @@ pub const SUMS: usize = 10;
 pub const SCRATCH: usize = shape::SCRATCH_TIMES * ENTRIES + shape::SCRATCH_BESIDE;
 
 // The zones of which an input is replaced.
+pub const HARBOUR: usize = 0;
+
 pub const OLD_TOWN: usize = 1;
 
 pub const MILL: usize = 2;

@@ -87,6 +87,25 @@ fn new_forecast(now: State) -> State {
     told(now.same, a, b"cores, carries and sums", inputs::OLD_TOWN)
 }
 
+// A forecast so wild that its squares are too large: the zone's own Gram matrix is refused.
+fn wild_forecast(now: State) -> State {
+    say(b"A new core for zone 1, Old Town, with a slip of the pen: 0.024e200 for 0.024.\n");
+    let p = now.plan;
+    let mut part = inputs::new_forecast();
+    part[1] = 0.024e200;
+    let a = plans::new_core(p, inputs::OLD_TOWN, &part);
+    told(now.same, a, b"cores, carries and sums", inputs::OLD_TOWN)
+}
+
+// A weight so wild that a partial sum of its zone is too large.
+fn wild_weights(now: State) -> State {
+    say(b"New weights for zone 0, Harbour, far too large: 1.5e308 for three loads.\n");
+    let p = now.plan;
+    let part = [1.5e308, 1.5e308, 1.5e308, 0.5];
+    let a = plans::new_weights(p, inputs::HARBOUR, &part);
+    told(now.same, a, b"sums alone,", inputs::HARBOUR)
+}
+
 fn insulated(now: State, x: stepform::Axis) -> State {
     let p = now.plan;
     let a = plans::new_axis(p, inputs::MILL, x);
@@ -104,14 +123,15 @@ fn main() {
     let a = morning();
     show(a);
     let b = wider_pipe(a);
-    let c = new_forecast(b);
+    let c = wild_forecast(wild_weights(b));
+    let d = new_forecast(c);
     say(b"A new axis record for zone 2, Mill, with a slip of the pen: a = -0.01.\n");
-    let d = insulated(c, inputs::axis(-0.01));
+    let e = insulated(d, inputs::axis(-0.01));
     say(b"The same with a = 0.01: insulation, the loads spread less.\n");
-    let e = insulated(d, inputs::axis(0.01));
+    let f = insulated(e, inputs::axis(0.01));
     say(b"At the end of the day:\n\n");
-    show(e);
+    show(f);
     say(b"Every run had the bits of a fresh run: ");
-    print::yes(e.same);
+    print::yes(f.same);
     say(b"\n");
 }

@@ -42,12 +42,16 @@ pub fn figure(x: f64) {
     say(b"\n");
 }
 
-// A refusal by its number, its place and the words of the table.
+// A refusal by its number, its place, the index inside what was being stored, and the words of the table.
 pub fn refusal(q: answers::Refusal) {
     let n = answers::number(q);
     number(n as usize);
     say(b" at ");
     number(answers::place(q));
+    if let answers::Refusal::Stored(_, _, i) = q {
+        say(b", index ");
+        number(i);
+    }
     say(b": ");
     crate::reasons::reason(n);
 }
