@@ -25,21 +25,33 @@ pub const KEPT: usize = HELD - CHAIN;
 
 const SCRATCH: usize = shape::SCRATCH_TIMES * ROOM + shape::SCRATCH_BESIDE;
 
-// What a verdict tells: 0 and 0 where there is no refusal.
+// What a verdict tells: all 0 where there is no refusal.
 pub struct Told {
     pub number: usize,
     pub place: usize,
+    pub index: usize,
+}
+
+// What a check tells: nothing was being stored.
+pub fn checked(number: usize, place: usize) -> Told {
+    Told {
+        number,
+        place,
+        index: 0,
+    }
+}
+
+pub fn same_told(a: Told, b: Told) -> bool {
+    (a.number == b.number) & (a.place == b.place) & (a.index == b.index)
 }
 
 pub fn reading(v: answers::Verdict) -> Told {
     match v {
-        answers::Verdict::Fits => Told {
-            number: 0,
-            place: 0,
-        },
+        answers::Verdict::Fits => checked(0, 0),
         answers::Verdict::Refused(q) => Told {
             number: answers::number(q) as usize,
             place: answers::place(q),
+            index: answers::index(q),
         },
     }
 }

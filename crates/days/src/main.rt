@@ -24,16 +24,16 @@ const LISTS: usize = 6;
 const PART: usize = 1025;
 
 // ---- what is counted: the replacements, the refusals by their number, then these
-const TURN: usize = 12;
+const TURN: usize = 15;
 
-const AGREED: usize = 13;
+const AGREED: usize = 16;
 
-const DAY: usize = 14;
+const DAY: usize = 17;
 
 // The same again of the turns on runs that others wrote to, and of the fresh runs.
-const SPOILT: usize = 15;
+const SPOILT: usize = 18;
 
-const COUNTS: usize = 30;
+const COUNTS: usize = 36;
 
 struct Tally {
     counts: [usize; COUNTS],
@@ -177,6 +177,9 @@ fn lines(t: Tally, from: usize) {
     line(b"refused 7: ", t, from, 7);
     line(b"refused 8: ", t, from, 8);
     line(b"refused 9: ", t, from, 9);
+    line(b"refused 12: ", t, from, 12);
+    line(b"refused 13: ", t, from, 13);
+    line(b"refused 14: ", t, from, 14);
     line(b"turns ", t, from, TURN);
     line(b"agreed ", t, from, AGREED);
 }

@@ -25,10 +25,7 @@ fn expected_spoilt(q: asks::Ask, set: stepform::Settings, fresh: calls::Told) ->
     let numbers = [6, 7, 6, 7, 6, 2, 6, 8];
     let places = [0, 0, q.spot, q.spot, q.spot, q.spot, lower, q.spot];
     let k = drawing::chance::below(q.flaw, asks::KINDS_SPOILT);
-    calls::Told {
-        number: numbers[k],
-        place: places[k],
-    }
+    calls::checked(numbers[k], places[k])
 }
 
 // What is to be told: as a fresh run, where there can be one, and else by the flaw.
@@ -46,10 +43,7 @@ fn expected(q: asks::Ask, set: stepform::Settings, fresh: calls::Told) -> calls:
     }
     let numbers = [3, 3, 4, 5, 5, 6, 6];
     let places = [q.spot, q.spot, 0, 5, lent, q.spot, 0];
-    calls::Told {
-        number: numbers[flaw],
-        place: places[flaw],
-    }
+    calls::checked(numbers[flaw], places[flaw])
 }
 
 // ---- the fresh run
@@ -262,7 +256,7 @@ fn right(q: asks::Ask, r: runform::Run, got: runform::Ran, want: runform::Ran, f
     let set = r.set;
     let told = calls::reading(v);
     let due = expected(q, set, calls::reading(w));
-    let agrees = (told.number == due.number) & (told.place == due.place);
+    let agrees = calls::same_told(told, due);
     if told.number == 0 {
         return agrees & same_run(a, spoilt(q, b)) & f.fresh & f.apart;
     }
@@ -384,18 +378,13 @@ fn is_refused(r: runform::Run, wrong: usize, held: [f64; calls::HELD], due: call
     let got = end.ran;
     let a = got.run;
     let v = got.verdict;
-    let told = calls::reading(v);
-    let agrees = (told.number == due.number) & (told.place == due.place);
+    let agrees = calls::same_told(calls::reading(v), due);
     agrees & end.clean & same_run(a, blank(r)) & same_lists(&now, &held)
 }
 
 // The same of a fresh run that is lent a list of a wrong length.
 pub fn is_refused_by_length(r: runform::Run, list: usize, held: [f64; calls::HELD]) -> bool {
-    let due = calls::Told {
-        number: 5,
-        place: list,
-    };
-    is_refused(r, list, held, due)
+    is_refused(r, list, held, calls::checked(5, list))
 }
 
 // The same of the settings and the axis record that others wrote to, where they are to be refused.
@@ -404,11 +393,7 @@ fn refused_beside(q: asks::Ask, r: runform::Run, held: [f64; calls::HELD]) -> bo
         return true;
     }
     let set = r.set;
-    let none = calls::Told {
-        number: 0,
-        place: 0,
-    };
-    let due = expected_spoilt(q, set, none);
+    let due = expected_spoilt(q, set, calls::checked(0, 0));
     is_refused(spoilt(q, r), asks::NO_LIST, held, due)
 }
 

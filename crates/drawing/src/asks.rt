@@ -45,7 +45,7 @@ const BELOW_ZERO: usize = 8;
 // 8, where anything is shifted
 const TOO_FAR: usize = 9;
 
-// 9, nearly always
+// 9, 12, 13 or 14, nearly always
 const OVERFLOW: usize = 10;
 
 const NONE: usize = 11;
@@ -253,8 +253,8 @@ fn scale(x: usize, flaw: usize, kind: usize) -> f64 {
         if kind == WEIGHTS {
             return 8e307;
         }
-        let much = [1e155, 1e200];
-        let k = chance::below(x, 2);
+        let much = [1e155, 1e200, 8.9e307, 8.9e307];
+        let k = chance::below(x, 4);
         return much[k];
     }
     let k = chance::below(x, 20);
