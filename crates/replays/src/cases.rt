@@ -83,14 +83,16 @@ pub fn shape() -> shape::Shape {
 }
 
 // ---- what a call answered and left
-// Whether a call answered what a case says: 0 and 0 where it is accepted, else the number and the place.
+// Whether a call answered what a case says: thrice 0 where it is accepted, else number, place and index.
 pub fn verdict(v: answers::Verdict) -> bool {
     let number = word();
     let place = word();
+    let index = word();
     match v {
-        answers::Verdict::Fits => (number == 0) & (place == 0),
+        answers::Verdict::Fits => (number == 0) & (place == 0) & (index == 0),
         answers::Verdict::Refused(r) => (number == answers::number(r) as usize)
-            & (place == answers::place(r)),
+            & (place == answers::place(r))
+            & (index == answers::index(r)),
     }
 }
 
