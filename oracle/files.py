@@ -2,10 +2,10 @@
 """Chain files and what the scope says of them, as the last list that `replays` reads: oracle/files.py > file.list
 
 Everything here is written from the scope's section on the chain file, and shares nothing with the code that it tests. A case
-starts with its kind: 0 reading (bytes, room; number and place, or 0 and 0; shape; what the room holds at the end), 1 writing
-(shape, chain, the output's length; number and place; what the output holds at the end), 2 the listing (bytes; text). A word has
-eight bytes, the lowest first; bytes stand behind a word that says how many. A second list follows, of cases each of which has an answer
-that is wrong in one word or byte.
+starts with its kind: 0 reading (bytes, room; number, place and index, or 0 0 0; shape; what the room holds at the end), 1 writing
+(shape, chain, the output's length; number, place and index; what the output holds at the end), 2 the listing (bytes; text). No
+refusal of a file has an index but 0. A word has eight bytes, the lowest first; bytes stand behind a word that says how many. A second
+list follows, of cases each of which has an answer that is wrong in one word or byte.
 """
 import struct
 import sys
@@ -141,6 +141,10 @@ class Answer:
             self.values.append(len(self.data))
             self.data += words(number)
 
+    def refusal(self, number=0, place=0):
+        """number, place and index"""
+        self.value(number, place, 0)
+
     def counts(self, numbers):
         """the counts at the front of an array, 0 behind them"""
         at = len(self.data)
@@ -189,10 +193,12 @@ def reading(data, room):
     answer = Answer()
     try:
         cores, bits = read(data, room)
-        answer.value(0, 0, len(cores))
+        answer.refusal()
+        answer.value(len(cores))
         sides, front, behind = zip(*cores), bits, 0
     except Refused as r:
-        answer.value(*r.args, 0)
+        answer.refusal(*r.args)
+        answer.value(0)
         sides, front, behind = [()] * 3, [], BEFORE
     for side in sides:
         answer.counts(side)
@@ -204,10 +210,10 @@ def writing(d, cores, bits, room):
     answer = Answer()
     try:
         made = write(d, cores, bits, room)
-        answer.value(0, 0)
+        answer.refusal()
     except Refused as r:
         made = bytes([SPACE]) * room
-        answer.value(*r.args)
+        answer.refusal(*r.args)
     answer.text(made)
     return case(words(1) + shaped(d, cores[:min(d, 16)]) + words(len(bits), *bits) + words(room), answer)
 

@@ -1,5 +1,5 @@
 //! Chain files, which the Rust doesn't have: a reader and a writer made from the scope's text stand in for it.
-use crate::case::{demand, Case, Refusal};
+use crate::case::{demand, told, Case, Refusal};
 use crate::chains::{flat, shape_of};
 use crate::lent::{self, Lent};
 use crate::port::{self, Shape};
@@ -43,7 +43,7 @@ const EMPTY: Shape = Shape {
 
 /// The shape that header and table give.
 fn contents(file: &[u8]) -> Result<Shape, Refusal> {
-    let rule = |at: usize| Err((11, at as u64));
+    let rule = |at: usize| Err(Refusal::Checked(11, at));
     if file.len() < HEADER {
         return rule(file.len());
     }
@@ -55,7 +55,7 @@ fn contents(file: &[u8]) -> Result<Shape, Refusal> {
     }
     let d = short_at(file, 4);
     if !(1..=16).contains(&d) {
-        return Err((1, 0));
+        return Err(Refusal::Checked(1, 0));
     }
     if file.len() < HEADER + ENTRY * d {
         return rule(file.len());
@@ -66,7 +66,7 @@ fn contents(file: &[u8]) -> Result<Shape, Refusal> {
         let at = HEADER + ENTRY * k;
         let [left, n, right, zero] = [0, 2, 4, 6].map(|field| short_at(file, at + field));
         if !(1..=8).contains(&left) || !(1..=64).contains(&n) || !(1..=8).contains(&right) {
-            return Err((2, k as u64));
+            return Err(Refusal::Checked(2, k));
         }
         if zero != 0 {
             return rule(at + 6);
@@ -88,7 +88,7 @@ fn contents(file: &[u8]) -> Result<Shape, Refusal> {
 fn read(file: &[u8], room: usize) -> Result<(Shape, Vec<f64>), Refusal> {
     let s = contents(file)?;
     if room < table::entries(&s) {
-        return Err((5, 1));
+        return Err(Refusal::Checked(5, 1));
     }
     let body = &file[HEADER + ENTRY * s.d..];
     let numbers: Vec<f64> = body
@@ -98,7 +98,7 @@ fn read(file: &[u8], room: usize) -> Result<(Shape, Vec<f64>), Refusal> {
     for k in 0..s.d {
         let core = table::part(&numbers, |k| table::core_size(&s, k), k);
         if core.iter().any(|x| !x.is_finite()) {
-            return Err((6, k as u64));
+            return Err(Refusal::Checked(6, k));
         }
     }
     Ok((s, numbers))
@@ -192,10 +192,8 @@ impl Case for Read {
         let mut file = Lent::of("file", &self.file);
         let mut numbers = lent::room(r, "numbers", self.room);
         let got = port::read_chain(file.part(), numbers.part());
-        let told = match want {
-            Err(refusal) => (*refusal, EMPTY),
-            Ok((shape, _)) => ((0, 0), shape.clone()),
-        };
+        let shape = want.as_ref().map_or(EMPTY, |(shape, _)| shape.clone());
+        let told = (told(want), shape);
         demand(got == told, || format!("answered {got:?}\nnot {told:?}"))?;
         file.unwritten()?;
         match want {
@@ -211,7 +209,10 @@ fn listing(file: &[u8]) -> String {
         return "too large\n".to_string();
     }
     match read(file, 1_049) {
-        Err((number, place)) => format!("refused {number} at {place}\n"),
+        Err(refusal) => {
+            let told = refusal.told();
+            format!("refused {} at {}\n", told.number, told.place)
+        }
         Ok((s, _)) => {
             let mut text = format!("axes {} entries {}\n", s.d, table::entries(&s));
             for k in 0..s.d {
@@ -305,7 +306,7 @@ impl Case for Write {
         let mut chain = Lent::of("chain", &self.chain);
         let mut file = lent::bytes(r, "file", self.room);
         let got = port::write_chain(&self.shape, chain.part(), file.part());
-        let told = want.as_ref().err().copied().unwrap_or((0, 0));
+        let told = told(want);
         demand(got == told, || format!("answered {got:?}\nnot {told:?}"))?;
         chain.unwritten()?;
         match want {

@@ -1,5 +1,5 @@
 //! The kinds of cases, the order in which they come, and how large they are.
-use crate::case::{compare, Told};
+use crate::case::{compare, Agreed};
 use crate::files::{List, Read, Write};
 use crate::pairs::Pair;
 use crate::products::{Inner, Start};
@@ -11,7 +11,7 @@ use oracle::draw::Most;
 use oracle::random::Random;
 
 /// A kind's name, and the function that compares one case of it.
-type Kind = (&'static str, fn(&mut Random, &Most, usize) -> Told);
+type Kind = (&'static str, fn(&mut Random, &Most, usize) -> Agreed);
 
 pub const KINDS: [Kind; 12] = [
     ("round", |r, most, _| compare(Round::draw(r, most), r)),
@@ -56,7 +56,7 @@ fn most(r: &mut Random) -> Most {
 }
 
 /// Case `index` of a kind; it depends on seed, kind and index alone. A pair may always have as many lines as there may be.
-pub fn one(kind: usize, seed: u64, index: usize) -> Told {
+pub fn one(kind: usize, seed: u64, index: usize) -> Agreed {
     let (name, case) = KINDS[kind];
     let mut r = Random::of_case(seed, name, index);
     let mut most = most(&mut r);

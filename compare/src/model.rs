@@ -4,7 +4,7 @@ use crate::port::{Bond, Record, Shape};
 use crate::table::{self, part};
 use oracle::calls::{self, Bonds, Refused};
 use oracle::counted::same;
-use oracle::tt_chernoff::{self, TtChernoff, TtState};
+use oracle::tt_chernoff::{TtChernoff, TtState};
 use oracle::tt_core::TtCore;
 
 /// The record and the five slices.
@@ -165,8 +165,7 @@ fn sum_from(run: &mut Run, z: usize) -> Result<(), Refused> {
         run.kept_sums(z - 1).to_vec()
     };
     for k in z..s.d {
-        sums = tt_chernoff::contract_step(&run.kept_core(k), &weights[k], &sums);
-        calls::demand_finite(&sums, k)?;
+        sums = calls::sum(&run.kept_core(k), k, &weights[k], &sums)?;
         put(&mut run.sums, |k| sum_size(&s, k), k, &sums);
     }
     run.record.figure = sums[0];

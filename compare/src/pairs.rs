@@ -1,5 +1,5 @@
 //! Pairs: two neighbouring cores contracted and split again.
-use crate::case::{demand, numbered, Case, Refusal};
+use crate::case::{demand, told, Case, Refusal};
 use crate::lent::{self, Lent};
 use crate::rounds::scratch_ends;
 use crate::{port, spoil, table};
@@ -91,7 +91,7 @@ impl Case for Pair {
         let mut state = TtState {
             cores: vec![left, right],
         };
-        let passes = calls::pair(&mut state, self.eps).map_err(numbered)?;
+        let passes = calls::pair(&mut state, self.eps)?;
         let [left, right] = &state.cores[..] else {
             unreachable!("two cores")
         };
@@ -115,10 +115,8 @@ impl Case for Pair {
             [left.part(), right.part()],
             [lefts.part(), rights.part(), scratch.part()],
         );
-        let told = match want {
-            Err(refusal) => (*refusal, 0, 0),
-            Ok(split) => ((0, 0), split.rank, split.passes),
-        };
+        let counts = want.as_ref().map_or((0, 0), |s| (s.rank, s.passes));
+        let told = (told(want), counts.0, counts.1);
         demand(got == told, || format!("answered {got:?}\nnot {told:?}"))?;
         left.unwritten()?;
         right.unwritten()?;

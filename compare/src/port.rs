@@ -1,17 +1,28 @@
 //! The port's calls, declared as face/uyavsker.h has them. All unsafe code stands here: what a call asks is that its slices are as
 //! long as said and that a written one overlaps no other, which references ensure.
-use crate::case::Refusal;
-
+/// What is told of a refusal, three times 0 where there is none.
 #[repr(C)]
 #[derive(Clone, Copy, Debug, PartialEq)]
 pub struct Told {
-    number: u8,
-    place: usize,
+    pub number: u8,
+    pub place: usize,
+    index: usize,
 }
 
 impl Told {
-    fn refusal(self) -> Refusal {
-        (u64::from(self.number), self.place as u64)
+    pub const ANSWERED: Told = Told {
+        number: 0,
+        place: 0,
+        index: 0,
+    };
+
+    pub fn of([number, place, index]: [usize; 3]) -> Told {
+        let number = number as u8;
+        Told {
+            number,
+            place,
+            index,
+        }
     }
 }
 
@@ -68,12 +79,9 @@ pub struct Rounded {
 }
 
 impl Rounded {
-    pub fn of((number, place): Refusal, shape: Shape) -> Rounded {
+    pub fn of(refusal: Told, shape: Shape) -> Rounded {
         Rounded {
-            refusal: Told {
-                number: number as u8,
-                place: place as usize,
-            },
+            refusal,
             shape,
             bonds: [Bond::default(); 16],
         }
@@ -125,8 +133,8 @@ pub struct Ran {
 }
 
 impl Ran {
-    fn told(self) -> (Refusal, Record) {
-        (self.refusal.refusal(), self.run)
+    fn told(self) -> (Told, Record) {
+        (self.refusal, self.run)
     }
 }
 
@@ -182,19 +190,19 @@ pub fn entry_of(chain: &[f64], s: &Shape, [k, il, im, ir]: [usize; 4]) -> Option
 }
 
 #[rustfmt::skip]
-pub fn rank1_separable(s: &Shape, vectors: &[f64], chain: &mut [f64]) -> (Refusal, Shape) {
+pub fn rank1_separable(s: &Shape, vectors: &[f64], chain: &mut [f64]) -> (Told, Shape) {
     let made = unsafe {
         uyavsker_rank1_separable(s.clone(), vectors.as_ptr(), vectors.len(), chain.as_mut_ptr(), chain.len())
     };
-    (made.refusal.refusal(), made.shape)
+    (made.refusal, made.shape)
 }
 
 #[rustfmt::skip]
-pub fn inner_separable(s: &Shape, chain: &[f64], weights: &[f64]) -> (Refusal, f64) {
+pub fn inner_separable(s: &Shape, chain: &[f64], weights: &[f64]) -> (Told, f64) {
     let told = unsafe {
         uyavsker_inner_separable(s.clone(), chain.as_ptr(), chain.len(), weights.as_ptr(), weights.len())
     };
-    (told.refusal.refusal(), told.value)
+    (told.refusal, told.value)
 }
 
 #[rustfmt::skip]
@@ -234,24 +242,24 @@ pub fn contract_and_split(
     eps: f64,
     [left, right]: [&[f64]; 2],
     [lefts, rights, scratch]: [&mut [f64]; 3],
-) -> (Refusal, usize, usize) {
+) -> (Told, usize, usize) {
     let made = unsafe {
         uyavsker_contract_and_split(Sizes(sizes[0]), Sizes(sizes[1]), eps,
             left.as_ptr(), left.len(), right.as_ptr(), right.len(),
             lefts.as_mut_ptr(), lefts.len(), rights.as_mut_ptr(), rights.len(), scratch.as_mut_ptr(), scratch.len())
     };
-    (made.refusal.refusal(), made.rank, made.passes)
+    (made.refusal, made.rank, made.passes)
 }
 
-pub fn read_chain(file: &[u8], numbers: &mut [f64]) -> (Refusal, Shape) {
+pub fn read_chain(file: &[u8], numbers: &mut [f64]) -> (Told, Shape) {
     let (out, room) = (numbers.as_mut_ptr(), numbers.len());
     let read = unsafe { uyavsker_read_chain(file.as_ptr(), file.len(), out, room) };
-    (read.refusal.refusal(), read.shape)
+    (read.refusal, read.shape)
 }
 
-pub fn write_chain(s: &Shape, chain: &[f64], file: &mut [u8]) -> Refusal {
+pub fn write_chain(s: &Shape, chain: &[f64], file: &mut [u8]) -> Told {
     let (out, room) = (file.as_mut_ptr(), file.len());
-    unsafe { uyavsker_write_chain(s.clone(), chain.as_ptr(), chain.len(), out, room) }.refusal()
+    unsafe { uyavsker_write_chain(s.clone(), chain.as_ptr(), chain.len(), out, room) }
 }
 
 pub fn text_of(file: &[u8], text: &mut [u8; 2048]) -> usize {
@@ -262,7 +270,7 @@ pub fn text_of(file: &[u8], text: &mut [u8; 2048]) -> usize {
 pub type Slices<'a> = [&'a mut [f64]; 5];
 
 #[rustfmt::skip]
-pub fn fresh_run(run: &Record, [source, weights, chain, carries, sums]: Slices, scratch: &mut [f64]) -> (Refusal, Record) {
+pub fn fresh_run(run: &Record, [source, weights, chain, carries, sums]: Slices, scratch: &mut [f64]) -> (Told, Record) {
     let set = Settings([run.tau, run.c, run.eps]);
     unsafe {
         uyavsker_fresh_run(run.shape.clone(), Axes(run.axes), set,
@@ -272,7 +280,7 @@ pub fn fresh_run(run: &Record, [source, weights, chain, carries, sums]: Slices, 
 }
 
 #[rustfmt::skip]
-pub fn replace_core(run: &Record, z: usize, [source, weights, chain, carries, sums]: Slices, part: &[f64], scratch: &mut [f64]) -> (Refusal, Record) {
+pub fn replace_core(run: &Record, z: usize, [source, weights, chain, carries, sums]: Slices, part: &[f64], scratch: &mut [f64]) -> (Told, Record) {
     unsafe {
         uyavsker_replace_core(run.clone(), z,
             source.as_mut_ptr(), source.len(), weights.as_ptr(), weights.len(), chain.as_mut_ptr(), chain.len(),
@@ -281,7 +289,7 @@ pub fn replace_core(run: &Record, z: usize, [source, weights, chain, carries, su
 }
 
 #[rustfmt::skip]
-pub fn replace_weights(run: &Record, z: usize, [source, weights, chain, carries, sums]: Slices, part: &[f64], scratch: &mut [f64]) -> (Refusal, Record) {
+pub fn replace_weights(run: &Record, z: usize, [source, weights, chain, carries, sums]: Slices, part: &[f64], scratch: &mut [f64]) -> (Told, Record) {
     unsafe {
         uyavsker_replace_weights(run.clone(), z,
             source.as_ptr(), source.len(), weights.as_mut_ptr(), weights.len(), chain.as_ptr(), chain.len(),
@@ -290,7 +298,7 @@ pub fn replace_weights(run: &Record, z: usize, [source, weights, chain, carries,
 }
 
 #[rustfmt::skip]
-pub fn replace_axis(run: &Record, z: usize, axis: [f64; 4], [source, weights, chain, carries, sums]: Slices, scratch: &mut [f64]) -> (Refusal, Record) {
+pub fn replace_axis(run: &Record, z: usize, axis: [f64; 4], [source, weights, chain, carries, sums]: Slices, scratch: &mut [f64]) -> (Told, Record) {
     unsafe {
         uyavsker_replace_axis(run.clone(), z, Axis(axis),
             source.as_ptr(), source.len(), weights.as_ptr(), weights.len(), chain.as_mut_ptr(), chain.len(),

@@ -1,5 +1,5 @@
 //! Inner products and separable starts.
-use crate::case::{demand, numbered, Case, Refusal};
+use crate::case::{demand, told, Case, Refusal};
 use crate::chains::{cores_of, flat, lists_of, shape_of};
 use crate::lent::{self, Lent, Word};
 use crate::port::{self, Shape};
@@ -47,17 +47,14 @@ impl Case for Inner {
     fn rust(&self) -> Result<f64, Refusal> {
         let cores = cores_of(&self.shape, &self.chain);
         let weights = lists_of(&self.shape, &self.weights);
-        calls::inner(&TtState { cores }, &weights).map_err(numbered)
+        Ok(calls::inner(&TtState { cores }, &weights)?)
     }
 
     fn port(&self, _: &mut Random, want: &Result<f64, Refusal>) -> Result<(), String> {
         let mut chain = Lent::of("chain", &self.chain);
         let mut weights = Lent::of("weights", &self.weights);
         let (refusal, figure) = port::inner_separable(&self.shape, chain.part(), weights.part());
-        let told = match want {
-            Ok(figure) => ((0, 0), *figure),
-            Err(refusal) => (*refusal, 0.0),
-        };
+        let told = (told(want), want.as_ref().map_or(0.0, |figure| *figure));
         demand(refusal == told.0 && figure.same(told.1), || {
             format!("answered {refusal:?} {figure:e}\nnot {told:?}")
         })?;
@@ -112,18 +109,11 @@ impl Case for Start {
         let mut vectors = Lent::of("vectors", &self.vectors);
         let mut chain = lent::room(r, "chain", self.chain);
         let got = port::rank1_separable(&self.shape, vectors.part(), chain.part());
-        let told = match want {
-            Err(refusal) => (*refusal, self.shape.clone()),
-            Ok(_) => {
-                let ranks = [1; 16];
-                let one = Shape {
-                    left: ranks,
-                    right: ranks,
-                    ..self.shape.clone()
-                };
-                ((0, 0), one)
-            }
-        };
+        let mut shape = self.shape.clone();
+        if want.is_ok() {
+            (shape.left, shape.right) = ([1; 16], [1; 16]);
+        }
+        let told = (told(want), shape);
         demand(got == told, || format!("answered {got:?}\nnot {told:?}"))?;
         vectors.unwritten()?;
         match want {

@@ -1,5 +1,5 @@
 //! Roundings, and what the end of a rounding, a step and an evolve have in common.
-use crate::case::{demand, numbered, Case, Refusal};
+use crate::case::{demand, told, Case, Refusal};
 use crate::chains::{cores_of, flat, scratch_for, shape_of};
 use crate::lent::{self, Lent};
 use crate::port::{self, Bond, Rounded, Shape};
@@ -17,8 +17,7 @@ pub struct Ended {
 
 /// What a call that rounds must answer on a chain of this shape.
 fn answer(s: &Shape, want: &Result<Ended, Refusal>) -> Rounded {
-    let refusal = want.as_ref().err().copied().unwrap_or((0, 0));
-    let mut told = Rounded::of(refusal, s.clone());
+    let mut told = Rounded::of(told(want), s.clone());
     if let Ok(end) = want {
         for (k, c) in end.cores.iter().enumerate() {
             (told.shape.left[k], told.shape.right[k]) = (c.r_left, c.r_right);
@@ -34,10 +33,10 @@ fn answer(s: &Shape, want: &Result<Ended, Refusal>) -> Rounded {
     told
 }
 
-/// 1 to 8 and 11 leave scratch unwritten, everything else +0.
+/// What a check refuses leaves scratch unwritten, everything else +0.
 pub fn scratch_ends<T>(scratch: &Lent<f64>, want: &Result<T, Refusal>) -> Result<(), String> {
     match want {
-        Err((number, _)) if *number <= 8 => scratch.unwritten(),
+        Err(Refusal::Checked(..)) => scratch.unwritten(),
         _ => scratch.holds(&[]),
     }
 }
@@ -99,7 +98,7 @@ impl Case for Round {
 
     fn rust(&self) -> Result<Ended, Refusal> {
         let mut cores = cores_of(&self.shape, &self.chain);
-        let bonds = calls::round(&mut cores, self.eps).map_err(numbered)?;
+        let bonds = calls::round(&mut cores, self.eps)?;
         Ok(Ended { cores, bonds })
     }
 

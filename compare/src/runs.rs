@@ -1,10 +1,10 @@
 //! Kept runs: a fresh one, then replacements one after another, at times on a run that others wrote to. As long as nobody else wrote,
 //! the run must also be, bit for bit, the port's own fresh run on the present inputs.
-use crate::case::{demand, numbered, Refusal, Told};
+use crate::case::{demand, told, Agreed, Refusal};
 use crate::chains::{flat, scratch_for, shape_of};
 use crate::lent::{self, Lent, Word};
 use crate::model::{self, carry_size, sum_size, Part, Run};
-use crate::port::{self, Bond, Record};
+use crate::port::{self, Bond, Record, Told};
 use crate::rounds::scratch_ends;
 use crate::{asked, chains, spoil, table};
 use oracle::draw::{self, Most};
@@ -182,15 +182,13 @@ impl Slices {
 /// Answer, slices and scratch of a fresh run or a replacement on `given`.
 fn held(
     given: &Record,
-    got: &(Refusal, Record),
+    got: &(Told, Record),
     slices: &Slices,
     scratch: &Lent<f64>,
     want: &Result<Run, Refusal>,
 ) -> Result<(), String> {
-    let told = match want {
-        Ok(run) => ((0, 0), &run.record),
-        Err(refusal) => (*refusal, given),
-    };
+    let record = want.as_ref().map_or(given, |run| &run.record);
+    let told = (told(want), record);
     demand(got.0 == told.0 && same_record(&got.1, told.1), || {
         format!("answered {got:?}\nnot {told:?}")
     })?;
@@ -261,15 +259,20 @@ fn unused_zero(run: &Run, zone: usize, sums_only: bool) -> Result<(), String> {
     Ok(())
 }
 
-/// One replacement; the run that it leaves, and the number of its refusal.
-fn replace(r: &mut Random, run: &Run, zone: usize, new: &Part) -> Result<(Run, u64), String> {
+/// One replacement; the run that it leaves, and its refusal.
+fn replace(
+    r: &mut Random,
+    run: &Run,
+    zone: usize,
+    new: &Part,
+) -> Result<(Run, Option<Refusal>), String> {
     let mut length = scratch_for(&run.source);
     if r.one_in(30) {
         spoil::room(r, &mut length);
     }
     let want = match asked::replace(run, zone, new, length) {
         Some(refusal) => Err(refusal),
-        None => model::replace(run, zone, new).map_err(numbered),
+        None => model::replace(run, zone, new).map_err(Refusal::from),
     };
     let mut slices = Slices::of(run);
     let mut scratch = lent::room(r, "scratch", length);
@@ -288,12 +291,12 @@ fn replace(r: &mut Random, run: &Run, zone: usize, new: &Part) -> Result<(Run, u
         kept_bits(run, &left, zone, new)?;
         unused_zero(&left, zone, matches!(new, Part::Weights(_)))?;
     }
-    Ok((left, want.err().map_or(0, |refusal| refusal.0)))
+    Ok((left, want.err()))
 }
 
 /// The run is the port's own fresh run on its inputs, which is the Rust's step and inner product.
 fn as_fresh(r: &mut Random, run: &Run) -> Result<(), String> {
-    let want = model::fresh(run).map_err(numbered);
+    let want = model::fresh(run).map_err(Refusal::from);
     let made = fresh(r, run, &want, scratch_for(&run.source))?;
     let same = same_record(&made.record, &run.record)
         && same_bits(&[made.record.figure], &[run.record.figure])
@@ -303,8 +306,8 @@ fn as_fresh(r: &mut Random, run: &Run) -> Result<(), String> {
     demand(same, || format!("not the fresh run\n{made:?}"))
 }
 
-/// Replacements one after another on a run that was made fresh; the numbers of their refusals.
-fn sequence(r: &mut Random, mut run: Run, told: &mut Vec<u64>) -> Result<(), String> {
+/// Replacements one after another on a run that was made fresh; their refusals.
+fn sequence(r: &mut Random, mut run: Run, agreed: &mut Vec<Option<Refusal>>) -> Result<(), String> {
     let mut untouched = true;
     for _ in 0..r.below(12) {
         if r.one_in(16) {
@@ -322,9 +325,9 @@ fn sequence(r: &mut Random, mut run: Run, told: &mut Vec<u64>) -> Result<(), Str
         if r.one_in(6) {
             spoil_request(r, &mut zone, &mut new);
         }
-        let (left, number) = replace(r, &run, zone, &new)
+        let (left, refusal) = replace(r, &run, zone, &new)
             .map_err(|what| format!("{what}\nzone {zone} {new:?}\n{run:?}"))?;
-        told.push(number);
+        agreed.push(refusal);
         run = left;
         if untouched {
             as_fresh(r, &run)
@@ -335,7 +338,7 @@ fn sequence(r: &mut Random, mut run: Run, told: &mut Vec<u64>) -> Result<(), Str
 }
 
 /// A fresh run, at times refused, and replacements on it.
-pub fn compare(r: &mut Random, most: &Most) -> Told {
+pub fn compare(r: &mut Random, most: &Most) -> Agreed {
     let mut run = inputs(r, most);
     let mut scratch = scratch_for(&run.source);
     if r.one_in(4) {
@@ -345,12 +348,12 @@ pub fn compare(r: &mut Random, most: &Most) -> Told {
     }
     let want = match asked::fresh(&run, scratch) {
         Some(refusal) => Err(refusal),
-        None => model::fresh(&run).map_err(numbered),
+        None => model::fresh(&run).map_err(Refusal::from),
     };
     let made = fresh(r, &run, &want, scratch).map_err(|what| format!("{what}\n{run:?}"))?;
-    let mut told = vec![want.as_ref().err().map_or(0, |refusal| refusal.0)];
+    let mut agreed = vec![want.as_ref().err().copied()];
     if want.is_ok() {
-        sequence(r, made, &mut told)?;
+        sequence(r, made, &mut agreed)?;
     }
-    Ok(told)
+    Ok(agreed)
 }

@@ -1,5 +1,5 @@
 //! Steps, steps at the edges of the rules, and evolves.
-use crate::case::{numbered, Case, Refusal};
+use crate::case::{Case, Refusal};
 use crate::chains::{cores_of, flat, scratch_for, shape_of};
 use crate::lent::{self, Lent};
 use crate::port::{self, Course, Shape};
@@ -122,7 +122,7 @@ impl Case for Step {
 
     fn rust(&self) -> Result<Ended, Refusal> {
         let mut state = self.given.state();
-        let bonds = calls::step(&self.given.rule(), self.tau, &mut state).map_err(numbered)?;
+        let bonds = calls::step(&self.given.rule(), self.tau, &mut state)?;
         Ok(Ended {
             cores: state.cores,
             bonds,
@@ -188,8 +188,7 @@ impl Case for Evolve {
 
     fn rust(&self) -> Result<Ended, Refusal> {
         let mut state = self.given.state();
-        let bonds = calls::evolve(&self.given.rule(), self.t_final, self.steps, &mut state)
-            .map_err(numbered)?;
+        let bonds = calls::evolve(&self.given.rule(), self.t_final, self.steps, &mut state)?;
         Ok(Ended {
             cores: state.cores,
             bonds,

@@ -3,22 +3,23 @@
 use crate::case::Refusal;
 use crate::port::Shape;
 
-/// The refusals that hold, of which the lowest is given.
+/// Number and place of the refusals that hold, of which the lowest is given.
 #[derive(Default)]
-pub struct Found(Vec<Refusal>);
+pub struct Found(Vec<(usize, usize)>);
 
 impl Found {
     pub fn lowest(&self) -> Option<Refusal> {
-        self.0.iter().min().copied()
+        let (number, place) = self.0.iter().min()?;
+        Some(Refusal::Checked(*number, *place))
     }
 
     pub fn none(&self) -> bool {
         self.0.is_empty()
     }
 
-    pub fn when(&mut self, holds: bool, number: u64, place: usize) {
+    pub fn when(&mut self, holds: bool, number: usize, place: usize) {
         if holds {
-            self.0.push((number, place as u64));
+            self.0.push((number, place));
         }
     }
 

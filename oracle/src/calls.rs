@@ -1,25 +1,45 @@
 //! The Rust's calls, stage by stage, so that what the port refuses is seen. The end is held to the Rust's whole call.
-use crate::counted::{all_finite, gram_ev, same, sweep_all};
+use crate::counted::{gram_ev, norms, same, sweep_all};
+use crate::stored::{demand_finite, Flaw, Made, Watch};
 use crate::tt_chernoff::{self, TtChernoff, TtState};
 use crate::tt_core::{self, TtCore};
 use crate::{tt_coupled_pair, tt_dense_expm};
 
-/// Why the port refuses, with the place.
+/// Why the port refuses.
+#[derive(Clone, Copy, Debug)]
 pub enum Refused {
     /// a number to be stored isn't finite
-    NotFinite(usize),
+    NotFinite(Flaw),
     /// a shift over dx is above 2^31 in size, or not a number
     Far(usize),
     /// a pair's kept rank is above 8
     Rank(usize),
 }
 
-pub fn demand_finite(xs: &[f64], place: usize) -> Result<(), Refused> {
-    if all_finite(xs) {
-        Ok(())
-    } else {
-        Err(Refused::NotFinite(place))
+impl From<Flaw> for Refused {
+    fn from(flaw: Flaw) -> Refused {
+        Refused::NotFinite(flaw)
     }
+}
+
+/// The numbers of the two refusals that are not of a number's size.
+const FAR: usize = 8;
+const WIDE: usize = 10;
+
+impl Refused {
+    /// Number, place and index.
+    pub fn told(&self) -> [usize; 3] {
+        match self {
+            Refused::NotFinite(flaw) => [flaw.made.number(), flaw.core, flaw.index],
+            Refused::Far(axis) => [FAR, *axis, 0],
+            Refused::Rank(_) => [WIDE, 0, 0],
+        }
+    }
+}
+
+/// Whether a refusal with this number is met in the work, and not given by a check before it.
+pub fn met_in_the_work(number: usize) -> bool {
+    number == WIDE || Made::ALL.iter().any(|made| made.number() == number)
 }
 
 fn same_chain(xs: &[TtCore<f64>], ys: &[TtCore<f64>]) -> bool {
@@ -39,14 +59,13 @@ pub struct Bonds {
 /// Cuts core k to its left factor; the carry is the last of `bonds`.
 pub fn cut(core: &mut TtCore<f64>, k: usize, eps: f64, bonds: &mut Bonds) -> Result<(), Refused> {
     let (rows, columns) = (core.r_left * core.n, core.r_right);
-    let sweeps = gram_ev(&core.data, rows, columns);
-    if !sweeps.finite {
-        return Err(Refused::NotFinite(k));
-    }
+    let mut watch = Watch::over(k);
+    let sweeps = gram_ev(&core.data, rows, columns, &mut watch);
+    watch.demand()?;
     let (u, s, v) = tt_core::jacobi_svd_trunc(&core.data, rows, columns, eps);
     let carry = tt_core::diag_times_vt(&s, &v, s.len(), columns);
-    demand_finite(&u, k)?;
-    demand_finite(&carry, k)?;
+    demand_finite(Made::Factor, k, &u)?;
+    demand_finite(Made::Carry, k, &carry)?;
     (core.r_right, core.data) = (s.len(), u);
     bonds.sweeps.push(sweeps.made);
     bonds.settled.push(sweeps.settled);
@@ -57,7 +76,7 @@ pub fn cut(core: &mut TtCore<f64>, k: usize, eps: f64, bonds: &mut Bonds) -> Res
 /// Core k with the carry of the bond to its left in it.
 pub fn absorb(core: &mut TtCore<f64>, k: usize, carry: &[f64], rank: usize) -> Result<(), Refused> {
     tt_core::absorb_left(carry, core, rank);
-    demand_finite(&core.data, k)
+    Ok(demand_finite(Made::Absorbed, k, &core.data)?)
 }
 
 /// `tt_round`
@@ -74,12 +93,18 @@ pub fn round(cores: &mut [TtCore<f64>], eps: f64) -> Result<Bonds, Refused> {
     Ok(bonds)
 }
 
+/// The sums of axis k, from those of the axis before.
+pub fn sum(core: &TtCore<f64>, k: usize, f: &[f64], before: &[f64]) -> Result<Vec<f64>, Refused> {
+    let sums = tt_chernoff::contract_step(core, f, before);
+    demand_finite(Made::Sum, k, &sums)?;
+    Ok(sums)
+}
+
 /// The sums of `inner_separable`, axis by axis.
 pub fn sums(state: &TtState<f64>, weights: &[Vec<f64>]) -> Result<Vec<Vec<f64>>, Refused> {
     let mut all = vec![vec![1.0]];
     for (k, (core, f)) in state.cores.iter().zip(weights).enumerate() {
-        all.push(tt_chernoff::contract_step(core, f, &all[k]));
-        demand_finite(&all[k + 1], k)?;
+        all.push(sum(core, k, f, &all[k])?);
     }
     let last = &all[state.cores.len()];
     assert!(
@@ -121,18 +146,23 @@ pub fn demand_reach(
 }
 
 /// Core j moved along its axis.
-pub fn shift(rule: &TtChernoff<f64>, tau: f64, core: &mut TtCore<f64>, j: usize) -> Result<(), Refused> {
+pub fn shift(
+    rule: &TtChernoff<f64>,
+    tau: f64,
+    core: &mut TtCore<f64>,
+    j: usize,
+) -> Result<(), Refused> {
     let n = core.n;
     let (h, dx) = distances(rule, tau, n, j);
     tt_chernoff::apply_per_axis_shift(core, h, dx, n);
-    demand_finite(&core.data, j)
+    Ok(demand_finite(Made::Shift, j, &core.data)?)
 }
 
 /// Core 0 times 1 + tau*c.
 pub fn scale(rule: &TtChernoff<f64>, tau: f64, core: &mut TtCore<f64>) -> Result<(), Refused> {
     let reaction = 1.0 + tau * rule.c;
     core.data.iter_mut().for_each(|v| *v *= reaction);
-    demand_finite(&core.data, 0)
+    Ok(demand_finite(Made::Scaling, 0, &core.data)?)
 }
 
 /// `step`: all shifts, then the scaling, then the bonds.
@@ -177,18 +207,17 @@ pub fn pair(state: &mut TtState<f64>, eps: f64) -> Result<usize, Refused> {
     let (left, right) = (&state.cores[0], &state.cores[1]);
     let (rl, nj, nk, rr) = (left.r_left, left.n, right.n, right.r_right);
     let slab = tt_coupled_pair::contract_slab(left, right, rl, left.r_right, rr, nj, nk, nj * nk);
-    demand_finite(&slab, 0)?;
+    demand_finite(Made::Slab, 0, &slab)?;
     let (rows, columns) = (rl * nj, nk * rr);
     let mut work: Vec<f64> = (0..rows * columns)
         .map(|at| slab[at % rows * columns + at / rows])
         .collect();
     let mut basis = tt_dense_expm::mat_eye(columns);
-    let passes = sweep_all(&mut work, &mut basis, rows, columns);
-    if !passes.finite {
-        return Err(Refused::NotFinite(0));
-    }
-    let (_, values, rank) = tt_dense_expm::sort_sv_descending(&work, rows, columns, eps);
-    demand_finite(&values, 0)?;
+    let mut watch = Watch::over(0);
+    let passes = sweep_all(&mut work, &mut basis, rows, columns, &mut watch);
+    watch.demand()?;
+    let (values, rank) = norms(&work, rows, columns, eps);
+    demand_finite(Made::PairValue, 0, &values)?;
     tt_coupled_pair::split_slab_into_cores(state, 0, 1, &slab, rl, rr, nj, nk, nj * nk, eps);
     assert!(
         state.cores[0].r_right == rank,
@@ -197,7 +226,8 @@ pub fn pair(state: &mut TtState<f64>, eps: f64) -> Result<usize, Refused> {
     if rank > 8 {
         return Err(Refused::Rank(rank));
     }
-    demand_finite(&state.cores[0].data, 0)?;
-    demand_finite(&state.cores[1].data, 1)?;
-    Ok(passes.made)
+    for (k, core) in state.cores.iter().enumerate() {
+        demand_finite(Made::NewCore, k, &core.data)?;
+    }
+    Ok(passes)
 }

@@ -1,9 +1,6 @@
-//! Copies of `jacobi_gram_ev` and `jacobi_sweep_all` that count, each held to the Rust's own answer, bit for bit.
+//! Copies of `jacobi_gram_ev` and `jacobi_sweep_all` that count and watch what they make, each held to the Rust's own answer, bit for bit.
+use crate::stored::{Made, Watch};
 use crate::{tt_core, tt_dense_expm};
-
-pub fn all_finite(xs: &[f64]) -> bool {
-    xs.iter().all(|x| x.is_finite())
-}
 
 /// The same bits, or both not a number.
 pub fn same(xs: &[f64], ys: &[f64]) -> bool {
@@ -16,8 +13,6 @@ pub struct Sweeps {
     pub made: usize,
     /// the sum is below 1e-30 at the end
     pub settled: bool,
-    /// the Gram matrix and the basis, as made and after each rotation, and the singular values
-    pub finite: bool,
 }
 
 fn gram(a: &[f64], m: usize, n: usize) -> Vec<f64> {
@@ -42,9 +37,8 @@ fn settled(g: &[f64], n: usize) -> bool {
     off_sq < 1e-30
 }
 
-/// `jacobi_sweep`; answers whether both matrices were finite after each rotation.
-fn sweep(g: &mut [f64], v: &mut [f64], n: usize) -> bool {
-    let mut finite = true;
+/// `jacobi_sweep`; after each rotation the matrix is looked at, then the basis.
+fn sweep(g: &mut [f64], v: &mut [f64], n: usize, watch: &mut Watch) {
     for p in 0..n {
         for q in (p + 1)..n {
             let off = g[p * n + q];
@@ -56,10 +50,10 @@ fn sweep(g: &mut [f64], v: &mut [f64], n: usize) -> bool {
             let t = 1.0 / if tau >= 0.0 { tau + root } else { tau - root };
             let c = 1.0 / (1.0 + t * t).sqrt();
             tt_core::apply_jacobi_rotation(g, v, n, p, q, c, t * c);
-            finite &= all_finite(g) && all_finite(v);
+            watch.look(Made::Matrix, g);
+            watch.look(Made::Basis, v);
         }
     }
-    finite
 }
 
 /// The columns of v in the order of the falling values.
@@ -75,17 +69,18 @@ fn in_order(values: &[f64], v: &[f64], n: usize) -> (Vec<f64>, Vec<f64>) {
     (sorted, columns)
 }
 
-/// `jacobi_gram_ev` on a matrix of m rows and n columns.
-pub fn gram_ev(a: &[f64], m: usize, n: usize) -> Sweeps {
+/// `jacobi_gram_ev` on a matrix of m rows and n columns. It goes on behind a flaw, as the Rust does.
+pub fn gram_ev(a: &[f64], m: usize, n: usize, watch: &mut Watch) -> Sweeps {
     let mut g = gram(a, m, n);
     let mut v = tt_core::eye_f::<f64>(n);
-    let mut finite = all_finite(&g);
+    watch.look(Made::Gram, &g);
     let mut made = 0;
     while made < 50 && !settled(&g, n) {
-        finite &= sweep(&mut g, &mut v, n);
+        sweep(&mut g, &mut v, n, watch);
         made += 1;
     }
     let values: Vec<f64> = (0..n).map(|i| g[i * n + i].max(0.0).sqrt()).collect();
+    watch.look(Made::Value, &values);
     let (sorted, columns) = in_order(&values, &v, n);
     let (rust_values, rust_columns) = tt_core::jacobi_gram_ev(a, m, n);
     assert!(
@@ -95,20 +90,12 @@ pub fn gram_ev(a: &[f64], m: usize, n: usize) -> Sweeps {
     Sweeps {
         made,
         settled: settled(&g, n),
-        finite: finite && all_finite(&values),
     }
 }
 
-/// What `jacobi_sweep_all` did.
-pub struct Passes {
-    pub made: usize,
-    /// the columns and the basis, as made and after each rotation
-    pub finite: bool,
-}
-
-/// One pass over the pairs of columns; whether it was quiet, and whether all was finite after each rotation.
-fn pass(work: &mut [f64], v: &mut [f64], m: usize, n: usize) -> (bool, bool) {
-    let (mut quiet, mut finite) = (true, true);
+/// One pass over the pairs of columns; after each rotation the columns are looked at, then the basis. Whether it was quiet.
+fn pass(work: &mut [f64], v: &mut [f64], m: usize, n: usize, watch: &mut Watch) -> bool {
+    let mut quiet = true;
     for p in 0..n {
         for q in (p + 1)..n {
             let (mut alpha, mut bp, mut bq) = (0.0, 0.0, 0.0);
@@ -124,30 +111,39 @@ fn pass(work: &mut [f64], v: &mut [f64], m: usize, n: usize) -> (bool, bool) {
             }
             quiet = false;
             tt_dense_expm::apply_jacobi_rotation(work, v, m, n, p, q, 2.0, alpha, bp, bq);
-            finite &=
-                all_finite(&work[p * m..(p + 1) * m]) && all_finite(&work[q * m..(q + 1) * m]);
-            finite &= all_finite(&v[p * n..(p + 1) * n]) && all_finite(&v[q * n..(q + 1) * n]);
+            for (made, all, length) in [(Made::Columns, &*work, m), (Made::PairBasis, &*v, n)] {
+                watch.look_at(made, all, p * length..(p + 1) * length);
+                watch.look_at(made, all, q * length..(q + 1) * length);
+            }
         }
     }
-    (quiet, finite)
+    quiet
 }
 
 /// `jacobi_sweep_all` on n columns of m numbers, column after column, and the basis v; both are left as the Rust leaves them.
-pub fn sweep_all(work: &mut [f64], v: &mut [f64], m: usize, n: usize) -> Passes {
+/// Answers the passes made.
+pub fn sweep_all(work: &mut [f64], v: &mut [f64], m: usize, n: usize, watch: &mut Watch) -> usize {
     let (mut rust_work, mut rust_v) = (work.to_vec(), v.to_vec());
     tt_dense_expm::jacobi_sweep_all(&mut rust_work, &mut rust_v, m, n);
-    let mut finite = all_finite(work);
     let mut made = 0;
     let mut quiet = false;
     while made < 100 && !quiet {
-        let (still, whole) = pass(work, v, m, n);
-        quiet = still;
-        finite &= whole;
+        quiet = pass(work, v, m, n, watch);
         made += 1;
     }
     assert!(
         same(work, &rust_work) && same(v, &rust_v),
         "sweep_all is not the Rust's"
     );
-    Passes { made, finite }
+    made
+}
+
+/// The norms of the columns, and how many of them are kept: `sort_sv_descending`, which answers them sorted.
+pub fn norms(work: &[f64], m: usize, n: usize, eps: f64) -> (Vec<f64>, usize) {
+    let norm = |column: &[f64]| column.iter().fold(0.0, |sum, x| sum + x * x).sqrt();
+    let values: Vec<f64> = work.chunks(m).map(norm).collect();
+    let (order, sorted, rank) = tt_dense_expm::sort_sv_descending(work, m, n, eps);
+    let in_order: Vec<f64> = order.iter().map(|&i| values[i]).collect();
+    assert!(same(&in_order, &sorted), "the norms are not the Rust's");
+    (values, rank)
 }

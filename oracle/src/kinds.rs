@@ -24,7 +24,11 @@ pub const KINDS: [(&str, fn(&mut Random, &Most, &mut Line)); 11] = [
 
 fn refused(line: &mut Line, why: &Refused) {
     match why {
-        Refused::NotFinite(place) => line.word("nonfinite").word(place),
+        Refused::NotFinite(flaw) => line
+            .word("nonfinite")
+            .word(flaw.made.name())
+            .word(flaw.core)
+            .word(flaw.index),
         Refused::Far(axis) => line.word("far").word(axis),
         Refused::Rank(rank) => line.word("wide").word(rank),
     };

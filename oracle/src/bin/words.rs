@@ -1,6 +1,8 @@
 //! Turns lines of cases into the words that the program `replays` reads: how many cases, then of each what is given and what is
 //! answered, a float by its bits. `words wrong` writes, in place of each line, one case for every word that its answer has,
 //! with that word made wrong. README.md has the order of the words. A word is eight bytes, the lowest first.
+use oracle::calls::{self, Refused};
+use oracle::stored::{Flaw, Made};
 use std::io::{BufWriter, Read, Write};
 
 /// The bits of what stands in an output or in scratch before a call: 7.5.
@@ -184,15 +186,20 @@ impl Answer {
     }
 }
 
-/// A refusal's number and place, or 0 and 0.
-fn refusal(words: &[&str]) -> [u64; 2] {
-    let told = |i: usize| number(words[i]).expect("a number");
+/// A refusal's number, place and index, or three times 0. A line made by hand has them; its index is 0 where it has none.
+fn refusal(words: &[&str]) -> [usize; 3] {
+    let count = |i: usize| words[i].parse().expect("a count");
     match words[0] {
-        "nonfinite" => [9, told(1)],
-        "far" => [8, told(1)],
-        "wide" => [10, 0],
-        "refused" => [told(1), told(2)],
-        _ => [0, 0],
+        "nonfinite" => Refused::NotFinite(Flaw {
+            made: Made::of_name(words[1]).expect("what was being made"),
+            core: count(2),
+            index: count(3),
+        })
+        .told(),
+        "far" => Refused::Far(count(1)).told(),
+        "wide" => Refused::Rank(count(1)).told(),
+        "refused" => [count(1), count(2), words.get(3).map_or(0, |_| count(3))],
+        _ => [0; 3],
     }
 }
 
@@ -251,7 +258,7 @@ fn answer(kind: &str, given: &[&str], words: &[&str]) -> Answer {
         return a;
     }
     let told = refusal(words);
-    told.iter().for_each(|w| a.value(*w));
+    told.iter().for_each(|w| a.value(*w as u64));
     let refused = told[0] != 0;
     match kind {
         "inner" => a.value(named(words, "figure").map_or(0, |f| f[0])),
@@ -260,7 +267,7 @@ fn answer(kind: &str, given: &[&str], words: &[&str]) -> Answer {
         _ => rounded(&mut a, given, words, refused),
     }
     if !matches!(kind, "inner" | "start") {
-        let unwritten = (1..=8).contains(&told[0]);
+        let unwritten = refused && !calls::met_in_the_work(told[0]);
         a.held(&[], u64::MAX, if unwritten { MARK } else { 0 });
     }
     a
