@@ -3,12 +3,14 @@ use crate::calls::{self, Bonds, Refused};
 use crate::draw::{self, Most};
 use crate::line::Line;
 use crate::random::Random;
-use crate::rules;
 use crate::tt_chernoff::{cubic_band_weights, TtChernoff, TtState};
 use crate::tt_core::TtCore;
+use crate::{rules, spill};
 
 /// A kind's name, and the function that draws a case of it.
-pub const KINDS: [(&str, fn(&mut Random, &Most, &mut Line)); 11] = [
+pub type Kind = (&'static str, fn(&mut Random, &Most, &mut Line));
+
+pub const KINDS: [Kind; 11] = [
     ("round", round),
     ("inner", inner),
     ("start", start),
@@ -20,6 +22,15 @@ pub const KINDS: [(&str, fn(&mut Random, &Most, &mut Line)); 11] = [
     ("root", root),
     ("floor", floor),
     ("weights", weights),
+];
+
+/// The kinds whose cases are also drawn so that they overflow.
+pub const SPILT: [Kind; 5] = [
+    ("round", spilt_round),
+    ("inner", spilt_inner),
+    ("step", spilt_step),
+    ("evolve", spilt_evolve),
+    ("pair", spilt_pair),
 ];
 
 fn refused(line: &mut Line, why: &Refused) {
@@ -56,10 +67,22 @@ pub fn rounded(line: &mut Line, mut cores: Vec<TtCore<f64>>, eps: f64) {
     ended(line, &cores, end);
 }
 
+/// What a rounding and a pair are given.
+fn cut_at(line: &mut Line, cores: &[TtCore<f64>], eps: f64) {
+    line.shape(cores).float("eps", eps).chain(cores);
+}
+
 fn round(r: &mut Random, most: &Most, line: &mut Line) {
     let cores = draw::chain(r, most);
     let eps = draw::eps(r);
-    line.shape(&cores).float("eps", eps).chain(&cores);
+    cut_at(line, &cores, eps);
+    rounded(line, cores, eps);
+}
+
+fn spilt_round(r: &mut Random, most: &Most, line: &mut Line) {
+    let cores = spill::rounding(r, most);
+    let eps = spill::eps(r);
+    cut_at(line, &cores, eps);
     rounded(line, cores, eps);
 }
 
@@ -72,13 +95,22 @@ pub fn summed(line: &mut Line, cores: Vec<TtCore<f64>>, weights: &[Vec<f64>]) {
     }
 }
 
-fn inner(r: &mut Random, most: &Most, line: &mut Line) {
-    let cores = draw::chain(r, most);
-    let weights = draw::weights(r, &cores);
+fn weighted(line: &mut Line, cores: Vec<TtCore<f64>>, weights: &[Vec<f64>]) {
     line.shape(&cores)
         .chain(&cores)
         .floats("weights", &weights.concat());
-    summed(line, cores, &weights);
+    summed(line, cores, weights);
+}
+
+fn inner(r: &mut Random, most: &Most, line: &mut Line) {
+    let cores = draw::chain(r, most);
+    let weights = draw::weights(r, &cores);
+    weighted(line, cores, &weights);
+}
+
+fn spilt_inner(r: &mut Random, most: &Most, line: &mut Line) {
+    let (cores, weights) = spill::product(r, most);
+    weighted(line, cores, &weights);
 }
 
 fn start(r: &mut Random, most: &Most, line: &mut Line) {
@@ -113,47 +145,68 @@ fn entry(r: &mut Random, most: &Most, line: &mut Line) {
 fn ruled(line: &mut Line, rule: &TtChernoff<f64>, cores: &[TtCore<f64>]) {
     let record = |j: usize| [rule.a[j], rule.b[j], rule.domain[j].0, rule.domain[j].1];
     line.shape(cores)
-        .floats("axes", &(0..cores.len()).flat_map(record).collect::<Vec<f64>>())
+        .floats(
+            "axes",
+            &(0..cores.len()).flat_map(record).collect::<Vec<f64>>(),
+        )
         .float("c", rule.c)
         .float("eps", rule.eps_round)
         .chain(cores);
 }
 
-fn step(r: &mut Random, most: &Most, line: &mut Line) {
-    let mut state = TtState {
-        cores: draw::chain(r, most),
-    };
-    let tau = draw::tau(r);
-    let rule = rules::any(r, tau, &state.cores);
-    ruled(line, &rule, &state.cores);
+fn stepped(line: &mut Line, rule: &TtChernoff<f64>, tau: f64, mut state: TtState<f64>) {
+    ruled(line, rule, &state.cores);
     line.float("tau", tau).answer();
-    let end = calls::step(&rule, tau, &mut state);
+    let end = calls::step(rule, tau, &mut state);
     ended(line, &state.cores, end);
+}
+
+fn step(r: &mut Random, most: &Most, line: &mut Line) {
+    let cores = draw::chain(r, most);
+    let tau = draw::tau(r);
+    let rule = rules::any(r, tau, &cores);
+    stepped(line, &rule, tau, TtState { cores });
 }
 
 fn edge(r: &mut Random, most: &Most, line: &mut Line) {
-    let (rule, tau, mut state) = rules::at_the_edge(r, most, line.index());
-    ruled(line, &rule, &state.cores);
-    line.float("tau", tau).answer();
-    let end = calls::step(&rule, tau, &mut state);
-    ended(line, &state.cores, end);
+    let (rule, tau, state) = rules::at_the_edge(r, most, line.index());
+    stepped(line, &rule, tau, state);
 }
 
-fn evolve(r: &mut Random, most: &Most, line: &mut Line) {
-    let mut state = TtState {
-        cores: draw::chain(r, most),
-    };
-    let steps = draw::count(r, most.steps);
-    let tau = draw::tau(r);
+fn spilt_step(r: &mut Random, most: &Most, line: &mut Line) {
+    let (rule, tau, state) = spill::step(r, most);
+    stepped(line, &rule, tau, state);
+}
+
+fn evolved(
+    line: &mut Line,
+    rule: &TtChernoff<f64>,
+    tau: f64,
+    steps: usize,
+    mut state: TtState<f64>,
+) {
     let t_final = tau * steps as f64;
-    let rule = rules::any(r, tau, &state.cores);
-    ruled(line, &rule, &state.cores);
+    ruled(line, rule, &state.cores);
     line.float("t_final", t_final)
         .word("steps")
         .word(steps)
         .answer();
-    let end = calls::evolve(&rule, t_final, steps, &mut state);
+    let end = calls::evolve(rule, t_final, steps, &mut state);
     ended(line, &state.cores, end);
+}
+
+fn evolve(r: &mut Random, most: &Most, line: &mut Line) {
+    let cores = draw::chain(r, most);
+    let steps = draw::count(r, most.steps);
+    let tau = draw::tau(r);
+    let rule = rules::any(r, tau, &cores);
+    evolved(line, &rule, tau, steps, TtState { cores });
+}
+
+fn spilt_evolve(r: &mut Random, most: &Most, line: &mut Line) {
+    let (rule, tau, state) = spill::evolve(r, most);
+    let steps = draw::count(r, most.steps);
+    evolved(line, &rule, tau, steps, state);
 }
 
 /// What the Rust makes of two neighbours.
@@ -176,7 +229,14 @@ pub fn split(line: &mut Line, cores: Vec<TtCore<f64>>, eps: f64) {
 fn pair(r: &mut Random, most: &Most, line: &mut Line) {
     let cores = draw::pair(r, most).to_vec();
     let eps = draw::eps(r);
-    line.shape(&cores).float("eps", eps).chain(&cores);
+    cut_at(line, &cores, eps);
+    split(line, cores, eps);
+}
+
+fn spilt_pair(r: &mut Random, most: &Most, line: &mut Line) {
+    let cores = spill::pair(r, most).to_vec();
+    let eps = draw::eps(r);
+    cut_at(line, &cores, eps);
     split(line, cores, eps);
 }
 

@@ -9,6 +9,7 @@ pub mod kinds;
 pub mod line;
 pub mod random;
 pub mod rules;
+pub mod spill;
 pub mod stored;
 #[path = "../semiflow/tt_chernoff.rs"]
 pub mod tt_chernoff;

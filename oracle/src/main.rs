@@ -6,8 +6,10 @@ use oracle::line::Line;
 use oracle::random::Random;
 use std::io::{BufWriter, Write};
 
-const USAGE: &str = "usage: oracle KIND SEED COUNT [CORES SIZE RANK STEPS], or oracle given < LINES
+const USAGE: &str =
+    "usage: oracle [spill] KIND SEED COUNT [CORES SIZE RANK STEPS], or oracle given < LINES
   KIND is round, inner, start, entry, step, edge, evolve, pair, root, floor or weights
+  spill asks for cases that overflow, of round, inner, step, evolve or pair
   CORES SIZE RANK STEPS are the most of each that a case has: 16 64 8 200 if not given
   LINES are cases of round, inner and pair without an answer";
 
@@ -19,8 +21,12 @@ fn main() {
         }
         return;
     }
+    let (kinds, words) = match words.split_first() {
+        Some((first, rest)) if first == "spill" => (&kinds::SPILT[..], rest),
+        _ => (&kinds::KINDS[..], &words[..]),
+    };
     let numbers: Option<Vec<usize>> = words.iter().skip(1).map(|w| w.parse().ok()).collect();
-    let kind = kinds::KINDS
+    let kind = kinds
         .iter()
         .find(|k| words.first().is_some_and(|w| w == k.0));
     let (Some(&(name, draw)), Some(numbers)) = (kind, numbers) else {

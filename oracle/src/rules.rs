@@ -7,6 +7,10 @@ use crate::tt_core::TtCore;
 pub fn any(r: &mut Random, tau: f64, cores: &[TtCore<f64>]) -> TtChernoff<f64> {
     let axes: Vec<Axis> = cores.iter().map(|c| draw::axis(r, tau, c.n)).collect();
     let (c, eps) = (draw::reaction(r), draw::eps(r));
+    of(&axes, c, eps)
+}
+
+pub fn of(axes: &[Axis], c: f64, eps: f64) -> TtChernoff<f64> {
     TtChernoff::new(
         axes.iter().map(|x| x.a).collect(),
         axes.iter().map(|x| x.b).collect(),
@@ -38,7 +42,11 @@ const EDGES: [[f64; 5]; 16] = [
 ];
 
 /// One core of 1 to 4 points, or two cores of rank two, with the next settings of the list; rule, tau and chain.
-pub fn at_the_edge(r: &mut Random, most: &Most, index: usize) -> (TtChernoff<f64>, f64, TtState<f64>) {
+pub fn at_the_edge(
+    r: &mut Random,
+    most: &Most,
+    index: usize,
+) -> (TtChernoff<f64>, f64, TtState<f64>) {
     let [a, b, xmin, xmax, tau] = EDGES[index % EDGES.len()];
     let n = 1 + index / EDGES.len() % 4;
     let core = |rl: usize, rr: usize, r: &mut Random| TtCore {
