@@ -76,6 +76,11 @@ pub fn compare<C: Case>(mut case: C, r: &mut Random) -> Agreed {
     Ok(vec![want.err()])
 }
 
+/// One case in eight overflows on purpose.
+pub fn spilt(r: &mut Random) -> bool {
+    r.one_in(8)
+}
+
 pub fn demand(ok: bool, what: impl FnOnce() -> String) -> Result<(), String> {
     if ok {
         Ok(())

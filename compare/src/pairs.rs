@@ -1,11 +1,12 @@
 //! Pairs: two neighbouring cores contracted and split again.
-use crate::case::{demand, told, Case, Refusal};
+use crate::case::{demand, spilt, told, Case, Refusal};
 use crate::lent::{self, Lent};
 use crate::rounds::scratch_ends;
 use crate::{port, spoil, table};
 use oracle::calls;
 use oracle::draw::{self, Most};
 use oracle::random::Random;
+use oracle::spill;
 use oracle::tt_chernoff::TtState;
 use oracle::tt_core::TtCore;
 
@@ -38,7 +39,8 @@ fn core([r_left, n, r_right]: [usize; 3], data: &[f64]) -> TtCore<f64> {
 
 impl Pair {
     pub fn draw(r: &mut Random, most: &Most) -> Pair {
-        let [left, right] = draw::pair(r, most);
+        let draw = if spilt(r) { spill::pair } else { draw::pair };
+        let [left, right] = draw(r, most);
         Pair {
             left_sizes: [left.r_left, left.n, left.r_right],
             right_sizes: [right.r_left, right.n, right.r_right],

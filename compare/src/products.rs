@@ -1,5 +1,5 @@
 //! Inner products and separable starts.
-use crate::case::{demand, told, Case, Refusal};
+use crate::case::{demand, spilt, told, Case, Refusal};
 use crate::chains::{cores_of, flat, lists_of, shape_of};
 use crate::lent::{self, Lent, Word};
 use crate::port::{self, Shape};
@@ -7,6 +7,7 @@ use crate::{chains, spoil, table};
 use oracle::calls;
 use oracle::draw::{self, Most};
 use oracle::random::Random;
+use oracle::spill;
 use oracle::tt_chernoff::TtState;
 
 #[derive(Debug)]
@@ -18,11 +19,17 @@ pub struct Inner {
 
 impl Inner {
     pub fn draw(r: &mut Random, most: &Most) -> Inner {
-        let cores = chains::draw(r, most);
+        let (cores, weights) = if spilt(r) {
+            spill::product(r, most)
+        } else {
+            let cores = chains::draw(r, most);
+            let weights = draw::weights(r, &cores);
+            (cores, weights)
+        };
         Inner {
             shape: shape_of(r, &cores),
             chain: flat(&cores),
-            weights: draw::weights(r, &cores).concat(),
+            weights: weights.concat(),
         }
     }
 }

@@ -1,5 +1,5 @@
 //! Roundings, and what the end of a rounding, a step and an evolve have in common.
-use crate::case::{demand, told, Case, Refusal};
+use crate::case::{demand, spilt, told, Case, Refusal};
 use crate::chains::{cores_of, flat, scratch_for, shape_of};
 use crate::lent::{self, Lent};
 use crate::port::{self, Bond, Rounded, Shape};
@@ -7,6 +7,7 @@ use crate::{chains, spoil, table};
 use oracle::calls::{self, Bonds};
 use oracle::draw::{self, Most};
 use oracle::random::Random;
+use oracle::spill;
 use oracle::tt_core::TtCore;
 
 /// The Rust's chain at the end, with counts and flags.
@@ -68,11 +69,15 @@ pub struct Round {
 
 impl Round {
     pub fn draw(r: &mut Random, most: &Most) -> Round {
-        let cores = chains::draw(r, most);
+        let (cores, eps) = if spilt(r) {
+            (spill::rounding(r, most), spill::eps(r))
+        } else {
+            (chains::draw(r, most), draw::eps(r))
+        };
         let chain = flat(&cores);
         Round {
             shape: shape_of(r, &cores),
-            eps: draw::eps(r),
+            eps,
             scratch: scratch_for(&chain),
             chain,
         }

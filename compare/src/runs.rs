@@ -1,21 +1,32 @@
 //! Kept runs: a fresh one, then replacements one after another, at times on a run that others wrote to. As long as nobody else wrote,
 //! the run must also be, bit for bit, the port's own fresh run on the present inputs.
-use crate::case::{demand, told, Agreed, Refusal};
+use crate::case::{demand, spilt, told, Agreed, Refusal};
 use crate::chains::{flat, scratch_for, shape_of};
 use crate::lent::{self, Lent, Word};
 use crate::model::{self, carry_size, sum_size, Part, Run};
 use crate::port::{self, Bond, Record, Told};
 use crate::rounds::scratch_ends;
-use crate::{asked, chains, spoil, table};
+use crate::{asked, spoil, steps, table};
 use oracle::draw::{self, Most};
 use oracle::random::Random;
-use oracle::rules;
+use oracle::spill;
+use oracle::tt_core::TtCore;
+
+/// A list an axis, without gaps.
+fn weights(r: &mut Random, cores: &[TtCore<f64>]) -> Vec<f64> {
+    let draw = if spilt(r) {
+        spill::weights
+    } else {
+        draw::weights
+    };
+    draw(r, cores).concat()
+}
 
 /// Inputs, with room for what is kept.
 fn inputs(r: &mut Random, most: &Most) -> Run {
-    let cores = chains::draw(r, most);
-    let tau = draw::tau(r);
-    let rule = rules::any(r, tau, &cores);
+    let step = if spilt(r) { spill::step } else { steps::drawn };
+    let (rule, tau, state) = step(r, most);
+    let cores = state.cores;
     let mut axes = [[0.0; 4]; 16];
     for (j, record) in axes.iter_mut().enumerate() {
         *record = match cores.get(j) {
@@ -35,7 +46,7 @@ fn inputs(r: &mut Random, most: &Most) -> Run {
     model::blank(&Run {
         record,
         source: flat(&cores),
-        weights: draw::weights(r, &cores).concat(),
+        weights: weights(r, &cores),
         chain: vec![],
         carries: vec![],
         sums: vec![],
@@ -93,11 +104,14 @@ fn request(r: &mut Random, run: &Run) -> (usize, Part) {
     let (left, n, right) = (s.left[zone].min(8), s.n[zone].min(64), s.right[zone].min(8));
     let manner = draw::manners(r, 1)[0];
     let scale = draw::scales(r, 1)[0];
-    let core = draw::core(r, manner, scale, left.max(1), n.max(1), right.max(1));
+    let mut core = draw::core(r, manner, scale, left.max(1), n.max(1), right.max(1));
+    if spilt(r) {
+        spill::replace(r, &mut core);
+    }
     let axis = draw::axis(r, run.record.tau, n);
     let part = match r.below(3) {
         0 => Part::Core(core.data),
-        1 => Part::Weights(draw::weights(r, &[core]).concat()),
+        1 => Part::Weights(weights(r, &[core])),
         _ => Part::Axis([axis.a, axis.b, axis.domain.0, axis.domain.1]),
     };
     (zone, part)

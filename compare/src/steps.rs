@@ -1,5 +1,5 @@
 //! Steps, steps at the edges of the rules, and evolves.
-use crate::case::{Case, Refusal};
+use crate::case::{spilt, Case, Refusal};
 use crate::chains::{cores_of, flat, scratch_for, shape_of};
 use crate::lent::{self, Lent};
 use crate::port::{self, Course, Shape};
@@ -8,7 +8,7 @@ use crate::{chains, spoil, table};
 use oracle::draw::{self, Most};
 use oracle::random::Random;
 use oracle::tt_chernoff::{TtChernoff, TtState};
-use oracle::{calls, rules};
+use oracle::{calls, rules, spill};
 
 /// A chain and its rule: what a step and an evolve are both given.
 #[derive(Debug)]
@@ -77,6 +77,13 @@ impl Moving {
     }
 }
 
+/// Rule, tau and chain.
+pub fn drawn(r: &mut Random, most: &Most) -> (TtChernoff<f64>, f64, TtState<f64>) {
+    let cores = chains::draw(r, most);
+    let tau = draw::tau(r);
+    (rules::any(r, tau, &cores), tau, TtState { cores })
+}
+
 #[derive(Debug)]
 pub struct Step {
     given: Moving,
@@ -85,11 +92,8 @@ pub struct Step {
 
 impl Step {
     pub fn draw(r: &mut Random, most: &Most) -> Step {
-        let state = TtState {
-            cores: chains::draw(r, most),
-        };
-        let tau = draw::tau(r);
-        let rule = rules::any(r, tau, &state.cores);
+        let draw = if spilt(r) { spill::step } else { drawn };
+        let (rule, tau, state) = draw(r, most);
         Step {
             given: Moving::of(r, &rule, &state),
             tau,
@@ -156,11 +160,8 @@ fn steps_for(r: &mut Random, chain: &[f64]) -> usize {
 
 impl Evolve {
     pub fn draw(r: &mut Random, most: &Most) -> Evolve {
-        let state = TtState {
-            cores: chains::draw(r, most),
-        };
-        let tau = draw::tau(r);
-        let rule = rules::any(r, tau, &state.cores);
+        let draw = if spilt(r) { spill::evolve } else { drawn };
+        let (rule, tau, state) = draw(r, most);
         let given = Moving::of(r, &rule, &state);
         let steps = steps_for(r, &given.chain);
         Evolve {
