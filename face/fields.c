@@ -16,9 +16,16 @@ static void expect(bool holds, const char *what)
     }
 }
 
+/* A number to be stored isn't finite. */
+static void expect_stored(uyavsker_refusal told, uint8_t number, size_t place, size_t index, const char *what)
+{
+    expect(told.number == number && told.place == place && told.index == index, what);
+}
+
+/* Any other refusal, and none: without an index. */
 static void expect_refusal(uyavsker_refusal told, uint8_t number, size_t place, const char *what)
 {
-    expect(told.number == number && told.place == place, what);
+    expect_stored(told, number, place, 0, what);
 }
 
 static bool same(const double *a, const double *b, size_t count)
@@ -156,7 +163,7 @@ static void figures(void)
     expect_refusal(refused.refusal, UYAVSKER_LENGTH, 1, "inner_separable refused");
     expect(eleven.value == 11 && refused.value == 0, "the figure");
     expect(alike.refusal.number == UYAVSKER_NONE && alike.value == 0x1p600, "slices of inner_separable");
-    expect_refusal(exchanged.refusal, UYAVSKER_STORED, 1, "slices of inner_separable exchanged");
+    expect_stored(exchanged.refusal, UYAVSKER_SUM, 1, 0, "slices of inner_separable exchanged");
 }
 
 /* ---- what rounds a chain ---- */

@@ -5,9 +5,10 @@
 #define AT(record, field, byte) \
     _Static_assert(offsetof(record, field) == (byte), #record "." #field " stands elsewhere")
 
-SIZE(uyavsker_refusal, 16);
+SIZE(uyavsker_refusal, 24);
 AT(uyavsker_refusal, number, 0);
 AT(uyavsker_refusal, place, 8);
+AT(uyavsker_refusal, index, 16);
 
 SIZE(uyavsker_shape, 392);
 AT(uyavsker_shape, d, 0);
@@ -47,23 +48,23 @@ AT(uyavsker_bond, rank, 0);
 AT(uyavsker_bond, sweeps, 8);
 AT(uyavsker_bond, settled, 16);
 
-SIZE(uyavsker_rounded, 792);
+SIZE(uyavsker_rounded, 800);
 AT(uyavsker_rounded, refusal, 0);
-AT(uyavsker_rounded, shape, 16);
-AT(uyavsker_rounded, bonds, 408);
+AT(uyavsker_rounded, shape, 24);
+AT(uyavsker_rounded, bonds, 416);
 
-SIZE(uyavsker_figure, 24);
+SIZE(uyavsker_figure, 32);
 AT(uyavsker_figure, refusal, 0);
-AT(uyavsker_figure, value, 16);
+AT(uyavsker_figure, value, 24);
 
-SIZE(uyavsker_formed, 408);
+SIZE(uyavsker_formed, 416);
 AT(uyavsker_formed, refusal, 0);
-AT(uyavsker_formed, shape, 16);
+AT(uyavsker_formed, shape, 24);
 
-SIZE(uyavsker_paired, 32);
+SIZE(uyavsker_paired, 40);
 AT(uyavsker_paired, refusal, 0);
-AT(uyavsker_paired, rank, 16);
-AT(uyavsker_paired, passes, 24);
+AT(uyavsker_paired, rank, 24);
+AT(uyavsker_paired, passes, 32);
 
 SIZE(uyavsker_seen, 16);
 AT(uyavsker_seen, inside, 0);
@@ -76,6 +77,6 @@ AT(uyavsker_run, settings, 904);
 AT(uyavsker_run, bonds, 928);
 AT(uyavsker_run, figure, 1312);
 
-SIZE(uyavsker_ran, 1336);
+SIZE(uyavsker_ran, 1344);
 AT(uyavsker_ran, refusal, 0);
-AT(uyavsker_ran, run, 16);
+AT(uyavsker_ran, run, 24);

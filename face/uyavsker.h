@@ -29,27 +29,65 @@ extern "C" {
 /* Bytes of the text that a listing is put into. */
 #define UYAVSKER_TEXT 2048
 
-/* The numbers of the scope's table, and what the place is. */
+/* The numbers of the scope's table, and what the place is. With 9, 12, 13 and 14 a number to be stored isn't finite, and
+ * the index says which: it is the flat index of the first such number inside what was being stored. */
 enum {
-    UYAVSKER_NONE = 0,    /* not refused */
-    UYAVSKER_AXES = 1,    /* d is outside its limits: 0 */
-    UYAVSKER_SIZE = 2,    /* a size is outside its limits: the first such core */
-    UYAVSKER_BOND = 3,    /* ranks that don't meet, or a kept rank that can't be: the bond's left core */
-    UYAVSKER_ZONE = 4,    /* a zone number of d or more: 0 */
-    UYAVSKER_LENGTH = 5,  /* a lent length is wrong: the slice, from 0, in the call's order */
-    UYAVSKER_NUMBER = 6,  /* a number isn't finite: its core, axis or zone; a lone setting 0 */
-    UYAVSKER_SETTING = 7, /* a setting is below zero, or steps are outside limits: the axis for a, else 0 */
-    UYAVSKER_REACH = 8,   /* a shift is too far: the first such axis */
-    UYAVSKER_STORED = 9,  /* a number to be stored isn't finite: the core or axis being made */
-    UYAVSKER_RANK = 10,   /* a pair's kept rank is above 8: 0 */
-    UYAVSKER_FILE = 11    /* a file breaks its rules: the byte */
+    UYAVSKER_NONE = 0,      /* not refused */
+    UYAVSKER_AXES = 1,      /* d is outside its limits: 0 */
+    UYAVSKER_SIZE = 2,      /* a size is outside its limits: the first such core */
+    UYAVSKER_BOND = 3,      /* ranks that don't meet, or a kept rank that can't be: the bond's left core */
+    UYAVSKER_ZONE = 4,      /* a zone number of d or more: 0 */
+    UYAVSKER_LENGTH = 5,    /* a lent length is wrong: the slice, from 0, in the call's order */
+    UYAVSKER_NUMBER = 6,    /* a number isn't finite: its core, axis or zone; a lone setting 0 */
+    UYAVSKER_SETTING = 7,   /* a setting is below zero, or steps are outside limits: the axis for a, else 0 */
+    UYAVSKER_REACH = 8,     /* a shift is too far: the first such axis */
+    UYAVSKER_ENTRY = 9,     /* a shifted entry: its axis; a scaled one: 0; index as in its core.
+                             * An entry of a pair's slab: 0; index row after row */
+    UYAVSKER_RANK = 10,     /* a pair's kept rank is above 8: 0 */
+    UYAVSKER_FILE = 11,     /* a file breaks its rules: the byte */
+    UYAVSKER_SPECTRUM = 12, /* a Gram matrix or a basis, index row after row, or a singular value, index i in the list
+                             * as they are made: the bond's left core. A pair's columns or basis, index column after
+                             * column, or its value i: 0 */
+    UYAVSKER_FACTOR = 13,   /* a left factor or a carry, index row after row: the bond's left core. An absorbed core: itself;
+                             * a pair's new cores: 0 and 1; index as in that core */
+    UYAVSKER_SUM = 14       /* a partial sum: its axis; index j */
 };
 
-/* A refusal by its number and its place. */
+/* A refusal by its number, its place and its index. */
 typedef struct {
     uint8_t number;
     size_t place;
+    size_t index;
 } uyavsker_refusal;
+
+/* Whether refusals with this number have an index; with any other it is 0 and means nothing. */
+static inline bool uyavsker_has_index(uint8_t number)
+{
+    return number == UYAVSKER_ENTRY || number == UYAVSKER_SPECTRUM || number == UYAVSKER_FACTOR || number == UYAVSKER_SUM;
+}
+
+/* The table's words for a number. */
+static inline const char *uyavsker_words(uint8_t number)
+{
+    switch (number) {
+    case UYAVSKER_NONE: return "not refused";
+    case UYAVSKER_AXES: return "the number of axes is outside its limits";
+    case UYAVSKER_SIZE: return "a size is outside its limits";
+    case UYAVSKER_BOND: return "neighbours' ranks differ, an end rank isn't 1, or a kept rank is 0 or above its source's";
+    case UYAVSKER_ZONE: return "there is no such zone";
+    case UYAVSKER_LENGTH: return "a lent length is wrong";
+    case UYAVSKER_NUMBER: return "an input number isn't finite";
+    case UYAVSKER_SETTING: return "a setting is below zero, or steps are outside their limits";
+    case UYAVSKER_REACH: return "a shift is too far";
+    case UYAVSKER_ENTRY: return "a shifted or scaled entry, or an entry of a pair's slab, isn't finite";
+    case UYAVSKER_RANK: return "a pair's kept rank is above 8";
+    case UYAVSKER_FILE: return "a file breaks its rules";
+    case UYAVSKER_SPECTRUM: return "a Gram matrix, a basis, a singular value or a pair's columns aren't finite";
+    case UYAVSKER_FACTOR: return "a left factor, a carry, an absorbed core or a pair's new core isn't finite";
+    case UYAVSKER_SUM: return "a partial sum isn't finite";
+    default: return "unknown";
+    }
+}
 
 /* ---- what goes into a call ---- */
 

@@ -28,6 +28,7 @@ impl Chain {
             return Err(Refusal {
                 number: 5,
                 place: 0,
+                index: 0,
             });
         }
         let scratch = vec![0.0; shape.scratch()];

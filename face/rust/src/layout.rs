@@ -10,6 +10,7 @@ pub const TEXT: usize = 2048;
 pub struct Refusal {
     pub number: u8,
     pub place: usize,
+    pub index: usize,
 }
 
 #[repr(C)]
@@ -90,7 +91,8 @@ pub struct Ran {
 }
 
 const _: () = {
-    assert!(size_of::<Refusal>() == 16 && offset_of!(Refusal, place) == 8);
+    assert!(size_of::<Refusal>() == 24 && offset_of!(Refusal, number) == 0);
+    assert!(offset_of!(Refusal, place) == 8 && offset_of!(Refusal, index) == 16);
     assert!(size_of::<Shape>() == 392 && offset_of!(Shape, left) == 8);
     assert!(offset_of!(Shape, n) == 136 && offset_of!(Shape, right) == 264);
     assert!(size_of::<Axis>() == 32 && offset_of!(Axis, b) == 8);
@@ -104,15 +106,15 @@ const _: () = {
     assert!(offset_of!(Sizes, right) == 16);
     assert!(size_of::<Bond>() == 24 && offset_of!(Bond, rank) == 0);
     assert!(offset_of!(Bond, sweeps) == 8 && offset_of!(Bond, settled) == 16);
-    assert!(size_of::<Rounded>() == 792 && offset_of!(Rounded, shape) == 16);
-    assert!(offset_of!(Rounded, bonds) == 408);
-    assert!(size_of::<Figure>() == 24 && offset_of!(Figure, value) == 16);
-    assert!(size_of::<Formed>() == 408 && offset_of!(Formed, shape) == 16);
-    assert!(size_of::<Paired>() == 32 && offset_of!(Paired, rank) == 16);
-    assert!(offset_of!(Paired, passes) == 24);
+    assert!(size_of::<Rounded>() == 800 && offset_of!(Rounded, shape) == 24);
+    assert!(offset_of!(Rounded, bonds) == 416);
+    assert!(size_of::<Figure>() == 32 && offset_of!(Figure, value) == 24);
+    assert!(size_of::<Formed>() == 416 && offset_of!(Formed, shape) == 24);
+    assert!(size_of::<Paired>() == 40 && offset_of!(Paired, rank) == 24);
+    assert!(offset_of!(Paired, passes) == 32);
     assert!(size_of::<Seen>() == 16 && offset_of!(Seen, value) == 8);
     assert!(size_of::<Run>() == 1320 && offset_of!(Run, axes) == 392);
     assert!(offset_of!(Run, settings) == 904 && offset_of!(Run, bonds) == 928);
     assert!(offset_of!(Run, figure) == 1312);
-    assert!(size_of::<Ran>() == 1336 && offset_of!(Ran, run) == 16);
+    assert!(size_of::<Ran>() == 1344 && offset_of!(Ran, run) == 24);
 };

@@ -1,7 +1,8 @@
 //! Zone chains: the proved numeric core of a district heating plan, for Rust.
 //!
-//! Every call answers a `Result`: what it made, or the `Refusal` with number, place and words. Nothing panics. `Chain` and
-//! `Run` own their numbers; the functions work on slices that the caller lends. All unsafe code stands in one module, `raw`.
+//! Every call answers a `Result`: what it made, or the `Refusal` with number, place, index and words. Nothing panics.
+//! `Chain` and `Run` own their numbers; the functions work on slices that the caller lends. All unsafe code stands in one
+//! module, `raw`.
 #![deny(unsafe_code)]
 
 mod calls;

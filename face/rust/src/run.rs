@@ -56,6 +56,7 @@ impl Run {
             return Err(Refusal {
                 number: 5,
                 place: 0,
+                index: 0,
             });
         }
         let mut kept = Slices::new(shape);

@@ -7,8 +7,18 @@ fn shape_of_d() -> Shape {
     Shape::new(&[(1, 2, 2), (2, 1, 1)]).unwrap()
 }
 
+// A number to be stored isn't finite.
+fn stored(number: u8, place: usize, index: usize) -> Refusal {
+    Refusal {
+        number,
+        place,
+        index,
+    }
+}
+
+// Any other refusal: without an index.
 fn refusal(number: u8, place: usize) -> Refusal {
-    Refusal { number, place }
+    stored(number, place, 0)
 }
 
 #[test]

@@ -5,8 +5,18 @@ mod ladder;
 use ladder::*;
 use uyavsker::*;
 
+// A number to be stored isn't finite.
+fn stored<T>(number: u8, place: usize, index: usize) -> Result<T, Refusal> {
+    Err(Refusal {
+        number,
+        place,
+        index,
+    })
+}
+
+// Any other refusal: without an index.
 fn refused<T>(number: u8, place: usize) -> Result<T, Refusal> {
-    Err(Refusal { number, place })
+    stored(number, place, 0)
 }
 
 fn counting(count: usize, first: f64) -> Vec<f64> {
@@ -61,7 +71,7 @@ fn a_figure_of_slices_of_one_length() {
     );
     assert_eq!(
         inner_separable(&shape, &[1.0, large], &[large, small]),
-        refused(9, 1)
+        stored(14, 1, 0)
     );
 }
 

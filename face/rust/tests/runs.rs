@@ -127,10 +127,18 @@ fn a_replaced_axis() {
     }
 }
 
+fn stored(number: u8, place: usize, index: usize) -> Result<f64, Refusal> {
+    Err(Refusal {
+        number,
+        place,
+        index,
+    })
+}
+
 #[test]
 fn a_refused_replacement_leaves_the_run() {
     let mut run = first();
-    let refusal = |number, place| Err(Refusal { number, place });
+    let refusal = |number, place| stored(number, place, 0);
     assert_eq!(run.replace_core(3, &[]), refusal(4, 0));
     assert_eq!(run.replace_core(1, &[0.0; 17]), refusal(5, 5));
     assert_eq!(run.replace_weights(2, &[f64::NAN; 5]), refusal(6, 2));
@@ -145,6 +153,6 @@ fn a_refused_fresh_run() {
     let refused = |source, weights| fresh(&AXES, source, weights).unwrap_err();
     let short = refused(numbers(s.entries() - 1, 1), numbers(s.points(), 2));
     let fewer = refused(numbers(s.entries(), 1), numbers(s.points() - 1, 2));
-    let places = [short, fewer].map(|refusal| (refusal.number, refusal.place));
-    assert_eq!(places, [(5, 0), (5, 1)]);
+    let told = [short, fewer].map(Err::<f64, _>);
+    assert_eq!(told, [stored(5, 0, 0), stored(5, 1, 0)]);
 }
