@@ -186,3 +186,26 @@ fn a_file() {
     assert_eq!(text_of(&file), "axes 2 entries 6\n0 1 2 2 32\n1 2 1 1 64\n");
     assert_eq!(text_of(b"TTC1"), "refused 11 at 4\n");
 }
+
+#[test]
+fn words_are_those_of_the_header() {
+    let line = |number| {
+        let told = refusal(number, 0);
+        let index = if told.has_index() { ", index" } else { "" };
+        format!("{number}{index}: {}\n", told.words())
+    };
+    let lines: String = (0..=15).map(line).collect();
+    assert_eq!(lines, include_str!("../../words.stdout"));
+}
+
+#[test]
+fn an_index_is_told_where_there_is_one() {
+    assert_eq!(
+        stored(14, 2, 6).to_string(),
+        "refused 14 at 2, index 6: a partial sum isn't finite"
+    );
+    assert_eq!(
+        refusal(10, 0).to_string(),
+        "refused 10 at 0: a pair's kept rank is above 8"
+    );
+}
