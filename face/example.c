@@ -1,4 +1,5 @@
-/* A plan of two zones: its figure, its file and its rounding; of one zone: a step, and a run with new weights. */
+/* A plan of two zones: its figure, its file and its rounding; of one zone: a step, and a run with new weights; of two zones again: a
+ * run that refuses a wild forecast and a wild weight. */
 #include "uyavsker.h"
 
 #include <stdio.h>
@@ -17,9 +18,13 @@ static void print_numbers(const char *name, const double *numbers, size_t count)
 /* Prints a refusal, and tells whether there was one. */
 static bool refused(uyavsker_refusal refusal)
 {
-    if (refusal.number != UYAVSKER_NONE)
-        printf("refused %d at %zu\n", refusal.number, refusal.place);
-    return refusal.number != UYAVSKER_NONE;
+    if (refusal.number == UYAVSKER_NONE)
+        return false;
+    printf("refused %d at %zu", refusal.number, refusal.place);
+    if (uyavsker_has_index(refusal.number))
+        printf(", index %zu", refusal.index);
+    printf(": %s\n", uyavsker_words(refusal.number));
+    return true;
 }
 
 static void print_figure(uyavsker_shape shape, const double *chain)
@@ -76,6 +81,27 @@ static void print_run(void)
                                      scratch, UYAVSKER_SCRATCH(4)).refusal);
 }
 
+/* Each has a number whose products are too large: the number of the refusal tells the core from the weight. */
+static void print_wild(uyavsker_shape shape)
+{
+    const uyavsker_axes still = {.axis = {{.a = 0}}};
+    const double forecast[] = {3, 0, 0, 1e200}, weight[] = {1e308};
+    double source[] = {3, 0, 0, 4, 1, 1}, weights[] = {1, 2, 1};
+    double chain[ENTRIES], carries[4], sums[3];
+    double scratch[UYAVSKER_SCRATCH(ENTRIES)];
+    uyavsker_ran ran = uyavsker_fresh_run(shape, still, settings, source, ENTRIES, weights, 3, chain, ENTRIES,
+                                          carries, 4, sums, 3, scratch, UYAVSKER_SCRATCH(ENTRIES));
+    if (refused(ran.refusal))
+        return;
+    printf("run of two zones %g\n", ran.run.figure);
+    printf("a wild forecast: ");
+    refused(uyavsker_replace_core(ran.run, 0, source, ENTRIES, weights, 3, chain, ENTRIES, carries, 4, sums, 3,
+                                  forecast, 4, scratch, UYAVSKER_SCRATCH(ENTRIES)).refusal);
+    printf("a wild weight: ");
+    refused(uyavsker_replace_weights(ran.run, 1, source, ENTRIES, weights, 3, chain, ENTRIES, carries, 4, sums, 3,
+                                     weight, 1, scratch, UYAVSKER_SCRATCH(ENTRIES)).refusal);
+}
+
 int main(void)
 {
     uyavsker_shape shape = {.d = 2, .left = {1, 2}, .n = {2, 1}, .right = {2, 1}};
@@ -92,5 +118,6 @@ int main(void)
     print_figure(rounded.shape, chain);
     print_step();
     print_run();
+    print_wild(shape);
     return 0;
 }

@@ -1,4 +1,5 @@
-//! A plan of two zones: its figure, its file and its rounding; of one zone: a step, and a run with new weights.
+//! A plan of two zones: its figure, its file and its rounding; of one zone: a step, and a run with new weights; of two zones
+//! again: a run that refuses a wild forecast and a wild weight.
 use uyavsker::{text_of, Axis, Chain, Cutting, Refusal, Run, Settings, Shape};
 
 fn print_numbers(name: &str, numbers: &[f64]) {
@@ -10,7 +11,7 @@ fn print_file(chain: &Chain) -> Result<(), Refusal> {
     let file = chain.write()?;
     print!("{}", text_of(&file));
     if let Err(refusal) = Chain::read(&file[..file.len() - 1]) {
-        println!("refused {} at {}", refusal.number, refusal.place);
+        println!("{refusal}");
     }
     print_numbers("read", Chain::read(&file)?.numbers());
     Ok(())
@@ -42,15 +43,35 @@ fn print_run(shape: Shape, numbers: &[f64]) -> Result<(), Refusal> {
     let part = [1.0, 2.0, 1.0, 1.0];
     println!("new weights {}", run.replace_weights(0, &part)?);
     if let Err(refusal) = run.replace_weights(1, &part) {
-        println!("refused {} at {}", refusal.number, refusal.place);
+        println!("{refusal}");
+    }
+    Ok(())
+}
+
+// Each has a number whose products are too large: the number of the refusal tells the core from the weight.
+fn print_wild(shape: Shape, numbers: &[f64], weights: &[f64]) -> Result<(), Refusal> {
+    let still = [Axis::default(); 2];
+    let mut run = Run::fresh(
+        &shape,
+        &still,
+        &SETTINGS,
+        numbers.to_vec(),
+        weights.to_vec(),
+    )?;
+    println!("run of two zones {}", run.figure());
+    if let Err(refusal) = run.replace_core(0, &[3.0, 0.0, 0.0, 1e200]) {
+        println!("a wild forecast: {refusal}");
+    }
+    if let Err(refusal) = run.replace_weights(1, &[1e308]) {
+        println!("a wild weight: {refusal}");
     }
     Ok(())
 }
 
 fn main() -> Result<(), Refusal> {
-    let weights = [1.0, 2.0, 1.0];
+    let (weights, two_zones) = ([1.0, 2.0, 1.0], [3.0, 0.0, 0.0, 4.0, 1.0, 1.0]);
     let shape = Shape::new(&[(1, 2, 2), (2, 1, 1)])?;
-    let mut chain = Chain::new(shape, vec![3.0, 0.0, 0.0, 4.0, 1.0, 1.0])?;
+    let mut chain = Chain::new(shape, two_zones.to_vec())?;
     println!("figure {}", chain.inner(&weights)?);
     print_file(&chain)?;
     let rounded = chain.round(&SETTINGS.cutting)?;
@@ -61,5 +82,6 @@ fn main() -> Result<(), Refusal> {
     println!("figure {}", chain.inner(&weights)?);
     let (one_zone, numbers) = (Shape::new(&[(1, 4, 1)])?, [4.0, 8.0, 16.0, 0.0]);
     print_step(one_zone, &numbers)?;
-    print_run(one_zone, &numbers)
+    print_run(one_zone, &numbers)?;
+    print_wild(shape, &two_zones, &weights)
 }
