@@ -2,6 +2,7 @@
  * what it answers is worked out by hand: if two fields or two slices were exchanged, in the archive or in the header, a test fails. */
 #include "ladder.h"
 
+#include <float.h>
 #include <math.h>
 #include <stdio.h>
 #include <string.h>
@@ -424,6 +425,84 @@ static void numbers_that_new_weights_look_at(void)
     expect_refusal(new_weights(lengths), UYAVSKER_NUMBER, 1, "carries of replace_weights");
 }
 
+/* ---- refusals in the work: number, place and index differ from each other, and where they can from 0 ---- */
+
+/* Entry (il, im, ir) of zone k of the ladder. */
+static double *entry_at(double *chain, size_t k, size_t il, size_t im, size_t ir)
+{
+    for (size_t before = 0; before < k; before++)
+        chain += source.left[before] * source.n[before] * source.right[before];
+    return chain + (il * source.n[k] + im) * source.right[k] + ir;
+}
+
+static void refused_roundings(void)
+{
+    const size_t lengths[] = {ZONES, NUMBERS, UYAVSKER_SCRATCH(NUMBERS)};
+
+    /* Zone 5 has three columns, and 1e200 in a row of its own in the last: the Gram matrix at (2, 2). */
+    put_cores(lent.chain, &source, &source, source_entry);
+    *entry_at(lent.chain, 5, 2, 2, 2) = 1e200;
+    expect_stored(round_ladder(lengths + 1), UYAVSKER_SPECTRUM, 5, 2 * 3 + 2, "tt_round refused");
+
+    /* Zone 3, of 12 points and 4 columns, moves by half a point: 0.78125 of point 6 and 0.125 of each neighbour are too much. */
+    put_cores(lent.chain, &source, &source, source_entry);
+    for (size_t im = 5; im <= 7; im++)
+        *entry_at(lent.chain, 3, 1, im, 2) = DBL_MAX;
+    axes.axis[3] = ladder_axis(3, 0.5);
+    expect_stored(step_ladder(lengths), UYAVSKER_ENTRY, 3, (1 * 12 + 6) * 4 + 2, "step refused");
+    axes = ladder_axes();
+
+    /* Of zone 6 column 2 alone is kept, and 1e100 carried from it to row 2 of zone 7, which becomes row 0 of two columns. */
+    put_cores(lent.chain, &source, &source, source_entry);
+    *entry_at(lent.chain, 6, 0, 2, 2) = 1e100;
+    *entry_at(lent.chain, 7, 2, 9, 1) = 1e300;
+    expect_stored(evolve_ladder(lengths), UYAVSKER_FACTOR, 7, 9 * 2 + 1, "evolve refused");
+}
+
+/* Sum 6 of zone 2 is sum 2 of zone 1, which is 1.25, times entry (2, 6, 6) and the weight of point 6. */
+static void refused_figure(void)
+{
+    give_ladder();
+    *entry_at(lent.source, 2, 2, 6, 6) = DBL_MAX;
+    uyavsker_figure figure = uyavsker_inner_separable(source, lent.source, NUMBERS, lent.weights, POINTS);
+    expect_stored(figure.refusal, UYAVSKER_SUM, 2, 6, "inner_separable refused with an index");
+    expect(figure.value == 0, "a refused figure");
+}
+
+/* The same sum in a run, which has zone 0 with another sign; point 6 of zone 2 is point 9 + 10 + 6 of all. */
+static void refused_weights(void)
+{
+    const size_t lengths[] = {NUMBERS, POINTS, NUMBERS, CARRIES, SUMS, UYAVSKER_SCRATCH(NUMBERS)};
+    const size_t with_part[] = {NUMBERS, POINTS, NUMBERS, CARRIES, SUMS, 11, UYAVSKER_SCRATCH(NUMBERS)};
+    give_ladder();
+    lent.weights[9 + 10 + 6] = DBL_MAX;
+    expect_stored(fresh(lengths), UYAVSKER_SUM, 2, 6, "fresh_run refused");
+    expect_record("record of fresh_run refused");
+    lent.weights[9 + 10 + 6] = 1;
+    expect_refusal(fresh(lengths), UYAVSKER_NONE, 0, "fresh_run after a refused one");
+    given = ran.run;
+    zone = 2;
+    lent.part[6] = DBL_MAX;
+    expect_stored(new_weights(with_part), UYAVSKER_SUM, 2, 6, "replace_weights refused");
+    expect_record("record of replace_weights refused");
+}
+
+/* Half of the largest number at (1, 10) of the last zone is a quarter of it once moved, and an eighth on both sides. The second row of
+ * the carry takes that 7 times, and 7/4 is too much. */
+static void refused_cores(void)
+{
+    const size_t without_part[] = {NUMBERS, POINTS, NUMBERS, CARRIES, SUMS, UYAVSKER_SCRATCH(NUMBERS)};
+    const size_t with_part[] = {NUMBERS, POINTS, NUMBERS, CARRIES, SUMS, LAST_NUMBERS, UYAVSKER_SCRATCH(NUMBERS)};
+    give_written_run();
+    lent.part[LAST_POINTS + 10] = DBL_MAX / 2;
+    expect_stored(new_core(with_part), UYAVSKER_FACTOR, LAST, LAST_POINTS + 10, "replace_core refused");
+    expect_record("record of replace_core refused");
+    give_written_run();
+    *entry_at(lent.source, LAST, 1, 10, 0) = DBL_MAX / 2;
+    expect_stored(new_axis(without_part), UYAVSKER_FACTOR, LAST, LAST_POINTS + 10, "replace_axis refused");
+    expect_record("record of replace_axis refused");
+}
+
 /* A run of the scope's chain D, whose source and chain, weights and sums, carries and new core are of one length. Nothing moves. */
 static void slices_of_one_length(void)
 {
@@ -491,6 +570,27 @@ static void pairs(void)
     expect_lengths(split, (size_t[]){54, 120, 144, 320, UYAVSKER_PAIR_SCRATCH}, 5, "contract_and_split");
     expect(paired.rank == 2 && paired.passes == 1, "answer of contract_and_split");
     expect(as_wanted(), "slices of contract_and_split");
+}
+
+/* A slab of 18 rows and 40 columns that has the product of these two at row 14, column 31, and maybe once more at column 36. */
+static uyavsker_refusal split_large(double left, double right, bool twice)
+{
+    memset(lent.source, 0, 54 * sizeof(double));
+    memset(lent.weights, 0, 120 * sizeof(double));
+    lent.source[14 * 3 + 1] = left;
+    lent.weights[1 * 40 + 31] = right;
+    lent.weights[1 * 40 + 36] = twice ? right : 0;
+    return split((size_t[]){54, 120, 144, 320, UYAVSKER_PAIR_SCRATCH});
+}
+
+/* The slab counts row after row, its columns column after column. The square of 1e200 is too large for a value; a column of zeros is
+ * turned by 0 beside it; two such columns have no angle, and the first of them is stored as no number from its row 0 on. */
+static void refused_pairs(void)
+{
+    expect_stored(split_large(1e200, 1e200, false), UYAVSKER_ENTRY, 0, 14 * 40 + 31, "a pair's slab refused");
+    expect_stored(split_large(1e100, 1e100, false), UYAVSKER_SPECTRUM, 0, 31, "a pair's value refused");
+    expect_stored(split_large(1e100, 1e100, true), UYAVSKER_SPECTRUM, 0, 31 * 18, "a pair's columns refused");
+    expect(paired.rank == 0 && paired.passes == 0, "answer of contract_and_split refused");
 }
 
 /* 0, 4; 4, 0 before 1, 0; 0, 2 is 0, 8; 4, 0. The left core has the values, the right one what they stand at. */
@@ -574,8 +674,13 @@ int main(void)
     fresh_runs();
     replacements();
     numbers_that_new_weights_look_at();
+    refused_roundings();
+    refused_figure();
+    refused_weights();
+    refused_cores();
     slices_of_one_length();
     pairs();
+    refused_pairs();
     pairs_of_one_length();
     files();
     return failures == 0 ? 0 : 1;

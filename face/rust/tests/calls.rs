@@ -209,3 +209,109 @@ fn an_index_is_told_where_there_is_one() {
         "refused 10 at 0: a pair's kept rank is above 8"
     );
 }
+
+// What a step of these cores refuses; nothing moves where an axis record is blank.
+fn refused_step(
+    cores: &[(usize, usize, usize)],
+    numbers: &[f64],
+    c: f64,
+    axes: &[Axis],
+) -> Refusal {
+    let settings = Settings {
+        tau: 1.0,
+        c,
+        cutting: Cutting { eps: 0.0 },
+    };
+    let mut chain = Chain::new(Shape::new(cores).unwrap(), numbers.to_vec()).unwrap();
+    let before = chain.clone();
+    let refused = chain.step(&settings, axes).unwrap_err();
+    assert_eq!(chain, before);
+    refused
+}
+
+#[test]
+fn a_shifted_entry_that_is_too_large() {
+    let half = Axis {
+        b: 0.5,
+        xmax: 4.0,
+        ..Axis::default()
+    };
+    let m = f64::MAX;
+    let chain = [1.0, 0.0, 1.0, 1.0, 1.0, 1.0, 1.0, 0.0, m, m, m, 0.0];
+    let axes = [Axis::default(), half];
+    let refused = refused_step(&[(1, 1, 2), (2, 5, 1)], &chain, 0.0, &axes);
+    // By half a point, 0.78125 of point 2 and 0.125 of each neighbour are 1.03125 m: row 1 of 5 points, point 2.
+    assert_eq!(refused, stored(9, 1, 7));
+}
+
+#[test]
+fn a_scaled_entry_that_is_too_large() {
+    let chain = [3.0, 0.0, 0.0, 1e308, 1.0, 1.0];
+    let refused = refused_step(&[(1, 2, 2), (2, 1, 1)], &chain, 9.0, &[Axis::default(); 2]);
+    // 1 + tau*c is 10, and 10 times the last of four entries is too much.
+    assert_eq!(refused, stored(9, 0, 3));
+}
+
+// What a rounding of these cores refuses.
+fn refused_rounding(cores: &[(usize, usize, usize)], numbers: &[f64]) -> Refusal {
+    let mut chain = Chain::new(Shape::new(cores).unwrap(), numbers.to_vec()).unwrap();
+    chain.round(&Cutting { eps: 0.0 }).unwrap_err()
+}
+
+#[test]
+fn a_gram_matrix_that_is_too_large() {
+    let chain = [1.0, 3.0, 0.0, 0.0, 1e200, 1.0, 1.0];
+    let refused = refused_rounding(&[(1, 1, 1), (1, 2, 2), (2, 1, 1)], &chain);
+    // The matrix of core 1 is 9, 0; 0, 1e400.
+    assert_eq!(refused, stored(12, 1, 3));
+}
+
+#[test]
+fn an_absorbed_core_that_is_too_large() {
+    let chain = [3.0, 0.0, 0.0, 4.0, 1.0, 1e308, 1.0, 1.0];
+    let refused = refused_rounding(&[(1, 2, 2), (2, 2, 1)], &chain);
+    // The carry 0, 4; 3, 0 makes 4, 4; 3, 3e308 of core 1.
+    assert_eq!(refused, stored(13, 1, 3));
+}
+
+#[test]
+fn a_sum_that_is_too_large() {
+    let shape = Shape::new(&[(1, 1, 1), (1, 1, 3), (3, 1, 1)]).unwrap();
+    let chain = [1.0, 1.0, 1.0, 1e308, 1.0, 1.0, 1.0];
+    let refused = inner_separable(&shape, &chain, &[1.0, 10.0, 1.0]);
+    // The sums of axis 1 are 10, 10, 1e309.
+    assert_eq!(refused, Err(stored(14, 1, 2)));
+}
+
+// What a pair of 2 rows refuses; the right core has two rows of as many points as the slab has columns.
+fn refused_pair(left: [f64; 4], right: &[f64]) -> Refusal {
+    let points = right.len() / 2;
+    let (mut first, mut second) = ([7.5; 16], vec![7.5; 8 * points]);
+    let mut scratch = vec![7.5; PAIR_SCRATCH];
+    let outputs = [&mut first[..], &mut second[..]];
+    let sizes = [(1, 2, 2), (2, points, 1)];
+    let paired = contract_and_split(sizes, 0.0, [&left, right], outputs, &mut scratch);
+    assert!(first.iter().chain(&second).all(|x| *x == 7.5));
+    paired.unwrap_err()
+}
+
+#[test]
+fn a_slab_that_is_too_large() {
+    let refused = refused_pair([1.0, 0.0, 0.0, 1e200], &[1.0, 1.0, 1.0, 1e200, 1.0, 1.0]);
+    // The slab is 1, 1, 1; 1e400, 1e200, 1e200, row after row.
+    assert_eq!(refused, stored(9, 0, 3));
+}
+
+#[test]
+fn a_value_of_a_pair_that_is_too_large() {
+    let refused = refused_pair([1.0, 0.0, 0.0, 1.0], &[1.0, 0.0, 0.0, 1e200]);
+    // The columns 1, 0 and 0, 1e200 aren't turned, and their values are 1 and the root of 1e400.
+    assert_eq!(refused, stored(12, 0, 1));
+}
+
+#[test]
+fn columns_of_a_pair_that_are_too_large() {
+    let refused = refused_pair([1.0, 0.0, 0.0, 1.0], &[1.0, 0.0, 0.0, 0.0, 1e200, 1e200]);
+    // Columns 1 and 2 are 0, 1e200: their products are too large for an angle, and column 1 becomes no number from row 0 on.
+    assert_eq!(refused, stored(12, 0, 2));
+}

@@ -140,6 +140,43 @@ fn a_course() {
     assert_rounded(&rounded, (&chain, &scratch), 2, evolved_entry);
 }
 
+// The place of entry (il, im, ir) of zone k of the source.
+fn entry(k: usize, (il, im, ir): (usize, usize, usize)) -> usize {
+    let sizes = cores(source_rank);
+    let before: usize = sizes[..k].iter().map(|(l, n, r)| l * n * r).sum();
+    before + (il * sizes[k].1 + im) * sizes[k].2 + ir
+}
+
+// Zone 5 has three columns, and 1e200 in a row of its own in the last: the Gram matrix at (2, 2).
+#[test]
+fn a_refused_rounding() {
+    let shape = shape(source_rank);
+    let (mut chain, mut scratch) = (source(), vec![0.0; shape.scratch()]);
+    chain[entry(5, (2, 2, 2))] = 1e200;
+    let rounded = tt_round(&shape, &SETTINGS.cutting, &mut chain, &mut scratch);
+    assert_eq!(rounded, stored(12, 5, 8));
+}
+
+// Of zone 6 column 2 alone is kept, and 1e100 carried from it to row 2 of zone 7, which becomes row 0 of two columns.
+#[test]
+fn a_refused_step() {
+    let shape = shape(source_rank);
+    let (mut chain, mut scratch) = (source(), vec![0.0; shape.scratch()]);
+    chain[entry(6, (0, 2, 2))] = 1e100;
+    chain[entry(7, (2, 9, 1))] = 1e300;
+    let stepped = step(&shape, &SETTINGS, &axes(), &mut chain, &mut scratch);
+    assert_eq!(stepped, stored(13, 7, 19));
+}
+
+// Sum 6 of zone 2 is sum 2 of zone 1, which is 1.25, times entry (2, 6, 6) and the weight of point 6.
+#[test]
+fn a_refused_figure() {
+    let mut chain = source();
+    chain[entry(2, (2, 6, 6))] = f64::MAX;
+    let figure = inner_separable(&shape(source_rank), &chain, &weights());
+    assert_eq!(figure, stored(14, 2, 6));
+}
+
 fn ladder_run() -> Run {
     Run::fresh(&shape(source_rank), &axes(), &SETTINGS, source(), weights()).unwrap()
 }
@@ -275,6 +312,26 @@ fn a_new_axis() {
     wanted.assert_is(&run);
 }
 
+// As in the figure and in the rounding above; a run has zone 0 with another sign, and point 6 of zone 2 is point 25 of all.
+#[test]
+fn refused_runs() {
+    let (mut run, mut wild) = (ladder_run(), weights());
+    wild[25] = f64::MAX;
+    let fresh = Run::fresh(
+        &shape(source_rank),
+        &axes(),
+        &SETTINGS,
+        source(),
+        wild.clone(),
+    );
+    assert_eq!(fresh.map(|run| run.figure()), stored(14, 2, 6));
+    assert_eq!(run.replace_weights(2, &wild[19..30]), stored(14, 2, 6));
+    let mut core = source()[entry(5, (0, 0, 0))..entry(6, (0, 0, 0))].to_vec();
+    core[entry(5, (2, 2, 2)) - entry(5, (0, 0, 0))] = 1e200;
+    assert_eq!(run.replace_core(5, &core), stored(12, 5, 8));
+    Wanted::fresh().assert_is(&run);
+}
+
 // The scope's chain D: source and chain, weights and sums, carries and new core are of one length. Nothing moves.
 #[test]
 fn a_run_of_slices_of_one_length() {
@@ -351,6 +408,21 @@ fn a_pair() {
     assert_eq!(lent[0], set(144, &[(28, 32.0), (3, 16.0)]));
     assert_eq!(lent[1], set(320, &[(31, 1.0), (49, 1.0)]));
     assert!(lent[2].iter().all(|x| *x == 0.0));
+}
+
+// The slab of 18 rows has 1e200 at row 14, columns 31 and 36: these have no angle, and column 31 becomes no number.
+#[test]
+fn a_refused_pair() {
+    let cores = [
+        set(54, &[(43, 1e100)]),
+        set(120, &[(71, 1e100), (76, 1e100)]),
+    ];
+    let (mut lefts, mut rights, mut scratch) = ([7.5; 144], [7.5; 320], vec![7.5; PAIR_SCRATCH]);
+    let outputs = [&mut lefts[..], &mut rights[..]];
+    let given = [&cores[0][..], &cores[1][..]];
+    let sizes = [(2, 9, 3), (3, 10, 4)];
+    let paired = contract_and_split(sizes, 0.0625, given, outputs, &mut scratch);
+    assert_eq!(paired, stored(12, 0, 558));
 }
 
 // 0, 4; 4, 0 before 1, 0; 0, 2 is 0, 8; 4, 0. The left core has the values, the right one what they stand at.

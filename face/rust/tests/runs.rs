@@ -156,3 +156,49 @@ fn a_refused_fresh_run() {
     let told = [short, fewer].map(Err::<f64, _>);
     assert_eq!(told, [stored(5, 0, 0), stored(5, 1, 0)]);
 }
+
+// A run in which nothing moves.
+fn still(cores: &[(usize, usize, usize)], source: &[f64], weights: &[f64]) -> Run {
+    let (shape, axes) = (
+        Shape::new(cores).unwrap(),
+        vec![Axis::default(); cores.len()],
+    );
+    let settings = Settings {
+        tau: 1.0,
+        c: 0.0,
+        cutting: Cutting { eps: 0.0 },
+    };
+    Run::fresh(&shape, &axes, &settings, source.to_vec(), weights.to_vec()).unwrap()
+}
+
+#[test]
+fn a_wild_forecast_and_a_wild_weight_are_told_apart() {
+    let source = [3.0, 0.0, 0.0, 4.0, 1.0, 1.0];
+    let mut run = still(&[(1, 2, 2), (2, 1, 1)], &source, &[1.0, 2.0, 1.0]);
+    let before = run.clone();
+    // The Gram matrix is 9, 0; 0, 1e400.
+    let first = run.replace_core(0, &[3.0, 0.0, 0.0, 1e200]);
+    // The carry 0, 4; 3, 0 makes 4; 3e308 of it.
+    let last = run.replace_core(1, &[1e308, 1.0]);
+    // The sums 2, 1 and the core 4, 3 make 8e308 of it at once.
+    let weight = run.replace_weights(1, &[1e308]);
+    let told = [stored(12, 0, 3), stored(13, 1, 1), stored(14, 1, 0)];
+    assert_eq!([first, last, weight], told);
+    assert_same(&run, &before);
+}
+
+#[test]
+fn a_wild_axis() {
+    let m = f64::MAX;
+    let source = [1.0, 0.0, 1.0, 1.0, 1.0, 1.0, 1.0, 0.0, m, m, m, 0.0];
+    let mut run = still(&[(1, 1, 2), (2, 5, 1)], &source, &[1.0; 6]);
+    let half = Axis {
+        b: 0.5,
+        xmax: 4.0,
+        ..Axis::default()
+    };
+    // By half a point, 0.78125 of point 2 and 0.125 of each neighbour are 1.03125 m: row 1 of 5 points, point 2.
+    assert_eq!(run.replace_axis(1, &half), stored(9, 1, 7));
+    // Row 1 isn't kept, so the figure is that of row 0.
+    assert_eq!(run.figure(), 5.0);
+}
