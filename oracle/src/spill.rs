@@ -289,11 +289,14 @@ fn scale_column(core: &mut TtCore<f64>, column: usize, by: f64) {
     }
 }
 
-/// Two columns of the slab that are rotated although their squares overflow: by an angle that is not a number.
+/// Two columns of the slab that are rotated although their squares overflow: by an angle that is not a number. A lone column is scaled
+/// once, so that it stays finite.
 fn columns(r: &mut Random, right: &mut TtCore<f64>) {
     let (p, q) = two_of(r, right.n * right.r_right);
-    scale_column(right, p, large(r, 155, 300));
     scale_column(right, q, large(r, 155, 300));
+    if p < q {
+        scale_column(right, p, large(r, 155, 300));
+    }
 }
 
 /// One column of the slab whose square overflows; beside one of zeros it is rotated, by nothing, in every pass.

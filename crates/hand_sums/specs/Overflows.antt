@@ -1,6 +1,6 @@
 -- Which part overflowed, as one list: calls that are refused in the work, and what is told of each. Definitions only.
 use Prim.Native.Nat.{ℕ}
-use mathlib.Core.Bool.{true, false}
+use mathlib.Core.Bool.{true}
 use mathlib.Core.List.{List, [], _∷_, _++_}
 use lib.IntN.{pos, negsuc}
 use lib.ListN.{length, replicate}
@@ -14,7 +14,7 @@ use Rattle.stepform.specs.declared.Axis.{Axis}
 use Rattle.cutform.specs.Call.{roundCall}
 use Rattle.sumform.specs.Call.{innerCall}
 use Rattle.stepform.specs.Call.{stepCall}
-use Rattle.hand_sums.specs.Cases.{power, whole, two-cores, Case, case}
+use Rattle.hand_sums.specs.Cases.{power, two-cores, Case, case}
 
 -- 2 ^ e
 abbrev huge : ℕ → Float
