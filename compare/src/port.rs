@@ -1,5 +1,6 @@
 //! The port's calls, declared as face/uyavsker.h has them. All unsafe code stands here: what a call asks is that its slices are as
 //! long as said and that a written one overlaps no other, which references ensure.
+
 /// What is told of a refusal, three times 0 where there is none.
 #[repr(C)]
 #[derive(Clone, Copy, Debug, PartialEq)]
