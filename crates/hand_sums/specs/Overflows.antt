@@ -13,6 +13,7 @@ use Rattle.shape.specs.Limits.{scratchFor}
 use Rattle.stepform.specs.declared.Axis.{Axis}
 use Rattle.cutform.specs.Call.{roundCall}
 use Rattle.sumform.specs.Call.{innerCall}
+use Rattle.stepform.specs.declared.Settings.{Settings}
 use Rattle.stepform.specs.Call.{stepCall}
 use Rattle.hand_sums.specs.Cases.{power, two-cores, Case, case}
 
@@ -33,7 +34,8 @@ moved b = record { a = zero64; b = b; xmin = zero64; xmax = power 1 (pos 3) }
 -- two cores, of which the second moves by b; core 0 is multiplied by 1 + c
 abbrev stepped : Shape → Float → Float → List Float → List ℕ
 stepped s b c l =
-    toldOf (stepCall (record { tau = one64; c = c; cutting = record { eps = zero64 } }) s (moved zero64 ∷ moved b ∷ []) l (zeros (scratchFor (length l))) .result .verdict)
+    let settings : Settings = record { tau = one64; c = c; cutting = record { eps = zero64 } } in
+    toldOf (stepCall settings s (moved zero64 ∷ moved b ∷ []) l (zeros (scratchFor (length l))) .result .verdict)
 
 abbrev figured : Shape → List Float → List Float → List ℕ
 figured s l weights = toldOf (innerCall s l weights .verdict)
