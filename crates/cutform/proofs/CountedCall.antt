@@ -8,7 +8,8 @@ use lib.ListN.{length, getD, replicate, length-replicate, getD-replicate, List·
 use lib.Seq.{getD-take}
 use lib.Ieee.{Float}
 use Rattle.answers.specs.declared.Verdict.the-variants.{Fits}
-use Rattle.answers.specs.Outcome.{Answer, done, refused}
+use Rattle.answers.specs.Outcome.{Answer, done, refused, bind}
+use Rattle.answers.proofs.Outcomes.{bind-done}
 use Rattle.answers.proofs.Checks.{then-is}
 use Rattle.lists.specs.Slots.{fit}
 use Rattle.lists.specs.Walks.{stateAt}
@@ -21,10 +22,10 @@ use Rattle.shape.specs.Cores.{Core, coreAt, coresOf}
 use Rattle.shape.proofs.Shaped.{shaped}
 use Rattle.cutform.specs.declared.Cutting.{Cutting}
 use Rattle.cutform.specs.Bonds.{noBond}
-use Rattle.cutform.specs.Rounding.{Carry, none, Cut, rounding, bondsIn}
+use Rattle.cutform.specs.Rounding.{Carry, none, Cut, After, rounding, bondsIn, afterCuts}
 use Rattle.cutform.specs.Claims.{BondCounted, coreIn, RoundCounted}
 use Rattle.cutform.proofs.CountedBonds.{rounding-counted}
-use Rattle.cutform.specs.Call.{endedBy, roundOk, roundCall}
+use Rattle.cutform.specs.Call.{endedAs, endedBy, roundOk, roundCall}
 
 -- ---- an array holds at k what the list has there
 padded : {A : Type 0} (o : A) (n : ℕ) (x : List A) (k : ℕ) → getD (x ++ replicate n o) k o ≡ getD x k o
@@ -42,25 +43,33 @@ pub cores-most : (s : Shape) (chain : List Float) → chainOk s ≡ done tt → 
 unfolding coresOf
 cores-most s chain ok = let m = shaped s (λ (k : ℕ). true) ok .most in let n = listed-length (s .d) 0 (coreAt s chain) in omega arith
 
+-- the array that a rounding of the cores cs leaves has its sweeps
+pub after-counted : (cutting : Cutting) (cs : List Core) (cuts : List (Carry × Cut)) → length cs ≤ mostAxes → rounding cutting cs ≡ done cuts
+    → RoundCounted cutting cs (afterCuts cuts .bonds)
+after-counted cutting cs cuts most ran =
+    let R = rounding-counted cutting cs cuts ran in
+    record {
+      cuts = R .cuts;
+      ran = R .ran;
+      bond = λ k lt. subst (BondCounted k (stateAt none (R .cuts) k) (coreIn cs k)) (sym (in-array noBond mostAxes (bondsIn cuts) k (omega arith))) (R .bond k lt);
+    }
+
 module _ (s : Shape) (chain scratch : List Float) where
-  -- a call that ends so was accepted with what its work made
+  -- a call that ends so was accepted, with what its work left
+  pub left-fits : (o : Answer After) → endedAs s chain scratch o .result .verdict ≡ Fits → (a : After) × (o ≡ done a)
+  unfolding endedAs
+  left-fits (done a) e = (a, refl)
+  left-fits (refused r) e = let z : _≡_ {A = ℕ} 0 1 = cc in absurd (omega arith)
+
   pub ended-fits : (o : Answer (List (Carry × Cut))) → endedBy s chain scratch o .result .verdict ≡ Fits → (cuts : List (Carry × Cut)) × (o ≡ done cuts)
-  unfolding endedBy
-  ended-fits (done cuts) e = (cuts, refl)
-  ended-fits (refused r) e = let z : _≡_ {A = ℕ} 0 1 = cc in absurd (omega arith)
+  ended-fits o e = let A = bind-done o (λ tr. done (afterCuts tr)) _ (left-fits (bind o (λ tr. done (afterCuts tr))) e .1) in (A .0, A .1)
 
   -- and where that was a rounding of the cores cs, its sweeps are the rounding's
   pub ended-counted : (cutting : Cutting) (cs : List Core) (o : Answer (List (Carry × Cut))) (cuts : List (Carry × Cut)) → length cs ≤ mostAxes → o ≡ done cuts
       → rounding cutting cs ≡ done cuts → RoundCounted cutting cs (endedBy s chain scratch o .result .bonds)
-  unfolding endedBy
+  unfolding endedAs
   ended-counted cutting cs o cuts most e ran =
-      let R = rounding-counted cutting cs cuts ran in
-      let end : RoundCounted cutting cs (fit noBond mostAxes (bondsIn cuts)) = record {
-        cuts = R .cuts;
-        ran = R .ran;
-        bond = λ k lt. subst (BondCounted k (stateAt none (R .cuts) k) (coreIn cs k)) (sym (in-array noBond mostAxes (bondsIn cuts) k (omega arith))) (R .bond k lt);
-      } in
-      subst (λ (x : Answer (List (Carry × Cut))). RoundCounted cutting cs (endedBy s chain scratch x .result .bonds)) (sym e) end
+      subst (λ (x : Answer (List (Carry × Cut))). RoundCounted cutting cs (endedBy s chain scratch x .result .bonds)) (sym e) (after-counted cutting cs cuts most ran)
 
 -- THE CALL
 pub round-counted : (s : Shape) (cutting : Cutting) (chain scratch : List Float) → roundCall s cutting chain scratch .result .verdict ≡ Fits

@@ -8,6 +8,7 @@ use lib.Ieee.{Float}
 use Rattle.answers.specs.declared.Part.the-variants.{Factor}
 use Rattle.answers.specs.Outcome.{Answer, done, making}
 use Rattle.answers.proofs.Outcomes.{bind-done, done-inj}
+use Rattle.numbers.specs.Finite.{finite}
 use Rattle.lists.specs.Floats.{allFinite, stored}
 use Rattle.lists.proofs.Floats.{making-stored}
 use Rattle.shape.specs.Cores.{Core, coreWith}
@@ -28,6 +29,7 @@ pub record Carried (rr : ℕ) (r : Carry × Cut) : Type 0 where
   pub most : bond .rank ≤ rr
   pub long : length numbers ≡ bond .rank * rr
   pub fine : allFinite numbers ≡ true
+  pub dropped : finite (bond .dropped) ≡ true
 
 abbrev pub volume : Core → ℕ
 volume c = c .rl * c .n * c .rr
@@ -89,6 +91,7 @@ module _ (k : ℕ) (cutting : Cutting) (c : Core) (r : Carry × Cut) (h : cutIf 
         most = B .most one;
         long = B .carry-long;
         fine = B .carry-fine;
+        dropped = B .dropped-fine;
       }
 
   cut-fine : allFinite (r .1 .core .entries) ≡ true

@@ -9,6 +9,7 @@ use lib.Ieee.{Float, binary64, add, sub, mul, div, neg, lt, le, eq, ofBits, toBi
 use lib.IntN.{pos, negsuc}
 use lib.Ieee.{fin}
 use Rattle.answers.specs.Outcome.{Answer, done, refused}
+use Rattle.numbers.specs.Arithmetic.{zero64}
 use Rattle.numbers.specs.Root.{rootIn, wholeRoot, rootOfUnits, rootOf}
 use Rattle.lists.specs.Lists.{pick, listed, flat, first, count, pairs, folded}
 use Rattle.lists.specs.Walks.{along, walk}
@@ -18,7 +19,7 @@ use Rattle.cutform.specs.Rotation.{tangentOf, slopeOf, cosineOf, turnedA
 use Rattle.cutform.specs.declared.Bond.{Bond}
 use Rattle.cutform.specs.declared.Cutting.{Cutting}
 use Rattle.cutform.specs.Sweeps.{turnColumns, turnRows, cleared, turned, skipped, rotate, sweep, offSum, settled, sweepsFrom, diagonalized}
-use Rattle.cutform.specs.Values.{singularOf, singulars, placeIn, indexAt, order, sorted, thresholdOf, keptRank}
+use Rattle.cutform.specs.Values.{singularOf, singulars, placeIn, indexAt, order, sorted, thresholdOf, keptRank, droppedFrom}
 use Rattle.cutform.specs.Bonds.{gram, noBond, CutCore, cutBond, absorb}
 use Rattle.cutform.specs.Factors.{divided, leftFactor, carryOf}
 use Rattle.cutform.specs.Rounding.{Carry, Cut, roundCore, rounding, coresIn}
@@ -46,14 +47,21 @@ abbrev cores : Answer (List (Carry × Cut)) → List (List ℕ)
 cores (done tr) = map (λ (c : Core). bits (c .entries)) (coresIn tr)
 cores (refused r) = []
 
+-- where x was dropped, and where all was kept
+abbrev saw-without : Float → ℕ → ℕ → List ℕ → List ℕ → Seen
+saw-without x r c l b = record { right = r; bond = record { rank = r; sweeps = c; settled = true; dropped = x }; left = l; carry = b }
+
 abbrev saw : ℕ → ℕ → List ℕ → List ℕ → Seen
-saw r c l b = record { right = r; bond = record { rank = r; sweeps = c; settled = true }; left = l; carry = b }
+saw = saw-without zero64
 
 abbrev D : Core
 D = coreWith 1 2 2 (fin false 3 (pos 0) ∷ fin false 0 (pos 0) ∷ fin false 0 (pos 0) ∷ fin false 1 (pos 2) ∷ [])
 
 abbrev half : Float
 half = fin false 1 (negsuc 0)
+
+abbrev quarter : Float
+quarter = fin false 1 (negsuc 1)
 
 abbrev three-quarters : Float
 three-quarters = fin false 3 (negsuc 1)
@@ -63,6 +71,12 @@ least = fin false 1 (negsuc 26)
 
 abbrev one : ℕ
 one = 0x3ff0_0000_0000_0000
+
+abbrev two : ℕ
+two = 0x4000_0000_0000_0000
+
+abbrev four : ℕ
+four = 0x4010_0000_0000_0000
 
 -- a core of rows of three, the numbers by their bits
 abbrev three-wide : Core
@@ -86,9 +100,16 @@ minus-nought = fin true 0 (pos 0)
 abbrev leaning : ℕ → Core
 leaning g = coreWith 1 2 2 (map (ofBits binary64) (one ∷ g ∷ 0 ∷ one ∷ []))
 
+-- 1, 4 and 2 on a diagonal, and what is left of it where only 4 is kept
+abbrev diagonal : Core
+diagonal = coreWith 1 3 3 (map (ofBits binary64) (one ∷ 0 ∷ 0 ∷ 0 ∷ four ∷ 0 ∷ 0 ∷ 0 ∷ two ∷ []))
+
+abbrev four-left : Seen
+four-left = saw-without (ofBits binary64 two) 1 0 (0 ∷ one ∷ 0 ∷ []) (0 ∷ four ∷ 0 ∷ [])
+
 -- what becomes of it where no pair is turned
 abbrev unturned : ℕ → Bool → ℕ → Seen
-unturned c b g = record { right = 2; bond = record { rank = 2; sweeps = c; settled = b }; left = one ∷ g ∷ 0 ∷ one ∷ []; carry = one ∷ 0 ∷ 0 ∷ one ∷ [] }
+unturned c b g = record { right = 2; bond = record { rank = 2; sweeps = c; settled = b; dropped = zero64 }; left = one ∷ g ∷ 0 ∷ one ∷ []; carry = one ∷ 0 ∷ 0 ∷ one ∷ [] }
 
 -- and where g is near 1e-15 and its pair is turned, by half a right angle
 abbrev turned-once : Seen
@@ -104,7 +125,14 @@ pub record Examples : Type 0 where
   -- 3 lies above 0.5*4, so both are kept
   pub above : seen (cutBond 0 (by half) D) ≡ saw 2 0 (0 ∷ one ∷ one ∷ 0 ∷ []) (0 ∷ 0x4010000000000000 ∷ 0x4008000000000000 ∷ 0 ∷ [])
   -- 3 does not lie above 0.75*4
-  pub at-threshold : seen (cutBond 0 (by three-quarters) D) ≡ saw 1 0 (0 ∷ one ∷ []) (0 ∷ 0x4010000000000000 ∷ [])
+  pub at-threshold : seen (cutBond 0 (by three-quarters) D) ≡ saw-without (fin false 3 (pos 0)) 1 0 (0 ∷ one ∷ []) (0 ∷ 0x4010000000000000 ∷ [])
+  -- of 2 and 1, which are dropped, 2 is told, also where it is the threshold itself; of 1 alone, 1; of nothing, +0
+  pub drops-two : seen (cutBond 0 (by three-quarters) diagonal) ≡ four-left
+  pub drops-at-threshold : seen (cutBond 0 (by half) diagonal) ≡ four-left
+  pub drops-one : seen (cutBond 0 (by quarter) diagonal) ≡ saw-without (ofBits binary64 one) 2 0 (0 ∷ 0 ∷ one ∷ 0 ∷ 0 ∷ one ∷ []) (0 ∷ four ∷ 0 ∷ 0 ∷ 0 ∷ two ∷ [])
+  pub drops-none : seen (cutBond 0 (by nought) diagonal) ≡ saw 3 0 (0 ∷ 0 ∷ one ∷ one ∷ 0 ∷ 0 ∷ 0 ∷ one ∷ 0 ∷ []) (0 ∷ four ∷ 0 ∷ 0 ∷ 0 ∷ two ∷ one ∷ 0 ∷ 0 ∷ [])
+  -- a value of zero that is not kept
+  pub drops-zero : seen (cutBond 0 (by nought) (coreWith 1 1 2 (minus-nought ∷ nought ∷ []))) ≡ saw 1 0 (0 ∷ []) (0 ∷ 0 ∷ [])
   -- one row, rank two
   pub above-rows : seen (cutBond 0 (by nought) (coreWith 1 1 2 (least ∷ least ∷ []))) ≡ saw 2 0 (one ∷ one ∷ []) (0x3e40000000000000 ∷ 0 ∷ 0 ∷ 0x3e40000000000000 ∷ [])
   pub one-sweep : seen (cutBond 0 (by nought) two-wide)
@@ -133,11 +161,16 @@ pub record Examples : Type 0 where
 pub examples : Examples
 unfolding add sub mul div neg lt le eq ofBits toBits rootIn wholeRoot rootOfUnits rootOf pick listed flat first count pairs folded along sumOn sumTo
     sumRows allFinite firstNotFinite stored place entry block tangentOf slopeOf cosineOf turnedAt eye turnColumns turnRows cleared turned skipped rotate
-    sweep offSum settled sweepsFrom diagonalized singularOf singulars placeIn indexAt order sorted thresholdOf keptRank gram divided leftFactor carryOf
+    sweep offSum settled sweepsFrom diagonalized singularOf singulars placeIn indexAt order sorted thresholdOf keptRank droppedFrom gram divided leftFactor carryOf
     cutBond absorb walk roundCore rounding
 examples = record {
   above = refl;
   at-threshold = refl;
+  drops-two = refl;
+  drops-at-threshold = refl;
+  drops-one = refl;
+  drops-none = refl;
+  drops-zero = refl;
   above-rows = refl;
   one-sweep = refl;
   three-sweeps = refl;

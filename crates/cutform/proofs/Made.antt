@@ -4,14 +4,15 @@ use Prim.Native.Nat.{ℕ, _*_, _≤_}
 use mathlib.Core.Bool.{true}
 use lib.ListN.{length}
 use Rattle.answers.specs.Outcome.{done}
+use Rattle.numbers.specs.Finite.{finite}
 use Rattle.lists.specs.Floats.{allFinite}
 use Rattle.lists.proofs.Tables.{length-grid}
 use Rattle.lists.proofs.Floats.{stored-is}
 use Rattle.shape.specs.Cores.{Core, coreWith}
 use Rattle.shape.proofs.Places.{block-length}
 use Rattle.cutform.specs.declared.Cutting.{Cutting}
-use Rattle.cutform.specs.Values.{sorted, keptRank}
-use Rattle.cutform.proofs.Ranked.{rank-least, rank-most}
+use Rattle.cutform.specs.Values.{sorted, keptRank, droppedFrom}
+use Rattle.cutform.proofs.Ranked.{rank-least, rank-most, dropped-finite}
 use Rattle.cutform.specs.Bonds.{CutCore, cutBond}
 use Rattle.cutform.specs.Factors.{leftFactor, carryOf}
 use Rattle.cutform.proofs.Stages.{stages}
@@ -27,6 +28,7 @@ pub record CutFrom (c : Core) (b : CutCore) : Type 0 where
   pub fine : allFinite (b .core .entries) ≡ true
   pub carry-long : length (b .carry) ≡ b .bond .rank * c .rr
   pub carry-fine : allFinite (b .carry) ≡ true
+  pub dropped-fine : finite (b .bond .dropped) ≡ true
 
 pub cut-from : (k : ℕ) (cutting : Cutting) (c : Core) (b : CutCore) → cutBond k cutting c ≡ done b → CutFrom c b
 unfolding leftFactor carryOf
@@ -36,7 +38,7 @@ cut-from k cutting c b h =
     let r = keptRank (cutting .eps) (c .rr) ss in
     let U = stored-is _ (S .left) (S .lefts) in
     let Y = stored-is _ (S .carry) (S .carries) in
-    let x : CutCore = record { core = coreWith (c .rl) (c .n) r (S .left); bond = record { rank = r; sweeps = S .swept .count; settled = S .swept .settles }; carry = S .carry } in
+    let x : CutCore = record { core = coreWith (c .rl) (c .n) r (S .left); bond = record { rank = r; sweeps = S .swept .count; settled = S .swept .settles; dropped = droppedFrom r ss }; carry = S .carry } in
     let f : CutFrom c x = record {
       left = refl;
       points = refl;
@@ -47,5 +49,6 @@ cut-from k cutting c b h =
       fine = U .1;
       carry-long = ap length (sym (Y .0)) ∙ length-grid r (c .rr) _;
       carry-fine = Y .1;
+      dropped-fine = dropped-finite (c .rr) (S .values) (S .long) (S .fine) r;
     } in
     subst (CutFrom c) (S .end) f

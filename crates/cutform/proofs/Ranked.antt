@@ -1,26 +1,27 @@
 -- The order of the singular values: each value has a place of its own below n, each place below n has a value, and what is sorted falls. Assumes nothing.
 use mathlib.Core.Path.{_≡_, refl, sym, ap, _∙_}
 use mathlib.Core.Logic.{_⊎_, inl, inr, ⊎-elim}
-use Prim.Native.Nat.{ℕ, _+_, _≤_, _<_, max}
+use Prim.Native.Nat.{ℕ, suc, _+_, _≤_, _<_, max}
 use native.Mathlib.Omega.{arith}
 use native.Mathlib.Nat.{le-of-lt, le-refl}
-use mathlib.Core.Bool.{Bool, true, false, _&&_, _||_}
+use mathlib.Core.Bool.{Bool, true, false, _&&_, _||_, true≢false}
 use mathlib.Core.List.{List}
 use lib.Dec.{ltb}
-use lib.ListN.{length, getD, set}
-use lib.Ieee.{Float, nan, lt, eq}
+use lib.ListN.{length, getD, set, List·getD-eq-default}
+use lib.Ieee.{Float, nan, inf, fin, lt, eq, ofBits}
+use Rattle.numbers.specs.Arithmetic.{zero64}
 use Rattle.numbers.specs.Finite.{finite}
 use Rattle.lists.specs.Lists.{count, iter}
 use Rattle.lists.specs.Floats.{at, allFinite}
 use Rattle.lists.proofs.Altered.{altered, altered-length, altered-at}
-use Rattle.lists.proofs.Counts.{count-either, count-below, count-most}
+use Rattle.lists.proofs.Counts.{count-either, count-below, count-most, count-all, count-within}
 use Rattle.lists.proofs.Floats.{finite-getD}
 use Rattle.lists.proofs.Order.{lt-or-eq, eq-swap, lt-not-eq, lt-not-self, lt-then-lt, lt-then-eq, eq-then-lt, eq-then-eq}
 use Rattle.lists.proofs.Ranks.{Strict, rank, rank-rises, rank-within, rank-apart, place-found, place-is, place-only}
-use Rattle.lists.proofs.Tables.{length-tab, getD-tab, tab-is, listed-same, fill-all}
+use Rattle.lists.proofs.Tables.{length-tab, getD-tab, getD-any, tab-is, listed-same, fill-all}
 use Rattle.lists.proofs.Turns.{iter-done}
 use Rattle.lists.proofs.Tests.{ltb-yes, ltb-is, both, fails, below-or-not}
-use Rattle.cutform.specs.Values.{placeIn, indexAt, order, sorted, thresholdOf, keptRank}
+use Rattle.cutform.specs.Values.{placeIn, indexAt, order, sorted, thresholdOf, keptRank, droppedFrom}
 
 module _ (n : ℕ) (sv : List Float) (long : length sv ≡ n) (fine : allFinite sv ≡ true) where
   -- value k stands before value i
@@ -183,6 +184,38 @@ module _ (n : ℕ) (sv : List Float) (long : length sv ≡ n) (fine : allFinite 
               (λ k. let z = place-rises r s a b (earlier (indexAt n sv s) (indexAt n sv r) (eq-swap (at sv (indexAt n sv r)) (at sv (indexAt n sv s)) (good (indexAt n sv r) (index-lt r a)) (good (indexAt n sv s) (index-lt s b)) h) k) in omega arith)
               (λ k. let e : indexAt n sv r ≡ indexAt n sv s = omega arith in let z = sym (rank-index r a) ∙ ap (placeIn n sv) e ∙ rank-index s b in omega arith)
 
+  -- ---- what is dropped where r of them are kept
+  sorted-long : length (sorted n sv) ≡ n
+  unfolding sorted
+  sorted-long = length-tab n (λ (s : ℕ). at sv (indexAt n sv s))
+
+  dropped-at : (r : ℕ) → r < n → droppedFrom r (sorted n sv) ≡ at (sorted n sv) r
+  unfolding droppedFrom
+  dropped-at r l = let m = sorted-long in getD-any (sorted n sv) r zero64 nan (omega arith)
+
+  dropped-none : (r : ℕ) → n ≤ r → droppedFrom r (sorted n sv) ≡ zero64
+  unfolding droppedFrom
+  dropped-none r l = let m = sorted-long in List·getD-eq-default (sorted n sv) zero64 (omega arith)
+
+  -- for readers: it is one of those that are not kept, none of them is larger, and +0 stands where there are none
+  pub record Dropped (r : ℕ) : Type 0 where
+    pub one : r < n → droppedFrom r (sorted n sv) ≡ at (sorted n sv) r
+    pub largest : (s : ℕ) → r ≤ s → s < n → lt (droppedFrom r (sorted n sv)) (at (sorted n sv) s) ≡ false
+    pub none : n ≤ r → droppedFrom r (sorted n sv) ≡ zero64
+
+  pub dropped : (r : ℕ) → Dropped r
+  dropped r = record { one = dropped-at r; largest = λ s a b. ap (λ (x : Float). lt x (at (sorted n sv) s)) (dropped-at r (omega arith)) ∙ not-above r s a b; none = dropped-none r }
+    where
+      own : (s : ℕ) → s < n → lt (at (sorted n sv) s) (at (sorted n sv) s) ≡ false
+      own s b = fails _ (λ h. let e = sorted-at s b in lt-not-self (at sv (indexAt n sv s)) (good (indexAt n sv s) (index-lt s b)) (rw (← e) h))
+
+      not-above : (r s : ℕ) → r ≤ s → s < n → lt (at (sorted n sv) r) (at (sorted n sv) s) ≡ false
+      not-above r s a b = below-or-not r s (λ l. in-order .falls r s l b) (λ l. let e : r ≡ s = omega arith in ap (λ (x : ℕ). lt (at (sorted n sv) x) (at (sorted n sv) s)) e ∙ own s b)
+
+  pub dropped-finite : (r : ℕ) → finite (droppedFrom r (sorted n sv)) ≡ true
+  unfolding ofBits
+  dropped-finite r = below-or-not r n (λ l. ap finite (dropped-at r l ∙ sorted-at r l) ∙ good (indexAt n sv r) (index-lt r l)) (λ l. ap finite (dropped-none r l))
+
 -- ---- how many are kept
 module _ (eps : Float) (n : ℕ) (ss : List Float) (least : Float) (k : ℕ) (e : least ≡ thresholdOf eps (at ss 0)) (d : k ≡ count (λ (j : ℕ). lt least (at ss j)) n) where
   kept-is : max 1 k ≡ keptRank eps n ss
@@ -202,3 +235,48 @@ rank-least eps n ss = omega arith
 pub rank-most : (eps : Float) (n : ℕ) (ss : List Float) → 1 ≤ n → keptRank eps n ss ≤ n
 unfolding keptRank
 rank-most eps n ss one = let m = count-most (λ (r : ℕ). lt (thresholdOf eps (at ss 0)) (at ss r)) n in omega arith
+
+-- ---- what is dropped was not to be kept: it does not lie above the threshold
+-- what lies above t lies below nothing that doesn't; t may be infinite, or no number
+above-too : (t x y : Float) → finite x ≡ true → finite y ≡ true → lt t x ≡ true → lt y x ≡ false → lt t y ≡ true
+unfolding lt
+above-too nan x y f g h e = absurd (true≢false (sym h))
+above-too (inf false) nan y f g h e = absurd (true≢false (sym f))
+above-too (inf false) (inf s) y f g h e = absurd (true≢false (sym f))
+above-too (inf false) (fin s m p) y f g h e = absurd (true≢false (sym h))
+above-too (inf true) x nan f g h e = absurd (true≢false (sym g))
+above-too (inf true) x (inf s) f g h e = absurd (true≢false (sym g))
+above-too (inf true) x (fin s m p) f g h e = refl
+above-too (fin s m p) x y f g h e =
+    let t = fin s m p in
+    ⊎-elim (λ k. lt-then-lt t x y refl f g h k) (λ k. ⊎-elim (λ q. lt-then-eq t x y refl f g h q) (λ q. absurd (true≢false (sym q ∙ e))) k) (lt-or-eq x y f g)
+
+module _ (n : ℕ) (sv : List Float) (long : length sv ≡ n) (fine : allFinite sv ≡ true) (eps : Float) where
+  abbrev ss : List Float
+  ss = sorted n sv
+
+  abbrev kept : ℕ
+  kept = keptRank eps n (sorted n sv)
+
+  passes : ℕ → Bool
+  passes j = lt (thresholdOf eps (at ss 0)) (at ss j)
+
+  good-at : (j : ℕ) → j < n → finite (at ss j) ≡ true
+  good-at j l = ap finite (sym (dropped n sv long fine j .one l)) ∙ dropped-finite n sv long fine j
+
+  -- if it did, so would all before it, and they would be more than are kept
+  too-many : kept < n → passes kept ≡ true → ⊥
+  unfolding passes keptRank
+  too-many l h =
+      let all : count passes (suc kept) ≡ suc kept = count-all passes (suc kept) (λ j b. before-it j b) in
+      let some : count passes (suc kept) ≤ count passes n = rw (count-below passes (suc kept) n l) (count-within (λ (k : ℕ). passes k && ltb k (suc kept)) passes n (λ i a e. both (passes i) (ltb i (suc kept)) e .0)) in
+      omega arith
+    where
+      before-it : (j : ℕ) → j < suc kept → passes j ≡ true
+      before-it j b = below-or-not j kept
+          (λ a. above-too (thresholdOf eps (at ss 0)) (at ss kept) (at ss j) (good-at kept l) (good-at j (omega arith)) h (in-order n sv long fine .falls j kept a l))
+          (λ a. let e : j ≡ kept = omega arith in ap passes e ∙ h)
+
+  pub not-kept : kept < n → lt (thresholdOf eps (at ss 0)) (droppedFrom kept ss) ≡ false
+  unfolding passes
+  not-kept l = ap (lt (thresholdOf eps (at ss 0))) (dropped n sv long fine kept .one l) ∙ fails (passes kept) (λ h. too-many l h)

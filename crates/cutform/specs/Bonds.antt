@@ -2,8 +2,8 @@
 use Prim.Native.Nat.{ℕ}
 use mathlib.Core.Bool.{false}
 use mathlib.Core.List.{List}
-use lib.Ieee.{Float}
-use Rattle.numbers.specs.Arithmetic.{times}
+use lib.Ieee.{Float, nan}
+use Rattle.numbers.specs.Arithmetic.{times, zero64}
 use Rattle.answers.specs.declared.Part.the-variants.{Spectrum, Factor}
 use Rattle.answers.specs.Outcome.{Answer, done, bind, making}
 use Rattle.lists.specs.Lists.{grid}
@@ -14,15 +14,19 @@ use Rattle.cutform.specs.declared.Cutting.{Cutting}
 use Rattle.cutform.specs.Factors.{leftFactor, carryOf}
 use Rattle.cutform.specs.Sweeps.{eig, diagonalized}
 use Rattle.cutform.specs.Rotation.{eye}
-use Rattle.cutform.specs.Values.{singulars, order, sorted, keptRank}
+use Rattle.cutform.specs.Values.{singulars, order, sorted, keptRank, droppedFrom}
 
 -- entry (i, j) is the sum over the rows (il, im), ascending
 unfoldable pub gram : Core → List Float
 gram c = grid (c .rr) (c .rr) (λ (i j : ℕ). sumRows (c .rl) (c .n) (λ (il im : ℕ). times (entry c il im i) (entry c il im j)))
 
--- what stands where no bond was cut, and what a read past the end gives
+-- what stands where no bond was cut
 abbrev pub noBond : Bond
-noBond = record { rank = 0; sweeps = 0; settled = false }
+noBond = record { rank = 0; sweeps = 0; settled = false; dropped = zero64 }
+
+-- what a read past the end of an array gives
+abbrev pub pastBond : Bond
+pastBond = record { rank = 0; sweeps = 0; settled = false; dropped = nan }
 
 -- what a cut makes of the bond's left core; the bond's rank is the right rank of what is left of it
 pub record CutCore : Type 0 where
@@ -41,7 +45,11 @@ cutBond k cutting c =
     let r = keptRank (cutting .eps) (c .rr) ss in
     bind (making Factor k (stored (leftFactor c r ss js (w .eig .v)))) (λ u.
     bind (making Factor k (stored (carryOf (c .rr) r ss js (w .eig .v)))) (λ b.
-    done (record { core = coreWith (c .rl) (c .n) r u; bond = record { rank = r; sweeps = w .count; settled = w .settles }; carry = b }))))))
+    done (record {
+      core = coreWith (c .rl) (c .n) r u;
+      bond = record { rank = r; sweeps = w .count; settled = w .settles; dropped = droppedFrom r ss };
+      carry = b;
+    }))))))
 
 -- a carry of r rows taken into the core c from the left, sums ascending
 unfoldable pub absorb : ℕ → List Float → Core → List Float

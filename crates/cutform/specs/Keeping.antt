@@ -15,7 +15,7 @@ use Rattle.shape.specs.Shapes.{leftOf, rightOf, atBond, coreSize}
 use Rattle.shape.specs.Cores.{standing, reshaped}
 use Rattle.cutform.specs.declared.Bond.{Bond}
 use Rattle.cutform.specs.declared.Cutting.{Cutting}
-use Rattle.cutform.specs.Bonds.{noBond}
+use Rattle.cutform.specs.Bonds.{noBond, pastBond}
 use Rattle.cutform.specs.Rounding.{Carry, none, some, Cut, roundCore, coresIn, numbersIn}
 
 -- ---- the slots: how many places zone k has. A bond has one place in the array; its carry has r_right*r_right
@@ -30,10 +30,17 @@ pub record Stepped : Type 0 where
   pub chain : List Float
   pub carries : List Float
 
--- the kept rank of bond k: among these bonds, and of what is held
-abbrev pub rankAmong : List Bond → ℕ → ℕ
-rankAmong bonds k = getD bonds k noBond .rank
+-- what these bonds say of bond k; its kept rank, and the largest value that was not kept
+abbrev pub bondAmong : List Bond → ℕ → Bond
+bondAmong bonds k = getD bonds k pastBond
 
+abbrev pub rankAmong : List Bond → ℕ → ℕ
+rankAmong bonds k = bondAmong bonds k .rank
+
+abbrev pub droppedAmong : List Bond → ℕ → Float
+droppedAmong bonds k = bondAmong bonds k .dropped
+
+-- the kept rank of what is held
 abbrev pub rankAt : Stepped → ℕ → ℕ
 rankAt t k = rankAmong (t .bonds) k
 

@@ -9,11 +9,13 @@ use Rattle.answers.specs.declared.Part.the-variants.{Factor}
 use Rattle.answers.specs.Outcome.{Answer, done, bind, making}
 use Rattle.lists.specs.Walks.{walk}
 use Rattle.lists.specs.Lists.{flat}
+use Rattle.lists.specs.Slots.{fit}
 use Rattle.lists.specs.Floats.{stored}
+use Rattle.shape.specs.Limits.{mostAxes}
 use Rattle.shape.specs.Cores.{Core, coreWith}
 use Rattle.cutform.specs.declared.Bond.{Bond}
 use Rattle.cutform.specs.declared.Cutting.{Cutting}
-use Rattle.cutform.specs.Bonds.{cutBond, absorb}
+use Rattle.cutform.specs.Bonds.{noBond, cutBond, absorb}
 
 -- what a bond hands on: nothing left of core 0, else so many rows of numbers
 pub data Carry : Type 0 where
@@ -52,3 +54,11 @@ bondsIn tr = flat (map (λ (r : Carry × Cut). r .1 .bonds) tr)
 abbrev pub numbersIn : Carry → List Float
 numbersIn none = []
 numbersIn (some r b) = b
+
+-- ---- what is left of a chain: its cores, and what is said of its bonds, in an array with bond k's at k
+pub record After : Type 0 where
+  pub cores : List Core
+  pub bonds : List Bond
+
+abbrev pub afterCuts : List (Carry × Cut) → After
+afterCuts tr = record { cores = coresIn tr; bonds = fit noBond mostAxes (bondsIn tr) }

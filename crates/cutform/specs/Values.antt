@@ -2,6 +2,7 @@
 use Prim.Native.Nat.{ℕ, _+_, max}
 use mathlib.Core.List.{List}
 use lib.Dec.{eqb}
+use lib.ListN.{getD}
 use lib.Ieee.{Float, lt, eq}
 use Rattle.numbers.specs.Arithmetic.{times, zero64}
 use Rattle.numbers.specs.Root.{rootOf}
@@ -36,3 +37,7 @@ thresholdOf eps largest = pick (lt zero64 largest) (times eps largest) zero64
 -- how many of the n sorted values are strictly above the threshold, at least 1
 unfoldable pub keptRank : Float → ℕ → List Float → ℕ
 keptRank eps n ss = max 1 (count (λ (r : ℕ). lt (thresholdOf eps (at ss 0)) (at ss r)) n)
+
+-- the largest of the sorted values that is not kept where r of them are: that at place r, +0 if there is none
+unfoldable pub droppedFrom : ℕ → List Float → Float
+droppedFrom r ss = getD ss r zero64

@@ -1,10 +1,12 @@
 // What the cut of a bond is, and what a rounding is: definitions and examples worked out; the code is in `bond`, `cuts` and `rounding`.
 
-// What is said of a bond once it is cut: the rank kept, the sweeps made, and whether the sum is below 1e-30 at their end.
+// What is said of a bond once it is cut: the rank kept, the sweeps made, whether the sum is below 1e-30 at their end, and the
+// largest singular value that was not kept, +0 if all were.
 pub struct Bond {
     pub rank: usize,
     pub sweeps: usize,
     pub settled: bool,
+    pub dropped: f64,
 }
 
 // How a cut is made: kept is what lies above eps times the largest value.
