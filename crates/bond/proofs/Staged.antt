@@ -20,7 +20,7 @@ use Rattle.shape.specs.Cores.{Core, coreWith}
 use Rattle.cutform.specs.declared.Cutting.{Cutting}
 use Rattle.cutform.specs.Sweeps.{eig, Swept, swept, diagonalized}
 use Rattle.cutform.specs.Rotation.{eye}
-use Rattle.cutform.specs.Values.{singulars, order, sorted, keptRank}
+use Rattle.cutform.specs.Values.{singulars, order, sorted, keptRank, droppedFrom}
 use Rattle.cutform.specs.Bonds.{gram, CutCore, cutBond}
 use Rattle.cutform.specs.Factors.{leftFactor, carryOf}
 use Rattle.bond.specs.Stages.{sweptOf, restOf}
@@ -57,12 +57,12 @@ module _ (k : ℕ) (cutting : Cutting) (c : Core) where
   pair u x = record { left = u; carry = x }
 
   abbrev chosen : List Float → Chosen
-  chosen sv = let ss = sorted (c .rr) sv in record { rank = keptRank (cutting .eps) (c .rr) ss; order = order (c .rr) sv; values = ss }
+  chosen sv = let ss = sorted (c .rr) sv in let r = keptRank (cutting .eps) (c .rr) ss in record { rank = r; dropped = droppedFrom r ss; order = order (c .rr) sv; values = ss }
 
   abbrev whole : Swept → Chosen → Factors → CutCore
   whole w q f = record {
     core = coreWith (c .rl) (c .n) (q .rank) (f .left);
-    bond = record { rank = q .rank; sweeps = w .count; settled = w .settles };
+    bond = record { rank = q .rank; sweeps = w .count; settled = w .settles; dropped = q .dropped };
     carry = f .carry;
   }
 

@@ -26,7 +26,7 @@ restOf k cutting c w =
     bind (making Factor k (factorsOf c (q .rank) (q .values) (q .order) (w .eig .v))) (λ f.
     done (record {
       core = coreWith (c .rl) (c .n) (q .rank) (f .left);
-      bond = record { rank = q .rank; sweeps = w .count; settled = w .settles };
+      bond = record { rank = q .rank; sweeps = w .count; settled = w .settles; dropped = q .dropped };
       carry = f .carry;
     })))
 

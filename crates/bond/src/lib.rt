@@ -78,6 +78,7 @@ pub fn no_bond() -> cutform::Bond
         rank: 0,
         sweeps: 0,
         settled: false,
+        dropped: 0.0,
     }
 }
 
@@ -90,8 +91,8 @@ fn cut_refused(part: answers::Part, k: usize, i: usize) -> BondCut
     }
 }
 
-fn cut_made(rank: usize, sweeps: usize, settled: bool) -> BondCut
-    ensures { λ r. ⌜ r ≡ record { verdict = Fits; bond = record { rank = rank; sweeps = sweeps; settled = settled } } ⌝ }
+fn cut_made(rank: usize, sweeps: usize, settled: bool, dropped: f64) -> BondCut
+    ensures { λ r. ⌜ r ≡ record { verdict = Fits; bond = record { rank = rank; sweeps = sweeps; settled = settled; dropped = dropped } } ⌝ }
 {
     BondCut {
         verdict: answers::Verdict::Fits,
@@ -99,6 +100,7 @@ fn cut_made(rank: usize, sweeps: usize, settled: bool) -> BondCut
             rank,
             sweeps,
             settled,
+            dropped,
         },
     }
 }
@@ -136,7 +138,7 @@ fn finish(
     if let answers::Stage::Spilt(i) = made {
         return cut_refused(answers::Part::Factor, k, i);
     }
-    cut_made(r, count, settles)
+    cut_made(r, count, settles, kept.dropped)
 }
 
 // The cut, with room for two matrices.

@@ -1,4 +1,4 @@
-// Singular values, their order, and how many are kept.
+// Singular values, their order, how many are kept, and the largest that is not.
 ghost use mathlib.Core.Path.{_≡_};
 ghost use mathlib.Core.Bool.{true, cond};
 ghost use Prim.Native.Nat.{ℕ, _*_, _<_, _≤_};
@@ -9,7 +9,7 @@ ghost use Rattle.lists.specs.Lists.{count};
 ghost use Rattle.lists.specs.Floats.{at, allFinite};
 ghost use Rattle.shape.specs.Limits.{mostRank};
 ghost use Rattle.bond.specs.Chosen.{chosenOf};
-ghost use Rattle.cutform.specs.Values.{singularOf, singulars, placeIn, order, sorted, thresholdOf, keptRank};
+ghost use Rattle.cutform.specs.Values.{singularOf, singulars, placeIn, order, sorted, thresholdOf, keptRank, droppedFrom};
 
 // The root of a diagonal entry, +0 where it isn't above zero.
 fn singular(x: f64) -> f64
@@ -116,31 +116,47 @@ pub fn kept_rank(eps: f64, n: usize, ss: &[f64]) -> usize
     k
 }
 
-// Whether all values are finite, and how many are kept.
+// The largest of the sorted values that is not kept where r of them are, +0 if all are.
+fn dropped(ss: &[f64], r: usize) -> f64
+    ensures { λ x. ⌜ x ≡ droppedFrom r (now (ss .entry)) ⌝ }
+{
+    if r < ss.len() {
+        return ss[r];
+    }
+    0.0
+}
+
+// Whether all values are finite, how many are kept, and the largest that is not.
 pub struct Kept {
     pub stage: answers::Stage,
     pub rank: usize,
+    pub dropped: f64,
 }
 
-fn kept_are(stage: answers::Stage, rank: usize) -> Kept
-    ensures { λ r. ⌜ r ≡ record { stage = stage; rank = rank } ⌝ }
+fn kept_are(stage: answers::Stage, rank: usize, dropped: f64) -> Kept
+    ensures { λ r. ⌜ r ≡ record { stage = stage; rank = rank; dropped = dropped } ⌝ }
 {
-    Kept { stage, rank }
+    Kept {
+        stage,
+        rank,
+        dropped,
+    }
 }
 
 // The values, then their order, then the values in it.
 fn keep_all(g: &[f64], n: usize, eps: f64, sv: &mut [f64], ss: &mut [f64], js: &mut [usize]) -> Kept
     requires { ⌜ (length (now g) ≡ n * n) × (1 ≤ n) × (length (now sv) ≡ n) × (length (now ss) ≡ n) × (length (now js) ≡ n) ⌝ }
-    ensures { λ r. ⌜ chosenOf eps n (now (g .entry)) ≡ staged (r .stage) (record { rank = r .rank; order = now (js .exit); values = now (ss .exit) }) ⌝ }
+    ensures { λ r. ⌜ chosenOf eps n (now (g .entry)) ≡ staged (r .stage) (record { rank = r .rank; dropped = r .dropped; order = now (js .exit); values = now (ss .exit) }) ⌝ }
 {
     singular_values(g, n, sv);
     let made = lists::stored(sv);
     if let answers::Stage::Spilt(i) = made {
-        return kept_are(answers::Stage::Spilt(i), 0);
+        return kept_are(answers::Stage::Spilt(i), 0, 0.0);
     }
     order(sv, n, js);
     sorted(sv, n, js, ss);
-    kept_are(answers::Stage::Whole, kept_rank(eps, n, ss))
+    let rank = kept_rank(eps, n, ss);
+    kept_are(answers::Stage::Whole, rank, dropped(ss, rank))
 }
 
 // The room in parts of just the size.
@@ -154,7 +170,7 @@ fn keep_within(
 ) -> Kept
     requires { ⌜ (n * n ≤ length (now g)) × (1 ≤ n) × (n ≤ length (now sv)) × (n ≤ length (now ss)) × (n ≤ length (now js)) ⌝ }
     ensures { λ r. ⌜ chosenOf eps n (take (n * n) (now (g .entry)))
-        ≡ staged (r .stage) (record { rank = r .rank; order = take n (now (js .exit)); values = take n (now (ss .exit)) }) ⌝ }
+        ≡ staged (r .stage) (record { rank = r .rank; dropped = r .dropped; order = take n (now (js .exit)); values = take n (now (ss .exit)) }) ⌝ }
 {
     let e = n * n;
     keep_all(
@@ -171,7 +187,7 @@ fn keep_within(
 pub fn keep(g: &[f64], n: usize, eps: f64, ss: &mut [f64], js: &mut [usize]) -> Kept
     requires { ⌜ (n * n ≤ length (now g)) × (1 ≤ n) × (n ≤ mostRank) × (n ≤ length (now ss)) × (n ≤ length (now js)) ⌝ }
     ensures { λ r. ⌜ chosenOf eps n (take (n * n) (now (g .entry)))
-        ≡ staged (r .stage) (record { rank = r .rank; order = take n (now (js .exit)); values = take n (now (ss .exit)) }) ⌝ }
+        ≡ staged (r .stage) (record { rank = r .rank; dropped = r .dropped; order = take n (now (js .exit)); values = take n (now (ss .exit)) }) ⌝ }
 {
     let mut sv = [0.0; shape::MOST_RANK];
     keep_within(g, n, eps, &mut sv, ss, js)

@@ -32,7 +32,7 @@ use Rattle.shape.specs.Cores.{Core, standing, withCore, reshaped}
 use Rattle.shape.proofs.Ranks.{left-other, right-other, size-other, left-here, right-here, still-within}
 use Rattle.cutform.specs.declared.Bond.{Bond}
 use Rattle.cutform.specs.declared.Cutting.{Cutting}
-use Rattle.cutform.specs.Bonds.{noBond}
+use Rattle.cutform.specs.Bonds.{noBond, pastBond}
 use Rattle.cutform.specs.Rounding.{Carry, some, Cut, roundCore, coresIn, numbersIn}
 use Rattle.cutform.specs.Keeping.{bondSize, carrySize, Stepped, rankAt, keepStep, carryLeft, roundFrom}
 use Rattle.cuts.specs.Slots.{zoneTurned, zoneTurn, rankLeft, AtZone}
@@ -118,9 +118,9 @@ module _ (cutting : Cutting) (s : Shape) where
         rank-kept =
             let room : k < length (h .bonds) = omega (arith, A .bonds, A .sizes .axes .most, A .axes) in
             ap (λ (b : Bond). b .rank)
-            (ap (λ (l : List Bond). getD (put (bondSize s) k (fit noBond (bondSize s k) l) (h .bonds)) k noBond) (carried .bonds)
-            ∙ ap (λ (l : List Bond). getD l k noBond) (bond-put s k (h .bonds) b noBond (carried .bond) room)
-            ∙ getD-set-same (h .bonds) k (carried .bond) noBond room)
+            (ap (λ (l : List Bond). getD (put (bondSize s) k (fit noBond (bondSize s k) l) (h .bonds)) k pastBond) (carried .bonds)
+            ∙ ap (λ (l : List Bond). getD l k pastBond) (bond-put s k (h .bonds) b noBond (carried .bond) room)
+            ∙ getD-set-same (h .bonds) k (carried .bond) pastBond room)
 
         -- the carry that is handed on is the carry held
         carry-next : carryLeft s (withCore t k new) (zoneTurned s k r h) (suc k) ≡ r .0

@@ -27,7 +27,7 @@ use Rattle.shape.proofs.Offsets.{core-most}
 use Rattle.cuts.specs.declared.Places.{Places}
 use Rattle.cutform.specs.declared.Bond.{Bond}
 use Rattle.cutform.specs.declared.Cutting.{Cutting}
-use Rattle.cutform.specs.Bonds.{noBond}
+use Rattle.cutform.specs.Bonds.{noBond, pastBond}
 use Rattle.cutform.specs.Rounding.{Carry, some, Cut, roundCore, numbersIn}
 use Rattle.cutform.specs.Keeping.{bondSize, carrySize, Stepped, rankAt, carryLeft}
 use Rattle.cuts.specs.ZoneSlots.{carryFrom, Laid, laidCut, laidAs, ZoneFits}
@@ -46,10 +46,10 @@ unfolding rankLeft
 rank-first zero t l lt = refl
 rank-first (suc k) t l lt = let z : ⊥ = omega arith in absurd z
 
-pub rank-next : (k : ℕ) (t : Shape) (l : List Bond) → 1 ≤ k → getD l (k - 1) noBond .rank ≡ rankLeft k t l
+pub rank-next : (k : ℕ) (t : Shape) (l : List Bond) → 1 ≤ k → getD l (k - 1) pastBond .rank ≡ rankLeft k t l
 unfolding rankLeft
 rank-next zero t l lt = let z : ⊥ = omega arith in absurd z
-rank-next (suc k) t l lt = let e : suc k - 1 ≡ k = omega arith in ap (λ (j : ℕ). getD l j noBond .rank) e
+rank-next (suc k) t l lt = let e : suc k - 1 ≡ k = omega arith in ap (λ (j : ℕ). getD l j pastBond .rank) e
 
 -- ---- one zone
 module _ (s : Shape) (z k : ℕ) (t : Shape) (h : Stepped) (w : SizesWithin s) (A : AtZone s z k t h) (lt : k < s .d) where
@@ -216,9 +216,9 @@ module _ (cutting : Cutting) (s : Shape) (k : ℕ) (t : Shape) (h : Stepped) (v 
   answer more = laidAs more (rankLeft k t (h .bonds)) b (slot (coreSize s) k work) (slot (carrySize s) k carries)
 
   -- a bond's place, and right of the last core none
-  bond-placed : (more : Bool) → ltb (suc k) (s .d) ≡ more → put (bondSize s) k (fit noBond (bondSize s k) (answer more .bonds)) (h .bonds) ≡ set (h .bonds) k (cond more b (getD (h .bonds) k noBond))
+  bond-placed : (more : Bool) → ltb (suc k) (s .d) ≡ more → put (bondSize s) k (fit noBond (bondSize s k) (answer more .bonds)) (h .bonds) ≡ set (h .bonds) k (cond more b (getD (h .bonds) k pastBond))
   bond-placed true m = bond-put s k (h .bonds) (ltb-is (suc k) (s .d) m) noBond b room
-  bond-placed false m = end-put s k (h .bonds) (omega (arith, ltb-not (suc k) (s .d) m)) noBond ∙ sym (set-getD (h .bonds) k noBond)
+  bond-placed false m = end-put s k (h .bonds) (omega (arith, ltb-not (suc k) (s .d) m)) noBond ∙ sym (set-getD (h .bonds) k pastBond)
 
   left-of : (more : Bool) → answer more .left ≡ rankLeft k t (h .bonds)
   left-of true = refl
@@ -238,7 +238,7 @@ module _ (cutting : Cutting) (s : Shape) (k : ℕ) (t : Shape) (h : Stepped) (v 
 
   -- THE TURN: the core's ranks in the shape, the bond in its place
   pub zone-turned : (r : ℕ) → r ≡ rankLeft k t (h .bonds) → (t' : Shape) → t' ≡ withCore t k (coreWith r (pointsOf t k) (b .rank) [])
-      → (p : Bond) → p ≡ cond (ltb (k + 1) (s .d)) b (getD (h .bonds) k noBond)
+      → (p : Bond) → p ≡ cond (ltb (k + 1) (s .d)) b (getD (h .bonds) k pastBond)
       → zoneTurn cutting s k (t, h) ≡ answered v (t', held (set (h .bonds) k p) work carries)
   unfolding zoneTurn
   zone-turned r q t' et p ep =
@@ -248,7 +248,7 @@ module _ (cutting : Cutting) (s : Shape) (k : ℕ) (t : Shape) (h : Stepped) (v 
       (λ x e.
       let L : x .1 .core .rl ≡ r = ap (λ (l : Laid). l .left) e ∙ left-of more ∙ sym q in
       let R : x .1 .core .rr ≡ b .rank = ap (λ (l : Laid). l .right) e ∙ right-of more in
-      let P : p ≡ cond more b (getD (h .bonds) k noBond) = ep ∙ ap (λ (n : ℕ). cond (ltb n (s .d)) b (getD (h .bonds) k noBond)) (add-one k) in
+      let P : p ≡ cond more b (getD (h .bonds) k pastBond) = ep ∙ ap (λ (n : ℕ). cond (ltb n (s .d)) b (getD (h .bonds) k pastBond)) (add-one k) in
       let A = ap (λ (l : Laid). put (bondSize s) k (fit noBond (bondSize s k) (l .bonds)) (h .bonds)) e ∙ bond-placed more refl ∙ ap (set (h .bonds) k) (sym P) in
       let D = ap (λ (u : List Float). put (coreSize s) k u (h .chain)) (ap (λ (l : Laid). l .core) e ∙ core-of more) ∙ sym (Z .chain) in
       let E = ap (λ (u : List Float). put (carrySize s) k u (h .carries)) (ap (λ (l : Laid). l .carry) e ∙ carry-of more) ∙ sym (Z .carried) in
@@ -256,8 +256,8 @@ module _ (cutting : Cutting) (s : Shape) (k : ℕ) (t : Shape) (h : Stepped) (v 
       cc (L, R, F, et))
 
   -- so the rank on the left of the next zone is the bond's
-  pub rank-carried : (p : Bond) → p ≡ cond (ltb (k + 1) (s .d)) b (getD (h .bonds) k noBond) → (t' : Shape) → k + 1 < s .d → b .rank ≡ rankLeft (k + 1) t' (set (h .bonds) k p)
+  pub rank-carried : (p : Bond) → p ≡ cond (ltb (k + 1) (s .d)) b (getD (h .bonds) k pastBond) → (t' : Shape) → k + 1 < s .d → b .rank ≡ rankLeft (k + 1) t' (set (h .bonds) k p)
   unfolding rankLeft
   rank-carried p ep t' l =
-      let P : p ≡ b = ep ∙ ap (λ (m : Bool). cond m b (getD (h .bonds) k noBond)) (ltb-yes (k + 1) (s .d) l) in
-      rw add-one (sym (ap (λ (x : Bond). x .rank) (getD-set-same (h .bonds) k p noBond room ∙ P)))
+      let P : p ≡ b = ep ∙ ap (λ (m : Bool). cond m b (getD (h .bonds) k pastBond)) (ltb-yes (k + 1) (s .d) l) in
+      rw add-one (sym (ap (λ (x : Bond). x .rank) (getD-set-same (h .bonds) k p pastBond room ∙ P)))

@@ -20,7 +20,7 @@ use Rattle.cuts.specs.declared.Places.{Places}
 use Rattle.cuts.specs.ZoneSlots.{laidCut, laidAs}
 use Rattle.cutform.specs.declared.Bond.{Bond}
 use Rattle.cutform.specs.declared.Cutting.{Cutting}
-use Rattle.cutform.specs.Bonds.{noBond}
+use Rattle.cutform.specs.Bonds.{noBond, pastBond}
 use Rattle.cutform.specs.Rounding.{Carry, Cut, roundCore, numbersIn}
 use Rattle.cutform.specs.Keeping.{bondSize, carrySize, Stepped, rankAt, carryLeft}
 
@@ -45,7 +45,7 @@ zoneTurn cutting s k x =
 -- the rank on the left of zone k
 unfoldable pub rankLeft : ℕ → Shape → List Bond → ℕ
 rankLeft zero t bonds = leftOf t 0
-rankLeft (suc k) t bonds = getD bonds k noBond .rank
+rankLeft (suc k) t bonds = getD bonds k pastBond .rank
 
 -- a rounding that began at zone z stands at zone k: t is the chain's shape by now, h what is held
 pub record AtZone (s : Shape) (z k : ℕ) (t : Shape) (h : Stepped) : Type 0 where

@@ -134,10 +134,10 @@ fn cut_in(
     cut
 }
 
-// The last core is not cut: it keeps its right rank, and makes no sweeps.
+// The last core is not cut: it keeps its right rank, makes no sweeps and drops nothing.
 fn last_in(slot: &mut [f64], rl: usize, n: usize, rr: usize) -> bond::BondCut
     requires { ⌜ (rl * n * rr ≤ length (now slot)) × (1 ≤ rr) ⌝ }
-    ensures { λ r. ⌜ (r ≡ record { verdict = Fits; bond = record { rank = rr; sweeps = 0; settled = false } })
+    ensures { λ r. ⌜ (r ≡ record { verdict = Fits; bond = record { rank = rr; sweeps = 0; settled = false; dropped = zero64 } })
         × (now (slot .exit) ≡ fit zero64 (length (now (slot .entry))) (take (rl * n * rr) (now (slot .entry)))) ⌝ }
 {
     clear_behind(slot, rl * n * rr);
@@ -147,6 +147,7 @@ fn last_in(slot: &mut [f64], rl: usize, n: usize, rr: usize) -> bond::BondCut
             rank: rr,
             sweeps: 0,
             settled: false,
+            dropped: 0.0,
         },
     }
 }

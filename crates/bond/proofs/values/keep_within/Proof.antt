@@ -11,7 +11,7 @@ returns : tie.Need-returns
 returns c =
     let at-15 = c .before .before .before .before .before .before .before .before .before .before .before .before .before .before .before in
     let start = c .before .before .before .before .before .before .before .before .before .before .before .before .before .before .before .args in
-    chosen-front _ _ (start .n * start .n) (start .g .now) _ _ _ _ _ _ (c .before .before .before .before .before .before .keep-all .ensures)
+    chosen-front _ _ (start .n * start .n) (start .g .now) _ _ _ _ _ _ _ (c .before .before .before .before .before .before .keep-all .ensures)
     (c .before .js .given .0 ∙ span-length _ _ (at-15 .pre .4)) (c .before .before .before .ss .given .0 ∙ span-length _ _ (at-15 .pre .3))
 
 pub keep-within-spec : {M : Type 1} → statement M
