@@ -31,8 +31,8 @@ use Rattle.cutform.specs.declared.Rounded.{Rounded}
 use Rattle.cuts.specs.declared.Walked.{Walked}
 use Rattle.cutform.specs.declared.Bond.{Bond}
 use Rattle.cutform.specs.Bonds.{noBond}
-use Rattle.cutform.specs.Rounding.{Carry, Cut, coresIn}
-use Rattle.cutform.specs.Call.{lengthsOk, scratchAfter, endedBy}
+use Rattle.cutform.specs.Rounding.{After}
+use Rattle.cutform.specs.Call.{lengthsOk, scratchAfter, endedAs}
 use Rattle.shape.proofs.Early.{early-shape}
 use Rattle.rounding.proofs.Ends.{early-lengths}
 use Rattle.stepform.specs.declared.Settings.{Settings}
@@ -46,15 +46,15 @@ module _ (s : Shape) (w : Walked) (l u x : List Float) (r : Rounded) (l' v' : Li
   cleared : v' ≡ zeros (length x)
   cleared = F .cleared ∙ ap zeros n
 
-  pub finished-is : (T : Answer (List (Carry × Cut))) → Late T → Came T s s (w .verdict) (w .shape) (w .bonds) u → Answers (endedBy s l x T) r l' v'
-  unfolding endedBy scratchAfter standing
-  finished-is (done tr) L C =
-      let E = C .ends tr refl in
+  pub finished-is : (T : Answer After) → Late T → Came T s s (w .verdict) (w .shape) (w .bonds) u → Answers (endedAs s l x T) r l' v'
+  unfolding endedAs scratchAfter standing
+  finished-is (done a) L C =
+      let E = C .ends a refl in
       let M = F .made (C .verdict) in
       record {
         result = M .0
             ∙ ap (λ (y : Shape). record { verdict = Fits; shape = y; bonds = w .bonds }) (E .shape)
-            ∙ ap (λ (y : List Bond). record { verdict = Fits; shape = reshaped 0 s (coresIn tr); bonds = y }) (E .cut);
+            ∙ ap (λ (y : List Bond). record { verdict = Fits; shape = reshaped 0 s (a .cores); bonds = y }) (E .said);
         chain = M .1
             ∙ ap (λ (y : List (List Float)). fit zero64 (length l) (flat y))
             (sym (ap (map (λ (c : Core). c .entries)) (E .cores) ∙ tab-map (λ (c : Core). c .entries) (s .d) (standing s (w .shape) u)));
@@ -84,17 +84,17 @@ module _ (lone mild : Bool) (t : Settings) (s : Shape) (count : ℕ) (xs : List 
       (early-then (demandEach Setting _ (s .d) 0) _ (early-each Setting _ (s .d) 0 (λ j. refl)) (early-each Reach _ (s .d) 0 (λ j. refl))))))))
 
   -- v is the verdict on the checks
-  module _ (v : Verdict) (e : v ≡ verdictOf ok) (T : Answer (List (Carry × Cut))) (x : List Float) where
-    pub over-stops : (q : Refusal) → v ≡ Refused q → (r : Rounded) → r ≡ record { verdict = Refused q; shape = s; bonds = replicate mostAxes noBond } → Answers (endedBy s l x (ok then T)) r l x
-    unfolding endedBy scratchAfter
+  module _ (v : Verdict) (e : v ≡ verdictOf ok) (T : Answer After) (x : List Float) where
+    pub over-stops : (q : Refusal) → v ≡ Refused q → (r : Rounded) → r ≡ record { verdict = Refused q; shape = s; bonds = replicate mostAxes noBond } → Answers (endedAs s l x (ok then T)) r l x
+    unfolding endedAs scratchAfter
     over-stops q h r f =
         let c = verdict-refused ok v q e h in
         let g : ok then T ≡ refused q = ap (λ (y : Check). y then T) c in
-        subst (λ (y : Answer (List (Carry × Cut))). Answers (endedBy s l x y) r l x) (sym g)
+        subst (λ (y : Answer After). Answers (endedAs s l x y) r l x) (sym g)
         (record { result = f; chain = refl; scratch = pick-true x (zeros (length x)) x (beforeWork q) (early-over .first q c) refl })
 
-    pub over-goes : v ≡ Fits → (r : Rounded) (l' v' : List Float) → Answers (endedBy s l x T) r l' v' → Answers (endedBy s l x (ok then T)) r l' v'
-    over-goes h r l' v' A = subst (λ (c : Check). Answers (endedBy s l x (c then T)) r l' v') (sym (verdict-passed ok v e h)) A
+    pub over-goes : v ≡ Fits → (r : Rounded) (l' v' : List Float) → Answers (endedAs s l x T) r l' v' → Answers (endedAs s l x (ok then T)) r l' v'
+    over-goes h r l' v' A = subst (λ (c : Check). Answers (endedAs s l x (c then T)) r l' v') (sym (verdict-passed ok v e h)) A
 
   -- what passed checks let the work ask
   pub record Passed : Type 0 where

@@ -1,13 +1,13 @@
 // The calls `step` and `evolve`. Work is done in scratch, and the chain is written once, at the very end.
 ghost use mathlib.Core.Path.{_≡_};
 ghost use mathlib.Core.Bool.{true};
-ghost use Prim.Native.Nat.{ℕ, _-_, _≤_, _<_};
+ghost use Prim.Native.Nat.{ℕ, _≤_, _<_};
 ghost use lib.ListN.{length};
 ghost use Rattle.answers.specs.Outcome.{done};
 ghost use Rattle.shape.specs.Shapes.{chainOk, entriesOf};
 ghost use Rattle.shape.specs.Cores.{coresOf};
-ghost use Rattle.cutform.specs.Call.{endedBy};
-ghost use Rattle.stepform.specs.Steps.{step, stepsAndOne};
+ghost use Rattle.cutform.specs.Call.{endedAs, endedBy};
+ghost use Rattle.stepform.specs.Steps.{step, stepsOf};
 ghost use Rattle.stepform.specs.Lone.{mostSteps, courseFinite, courseOk};
 ghost use Rattle.stepform.specs.Call.{axisReaches, stepOver, stepCall, settingsFor, evolveOver, evolveCall};
 ghost use Rattle.evolution.specs.Held.{Answers};
@@ -15,7 +15,24 @@ use stepform::Course;
 
 const MOST_STEPS: usize = 10000;
 
-// A step and m more, once the checks have passed.
+// One step, once the checks have passed.
+fn work_once(
+    s: shape::Shape,
+    set: stepform::Settings,
+    xs: [stepform::Axis; shape::MOST_AXES],
+    chain: &mut [f64],
+    scratch: &mut [f64],
+) -> cutform::Rounded
+    requires { ⌜ (chainOk s ≡ done tt) × ((k : ℕ) → k < s .d → axisReaches set s xs k ≡ true) ⌝ }
+    requires { ⌜ (length (now chain) ≡ entriesOf s) × (entriesOf s ≤ length (now scratch)) ⌝ }
+    ensures { λ r. ⌜ Answers (endedBy s (now (chain .entry)) (now (scratch .entry)) (step set xs (coresOf s (now (chain .entry)))))
+        r (now (chain .exit)) (now (scratch .exit)) ⌝ }
+{
+    let w = steps::stepped_once(s, set, xs, chain, scratch);
+    rounding::finish(s, w, chain, scratch)
+}
+
+// m steps, once the checks have passed.
 fn work(
     m: usize,
     s: shape::Shape,
@@ -26,7 +43,7 @@ fn work(
 ) -> cutform::Rounded
     requires { ⌜ (chainOk s ≡ done tt) × ((k : ℕ) → k < s .d → axisReaches set s xs k ≡ true) ⌝ }
     requires { ⌜ (length (now chain) ≡ entriesOf s) × (entriesOf s ≤ length (now scratch)) ⌝ }
-    ensures { λ r. ⌜ Answers (endedBy s (now (chain .entry)) (now (scratch .entry)) (stepsAndOne m set xs (coresOf s (now (chain .entry)))))
+    ensures { λ r. ⌜ Answers (endedAs s (now (chain .entry)) (now (scratch .entry)) (stepsOf m set xs (coresOf s (now (chain .entry)))))
         r (now (chain .exit)) (now (scratch .exit)) ⌝ }
 {
     let w = steps::stepped(m, s, set, xs, chain, scratch);
@@ -50,7 +67,7 @@ pub fn step_over(
     if let answers::Verdict::Refused(q) = ok {
         return rounding::refused_rounding(q, s);
     }
-    work(0, s, set, xs, chain, scratch)
+    work_once(s, set, xs, chain, scratch)
 }
 
 // What 6 and 7 ask of the lone settings and the number of steps of a course.
@@ -110,7 +127,7 @@ pub fn evolve_over(
     if let answers::Verdict::Refused(q) = ok {
         return rounding::refused_rounding(q, s);
     }
-    work(p.steps - 1, s, set, xs, chain, scratch)
+    work(p.steps, s, set, xs, chain, scratch)
 }
 
 // One step of a chain, with one record per axis.

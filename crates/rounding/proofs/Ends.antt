@@ -43,7 +43,7 @@ use Rattle.cutform.specs.declared.Rounded.{Rounded}
 use Rattle.cuts.specs.declared.Walked.{Walked}
 use Rattle.cutform.specs.Rounding.{Carry, none, some, Cut, takenIn, cutIf, roundCore, rounding, coresIn, bondsIn}
 use Rattle.cutform.specs.Keeping.{bondSize, Stepped, keepStep, carryLeft, roundFrom}
-use Rattle.cutform.specs.Call.{Ended, scratchAfter, endedBy, lengthsOk, roundFinite, roundOk, roundCall}
+use Rattle.cutform.specs.Call.{Ended, scratchAfter, endedAs, endedBy, lengthsOk, roundFinite, roundOk, roundCall}
 use Rattle.cuts.specs.Slots.{unrounded, AtZone, heldBy}
 use Rattle.rounding.specs.Slots.{finished}
 use Rattle.rounding.specs.Left.{leftBy}
@@ -176,7 +176,7 @@ module _ (cutting : Cutting) (s : Shape) where
       pub ended-fits : (l w : List Float) → s .d ≤ mostAxes → (x : Walked) (work carries : List Float) → h .bonds ≡ replicate mostAxes noBond → x .verdict ≡ Fits
           → reshaped 0 s (coresIn tr) ≡ x .shape → keepStep s 0 tr h ≡ heldBy x work carries → Inside s (x .shape) → length work ≡ length w
           → endedBy s l w (done tr) ≡ finished s x l work
-      unfolding endedBy keepStep scratchAfter
+      unfolding endedAs keepStep scratchAfter
       ended-fits l w m x work carries hb v g k I n =
           let a : x .bonds ≡ fit noBond mostAxes (bondsIn tr) =
           ap (λ (y : Stepped). y .bonds) (sym k) ∙ ap (write (bondSize s) noBond (s .d) 0 (map (λ (r : Carry × Cut). r .1 .bonds) tr)) hb
@@ -228,7 +228,7 @@ module _ (cutting : Cutting) (s : Shape) (l w start : List Float) (long : length
   by-outcome : (o : Answer (List (Carry × Cut))) → whole ≡ o → (v : Verdict) → x .verdict ≡ v
       → bind {B = Shape × Stepped} o (λ tr. done (reshaped 0 s (coresIn tr), keepStep s 0 tr h)) ≡ answered v (x .shape, heldBy x work carries)
       → endedBy s l w o ≡ finished s x l work
-  unfolding answered endedBy scratchAfter pick
+  unfolding answered endedAs scratchAfter pick
   by-outcome (done tr) f Fits v g =
       let p = done-inj g in
       ended-fits cutting s h wide tr f a b l w m x work carries refl v (ap (λ (y : Shape × Stepped). y .0) p) (ap (λ (y : Shape × Stepped). y .1) p) (I v) n
@@ -281,7 +281,7 @@ early-round s cutting chain scratch =
 module _ (s : Shape) (cutting : Cutting) (chain scratch : List Float) (v : Verdict) (e : v ≡ verdictOf (roundOk s cutting chain (length scratch))) where
   pub round-stops : (q : Refusal) → v ≡ Refused q → (r : Rounded) → r ≡ record { verdict = Refused q; shape = s; bonds = replicate mostAxes noBond }
       → _≡_ {A = Ended} (record { result = r; chain = chain; scratch = scratch }) (roundCall s cutting chain scratch)
-  unfolding roundCall endedBy scratchAfter pick
+  unfolding roundCall endedAs scratchAfter pick
   round-stops q h r f =
       let g = verdict-refused (roundOk s cutting chain (length scratch)) v q e h in
       let b = early-round s cutting chain (length scratch) .first q g in

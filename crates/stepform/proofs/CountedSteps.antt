@@ -2,32 +2,40 @@
 use mathlib.Core.Path.{_≡_, refl, sym, ap, _∙_, subst}
 use Prim.Native.Nat.{ℕ, zero, suc, _-_, _≤_, _<_}
 use native.Mathlib.Omega.{arith}
+use mathlib.Core.Bool.{Bool}
 use mathlib.Core.List.{List}
+use lib.Dec.{eqb}
 use lib.ListN.{length, getD, length-map}
 use lib.Ieee.{Float}
+use Rattle.answers.specs.declared.Refusal.the-variants.{Length, Number, Setting}
 use Rattle.answers.specs.declared.Verdict.the-variants.{Fits}
-use Rattle.answers.specs.Outcome.{Answer, done, bind}
+use Rattle.answers.specs.Outcome.{Answer, done, bind, demand}
 use Rattle.answers.proofs.Outcomes.{bind-done, done-inj}
-use Rattle.answers.proofs.Checks.{then-is}
-use Rattle.lists.specs.Walks.{every}
+use Rattle.answers.proofs.Checks.{demand-is, then-is}
+use Rattle.lists.specs.Walks.{stateAt, every}
 use Rattle.lists.proofs.Walks.{every-length}
+use Rattle.lists.proofs.Tables.{getD-tab, getD-any}
+use Rattle.lists.proofs.Tests.{both}
 use Rattle.shape.specs.declared.Shape.{Shape}
-use Rattle.shape.specs.Limits.{mostAxes}
+use Rattle.shape.specs.Limits.{mostAxes, within}
 use Rattle.shape.specs.Shapes.{chainOk}
 use Rattle.shape.specs.Cores.{Core, coresOf}
+use Rattle.shape.proofs.Shaped.{within-is}
+use Rattle.lists.proofs.Slots.{fit-length}
 use Rattle.stepform.specs.declared.Axis.{Axis}
 use Rattle.cutform.specs.declared.Bond.{Bond}
 use Rattle.cutform.specs.declared.Cutting.{Cutting}
-use Rattle.cutform.specs.Bonds.{noBond}
-use Rattle.cutform.specs.Rounding.{Carry, none, Cut, rounding, coresIn}
-use Rattle.cutform.specs.Claims.{RoundCounted}
+use Rattle.cutform.specs.Bonds.{noBond, pastBond}
+use Rattle.cutform.specs.Rounding.{Carry, none, Cut, After, rounding, coresIn, bondsIn, afterCuts}
+use Rattle.cutform.specs.Claims.{BondCounted, coreIn, RoundCounted}
 use Rattle.cutform.proofs.CountedBonds.{round-once}
-use Rattle.cutform.specs.Call.{endedBy}
-use Rattle.cutform.proofs.CountedCall.{ended-fits, ended-counted, cores-most}
+use Rattle.cutform.specs.Call.{lengthsOk, notBelowZero, cuttingOk, endedAs, endedBy}
+use Rattle.cutform.proofs.CountedCall.{left-fits, ended-fits, after-counted, ended-counted, cores-most}
 use Rattle.stepform.specs.declared.Settings.{Settings}
 use Rattle.stepform.specs.Zones.{zonesOf, rules}
-use Rattle.stepform.specs.Steps.{shiftZone, scaleZone, step, stepsAndOne}
-use Rattle.stepform.specs.Call.{stepOk, stepOver, stepCall, settingsFor, evolveOver, evolveCall}
+use Rattle.stepform.specs.Steps.{shiftZone, scaleZone, step, furtherBond, further, stepsFrom, stepsOf}
+use Rattle.stepform.specs.Lone.{mostSteps, courseOk}
+use Rattle.stepform.specs.Call.{zonesFinite, settingsOk, stepOk, stepOver, stepCall, settingsFor, evolveOver, evolveCall}
 use Rattle.stepform.specs.Claims.{moved, StepCounted, coresAfter, LastCounted}
 use Rattle.stepform.proofs.Rounds.{zones-length, step-rounds}
 use Rattle.stepform.proofs.Restart.{step-length}
@@ -62,15 +70,59 @@ after-length (suc m) t xs cs b h =
     let A = bind-done (step t xs cs) (λ tr. coresAfter m t xs (coresIn tr)) b h in
     after-length m t xs (coresIn (A .0)) b (A .2) ∙ length-map (A .0) (λ (r : Carry × Cut). r .1 .core) ∙ step-cuts t xs cs (A .0) (A .1)
 
--- the last step
-steps-parts : (m : ℕ) (t : Settings) (xs : List Axis) (cs : List Core) (cuts : List (Carry × Cut)) → stepsAndOne m t xs cs ≡ done cuts
-    → (b : List Core) × (coresAfter m t xs cs ≡ done b) × (step t xs b ≡ done cuts)
-unfolding stepsAndOne coresAfter
-steps-parts zero t xs cs cuts h = (cs, refl, h)
-steps-parts (suc m) t xs cs cuts h =
-    let A = bind-done (step t xs cs) (λ tr. stepsAndOne m t xs (coresIn tr)) cuts h in
-    let R = steps-parts m t xs (coresIn (A .0)) cuts (A .2) in
-    (R .0, ap (λ (o : Answer (List (Carry × Cut))). bind o (λ tr. coresAfter m t xs (coresIn tr))) (A .1) ∙ R .1, R .2)
+-- the last step of m and one: the cores before it, its cuts, and what was said of the bonds before it
+record LastStep (m : ℕ) (t : Settings) (xs : List Axis) (cs : List Core) (a : After) : Type 0 where
+  cores : List Core
+  before : coresAfter m t xs cs ≡ done cores
+  cuts : List (Carry × Cut)
+  made : step t xs cores ≡ done cuts
+  said : List Bond
+  bonds : a .bonds ≡ further said (afterCuts cuts .bonds)
+
+last-step : (m : ℕ) (t : Settings) (xs : List Axis) (a b : After) → stepsFrom (suc m) t xs a ≡ done b → LastStep m t xs (a .cores) b
+unfolding stepsFrom coresAfter
+last-step zero t xs a b h =
+    let A = bind-done (step t xs (a .cores)) _ b h in
+    record { cores = a .cores; before = refl; cuts = A .0; made = A .1; said = a .bonds; bonds = ap (λ (x : After). x .bonds) (sym (done-inj (A .2))) }
+last-step (suc m) t xs a b h =
+    let A = bind-done (step t xs (a .cores)) _ b h in
+    let L = last-step m t xs _ b (A .2) in
+    record {
+      cores = L .cores;
+      before = ap (λ (o : Answer (List (Carry × Cut))). bind o (λ tr. coresAfter m t xs (coresIn tr))) (A .1) ∙ L .before;
+      cuts = L .cuts;
+      made = L .made;
+      said = L .said;
+      bonds = L .bonds;
+    }
+
+-- a further step's sweeps are its own, whatever was dropped before it
+further-counted : (cutting : Cutting) (cs : List Core) (said bonds : List Bond) → length cs ≤ mostAxes → length bonds ≡ mostAxes → RoundCounted cutting cs bonds
+    → RoundCounted cutting cs (further said bonds)
+unfolding further furtherBond
+further-counted cutting cs said bonds most long R = record {
+  cuts = R .cuts;
+  ran = R .ran;
+  bond = λ k lt.
+      let B = R .bond k lt in
+      let e : getD (further said bonds) k noBond ≡ furtherBond (getD said k pastBond) (getD bonds k noBond) =
+      getD-tab mostAxes (λ (j : ℕ). furtherBond (getD said j pastBond) (getD bonds j pastBond)) k noBond (omega arith)
+      ∙ ap (furtherBond (getD said k pastBond)) (getD-any bonds k pastBond noBond (omega arith)) in
+      subst (BondCounted k (stateAt none (R .cuts) k) (coreIn cs k)) (sym e) (record { core = B .core; taken = B .taken; end = B .end; counted = B .counted });
+}
+
+-- a course of no steps is not accepted
+some-steps : (lone : Bool) (final : Float) (steps : ℕ) (cutting : Cutting) (t : Settings) (s : Shape) (count : ℕ) (xs : List Axis) (chain : List Float) (scratch : ℕ)
+    → stepOk lone (courseOk final steps cutting) t s count xs chain scratch ≡ done tt → 1 ≤ steps
+unfolding stepOk settingsOk courseOk
+some-steps lone final steps cutting t s count xs chain scratch h =
+    let a = then-is (chainOk s) _ tt h in
+    let b = then-is (demand (eqb count (s .d)) (Length 0)) _ tt (a .1) in
+    let c = then-is (lengthsOk s 1 (length chain) 2 scratch) _ tt (b .1) in
+    let d = then-is (demand lone (Number 0)) _ tt (c .1) in
+    let f = then-is (zonesFinite s xs chain) _ tt (d .1) in
+    let g = demand-is _ (Setting 0) (then-is (demand (courseOk final steps cutting) (Setting 0)) _ tt (f .1) .0) in
+    within-is mostSteps steps (both (within mostSteps steps) (cuttingOk cutting) (both (notBelowZero final) _ g .1) .0) .0
 
 -- ---- the calls
 module _ (s : Shape) (chain scratch : List Float) where
@@ -94,15 +146,23 @@ module _ (s : Shape) (chain scratch : List Float) where
   pub evolve-counted : (final : Float) (steps : ℕ) (c : Float) (cutting : Cutting) (xs : List Axis)
       → evolveCall final steps c cutting s xs chain scratch .result .verdict ≡ Fits
       → LastCounted (steps - 1) (settingsFor final steps c cutting) xs (coresOf s chain) (evolveCall final steps c cutting s xs chain scratch .result .bonds)
-  unfolding evolveOver stepOk
+  unfolding evolveOver stepOk stepsOf endedAs
   evolve-counted final steps c cutting xs e =
       let t = settingsFor final steps c cutting in
-      let A = ended-fits s chain scratch _ e in
-      let B = then-is _ (stepsAndOne (steps - 1) t xs (coresOf s chain)) (A .0) (A .1) in
-      let L = steps-parts (steps - 1) t xs (coresOf s chain) (A .0) (B .1) in
-      let n = after-length (steps - 1) t xs (coresOf s chain) (L .0) (L .1) in
+      let A = left-fits s chain scratch _ e in
+      let B = then-is _ (stepsOf steps t xs (coresOf s chain)) (A .0) (A .1) in
+      let one = some-steps _ final steps cutting t s (length xs) xs chain (length scratch) (B .0) in
+      let more : steps ≡ suc (steps - 1) = omega arith in
+      let L = last-step (steps - 1) t xs _ (A .0) (ap (λ (m : ℕ). stepsOf m t xs (coresOf s chain)) (sym more) ∙ B .1) in
+      let n = after-length (steps - 1) t xs (coresOf s chain) (L .cores) (L .before) in
       let most = cores-most s chain (then-is (chainOk s) _ tt (B .0) .0) in
-      record { cores = L .0; before = L .1; last = by-step t xs (L .0) _ (A .0) (omega arith) (A .1) (L .2) }
+      let P = step-parts t xs (L .cores) (L .cuts) (L .made) in
+      let few = P .3 in
+      let R = after-counted (t .cutting) (P .0) (L .cuts) (omega arith) (P .2) in
+      let F = further-counted (t .cutting) (P .0) (L .said) (afterCuts (L .cuts) .bonds) (omega arith) (fit-length noBond mostAxes (bondsIn (L .cuts))) R in
+      let E : evolveCall final steps c cutting s xs chain scratch .result .bonds ≡ further (L .said) (afterCuts (L .cuts) .bonds) =
+      ap (λ (o : Answer After). endedAs s chain scratch o .result .bonds) (A .1) ∙ L .bonds in
+      record { cores = L .cores; before = L .before; last = subst (StepCounted t xs (L .cores)) (sym E) (record { cores = P .0; moves = P .1; counted = F }) }
 
 -- ---- no others are
 abbrev Same : List Bond → List Bond → ℕ → Type 0

@@ -16,11 +16,11 @@ use Rattle.stepform.specs.declared.Axis.{Axis}
 use Rattle.stepform.specs.declared.Shift.{Shift}
 use Rattle.stepform.specs.declared.Shift.the-variants.{Stay, By}
 use Rattle.stepform.specs.Shifts.{shiftOf, shifted, moveCore, scaled}
-use Rattle.cutform.specs.Rounding.{Carry, none, coresIn}
+use Rattle.cutform.specs.Rounding.{Carry, none, After}
 use Rattle.cutform.proofs.Late.{late-rounding}
 use Rattle.stepform.specs.declared.Settings.{Settings}
 use Rattle.stepform.specs.Zones.{Zone, zonesOf, rules}
-use Rattle.stepform.specs.Steps.{holding, shiftZone, scaleZone, roundZone, stepFrom, step, stepsAndOne}
+use Rattle.stepform.specs.Steps.{holding, shiftZone, scaleZone, roundZone, stepFrom, step, stepsFrom, stepsOf}
 
 -- ---- one core
 late-move : (k : ℕ) (s : Shift) (c : Core) → Late (moveCore k s c)
@@ -48,11 +48,15 @@ module _ (t : Settings) where
       late-bind (every (scaleZone rules t) k a) _ (late-every (scaleZone rules t) late-scale k a) (λ b.
       late-rounding (t .cutting) d k s b))
 
-  late-step : (xs : List Axis) (cs : List Core) → Late (step t xs cs)
+  pub late-step : (xs : List Axis) (cs : List Core) → Late (step t xs cs)
   unfolding step
   late-step xs cs = late-from (length cs) 0 none (zonesOf xs 0 cs)
 
-  pub late-steps : (m : ℕ) (xs : List Axis) (cs : List Core) → Late (stepsAndOne m t xs cs)
-  unfolding stepsAndOne
-  late-steps zero xs cs = late-step xs cs
-  late-steps (suc m) xs cs = late-bind (step t xs cs) _ (late-step xs cs) (λ tr. late-steps m xs (coresIn tr))
+  late-further : (m : ℕ) (xs : List Axis) (a : After) → Late (stepsFrom m t xs a)
+  unfolding stepsFrom
+  late-further zero xs a = late-done a
+  late-further (suc m) xs a = late-bind (step t xs (a .cores)) _ (late-step xs (a .cores)) (λ tr. late-further m xs _)
+
+  pub late-steps : (m : ℕ) (xs : List Axis) (cs : List Core) → Late (stepsOf m t xs cs)
+  unfolding stepsOf
+  late-steps m xs cs = late-further m xs _

@@ -6,3 +6,5 @@ pub mod Restart
 pub mod Late
 pub mod Rounds
 pub mod CountedSteps
+-- what was dropped over several steps
+pub mod Greatest

@@ -1,5 +1,5 @@
 -- The calls `step` and `evolve`: slices are the axis records, the chain, scratch. Definitions only.
-use Prim.Native.Nat.{ℕ, _-_}
+use Prim.Native.Nat.{ℕ}
 use mathlib.Core.Bool.{Bool, _&&_}
 use mathlib.Core.List.{List}
 use lib.Dec.{eqb}
@@ -14,12 +14,12 @@ use Rattle.shape.specs.Shapes.{pointsOf, chainOk}
 use Rattle.shape.specs.Cores.{coresOf}
 use Rattle.stepform.specs.declared.Axis.{Axis}
 use Rattle.stepform.specs.Axes.{axisFinite, axisOk, axisAt}
-use Rattle.cutform.specs.Call.{lengthsOk, coreFinite, Ended, endedBy}
+use Rattle.cutform.specs.Call.{lengthsOk, coreFinite, Ended, endedAs, endedBy}
 use Rattle.cutform.specs.declared.Cutting.{Cutting}
 use Rattle.stepform.specs.declared.Settings.{Settings}
 use Rattle.stepform.specs.Lone.{loneFinite, loneOk, courseFinite, courseOk}
 use Rattle.stepform.specs.Zones.{Rules, rules}
-use Rattle.stepform.specs.Steps.{step, stepsAndOne}
+use Rattle.stepform.specs.Steps.{step, stepsOf}
 
 -- ---- what is asked, in this order. The records come with the number of those that were lent: code holds them by value, and what stands beyond the axes
 -- that there are is never asked for (proofs/Gathers.antt)
@@ -66,13 +66,13 @@ stepCall t s xs chain scratch = stepOver t s (length xs) xs chain scratch
 unfoldable pub settingsFor : Float → ℕ → Float → Cutting → Settings
 settingsFor final steps c cutting = record { tau = over final (ofInt binary64 (pos steps)); c = c; cutting = cutting }
 
--- the last step's counts; refused at a later step, the chain is that of before the first
+-- the last step's counts, and the greatest value dropped in any; refused at a later step, the chain is that of before the first
 unfoldable pub evolveOver : Float → ℕ → Float → Cutting → Shape → ℕ → List Axis → List Float → List Float → Ended
 evolveOver final steps c cutting s count xs chain scratch =
     let t = settingsFor final steps c cutting in
-    endedBy s chain scratch
+    endedAs s chain scratch
     (stepOk (courseFinite final c cutting) (courseOk final steps cutting) t s count xs chain (length scratch)
-    then stepsAndOne (steps - 1) t xs (coresOf s chain))
+    then stepsOf steps t xs (coresOf s chain))
 
 abbrev pub evolveCall : Float → ℕ → Float → Cutting → Shape → List Axis → List Float → List Float → Ended
 evolveCall final steps c cutting s xs chain scratch = evolveOver final steps c cutting s (length xs) xs chain scratch

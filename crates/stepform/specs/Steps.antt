@@ -3,13 +3,17 @@
 use Prim.Native.Nat.{ℕ, zero, suc}
 use mathlib.Core.List.{List}
 use lib.Dec.{ltb}
-use lib.ListN.{length}
-use lib.Ieee.{Float}
+use lib.ListN.{length, getD, replicate}
+use lib.Ieee.{Float, lt}
 use Rattle.answers.specs.Outcome.{Answer, done, bind}
+use Rattle.lists.specs.Lists.{pick, tab}
 use Rattle.lists.specs.Walks.{every, walk}
+use Rattle.shape.specs.Limits.{mostAxes}
 use Rattle.shape.specs.Cores.{Core, coreWith}
 use Rattle.stepform.specs.declared.Axis.{Axis}
-use Rattle.cutform.specs.Rounding.{Carry, none, Cut, coresIn}
+use Rattle.cutform.specs.declared.Bond.{Bond}
+use Rattle.cutform.specs.Bonds.{noBond, pastBond}
+use Rattle.cutform.specs.Rounding.{Carry, none, Cut, coresIn, After, afterCuts}
 use Rattle.stepform.specs.declared.Settings.{Settings}
 use Rattle.stepform.specs.Zones.{Zone, zonesOf, Rules, rules}
 
@@ -41,7 +45,25 @@ module _ (R : Rules) (t : Settings) where
 unfoldable pub step : Settings → List Axis → List Core → Answer (List (Carry × Cut))
 step t xs cs = stepFrom rules t (length cs) 0 none (zonesOf xs 0 cs)
 
--- one step, and m more, each from the chain that the last one left
-unfoldable pub stepsAndOne : ℕ → Settings → List Axis → List Core → Answer (List (Carry × Cut))
-stepsAndOne zero t xs cs = step t xs cs
-stepsAndOne (suc m) t xs cs = bind (step t xs cs) (λ tr. stepsAndOne m t xs (coresIn tr))
+-- ---- steps one after another
+-- the greater of two numbers, the first where neither is
+unfoldable pub greater : Float → Float → Float
+greater x y = pick (lt x y) y x
+
+-- what is said of a bond after a further step, which says b: all that b says, but for the greatest value that was dropped so far
+unfoldable pub furtherBond : Bond → Bond → Bond
+furtherBond said b = record { rank = b .rank; sweeps = b .sweeps; settled = b .settled; dropped = greater (said .dropped) (b .dropped) }
+
+-- and of all bonds
+unfoldable pub further : List Bond → List Bond → List Bond
+further said bonds = tab mostAxes (λ (k : ℕ). furtherBond (getD said k pastBond) (getD bonds k pastBond))
+
+-- m steps, each from the chain that the last one left
+unfoldable pub stepsFrom : ℕ → Settings → List Axis → After → Answer After
+stepsFrom zero t xs a = done a
+stepsFrom (suc m) t xs a =
+    bind (step t xs (a .cores)) (λ tr. stepsFrom m t xs (record { cores = coresIn tr; bonds = further (a .bonds) (afterCuts tr .bonds) }))
+
+-- of a chain of which nothing is said yet: of each bond +0 was dropped
+unfoldable pub stepsOf : ℕ → Settings → List Axis → List Core → Answer After
+stepsOf m t xs cs = stepsFrom m t xs (record { cores = cs; bonds = replicate mostAxes noBond })

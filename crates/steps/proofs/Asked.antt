@@ -22,10 +22,9 @@ use Rattle.cuts.specs.Slots.{unrounded, AtZone, heldBy}
 use Rattle.cuts.proofs.From.{at-start}
 use Rattle.cutform.proofs.BondSlots.{carries-most}
 use Rattle.stepform.specs.declared.Settings.{Settings}
-use Rattle.stepform.specs.Steps.{step}
 use Rattle.stepform.specs.Call.{axisReaches}
 use Rattle.checks.specs.Over.{Stands, Rooms, standFrom}
-use Rattle.steps.specs.Held.{stepHeld, Came, Placed, Ready}
+use Rattle.steps.specs.Held.{stepHeld, stepOf, Came, Placed, Ready}
 use Rattle.steps.proofs.Steps.{with, moves, held-stops, came-of}
 
 pub not-fits : (v : Verdict) (q : Refusal) → v ≡ Refused q → v ≡ Fits → ⊥
@@ -74,7 +73,7 @@ module _ (set : Settings) (s t : Shape) (xs : List Axis) (work carries room bloc
         ((record { inside = P .inside; within = chain .sizes; long = P .long }, R .rooms), ((omega arith, λ k a b. R .reach k b), at-first))
 
     pub one-came : (r : Walked) (work' carries' : List Float) → stepHeld set s 0 xs (w .shape) (heldBy w work carries) ≡ answered (r .verdict) (r .shape, heldBy r work' carries') → (_≡_ {A = ℕ} 0 0 → r .verdict ≡ Fits → Inside s (r .shape))
-        → Came (step set xs (tab (s .d) (standing s t work))) s t (r .verdict) (r .shape) (r .bonds) work'
+        → Came (stepOf set xs (tab (s .d) (standing s t work))) s t (r .verdict) (r .shape) (r .bonds) work'
     one-came r work' carries' f g =
         came-of set s t xs (heldBy (unrounded t) work carries) (P .inside) (P .long) (P .lefts) (P .rights) refl (r .verdict) (r .shape) (heldBy r work' carries')
         (subst (λ (x : Walked). stepHeld set s 0 xs (x .shape) (heldBy x work carries) ≡ answered (r .verdict) (r .shape, heldBy r work' carries')) e f) (g refl)

@@ -21,12 +21,12 @@ use Rattle.shape.proofs.Shaped.{shaped}
 use Rattle.stepform.specs.declared.Axis.{Axis}
 use Rattle.stepform.specs.Axes.{axisFinite, axisOk, axisAt, gathered}
 use Rattle.axes.proofs.Gathered.{gathered-at}
-use Rattle.cutform.specs.Call.{lengthsOk, coreFinite, endedBy}
-use Rattle.cutform.specs.Rounding.{Carry, Cut, none, coresIn}
+use Rattle.cutform.specs.Call.{lengthsOk, coreFinite, endedAs, endedBy}
+use Rattle.cutform.specs.Rounding.{Carry, Cut, none, coresIn, After, afterCuts}
 use Rattle.cutform.specs.declared.Cutting.{Cutting}
 use Rattle.stepform.specs.declared.Settings.{Settings}
 use Rattle.stepform.specs.Zones.{Zone, zone, zonesOf, rules}
-use Rattle.stepform.specs.Steps.{stepFrom, step, stepsAndOne}
+use Rattle.stepform.specs.Steps.{stepFrom, step, further, stepsFrom, stepsOf}
 use Rattle.stepform.specs.Lone.{loneFinite, loneOk, courseFinite, courseOk}
 use Rattle.stepform.specs.Call.{reachesAt, axisReaches, zonesFinite, settingsOk, stepOk, stepOver, stepCall, settingsFor, evolveOver, evolveCall}
 use Rattle.stepform.proofs.Restart.{step-length}
@@ -80,12 +80,16 @@ module _ (xs : List Axis) where
     unfolding step
     step-same cs h = ap (stepFrom rules t (length cs) 0 none) (zones-same 0 cs (omega arith))
 
-    pub steps-same : (m : ℕ) (cs : List Core) → length cs ≤ mostAxes → stepsAndOne m t (gathered xs) cs ≡ stepsAndOne m t xs cs
-    unfolding stepsAndOne
-    steps-same zero cs h = step-same cs h
-    steps-same (suc m) cs h =
-        ap (λ o. bind o (λ tr. stepsAndOne m t (gathered xs) (coresIn tr))) (step-same cs h)
-        ∙ bind-cong (step t xs cs) _ _ (λ tr e. steps-same m (coresIn tr) (omega (arith, stepped-count t xs cs tr e)))
+    further-same : (m : ℕ) (a : After) → length (a .cores) ≤ mostAxes → stepsFrom m t (gathered xs) a ≡ stepsFrom m t xs a
+    unfolding stepsFrom
+    further-same zero a h = refl
+    further-same (suc m) a h =
+        ap (λ o. bind o (λ tr. stepsFrom m t (gathered xs) (record { cores = coresIn tr; bonds = further (a .bonds) (afterCuts tr .bonds) }))) (step-same (a .cores) h)
+        ∙ bind-cong (step t xs (a .cores)) _ _ (λ tr e. further-same m _ (omega (arith, stepped-count t xs (a .cores) tr e)))
+
+    pub steps-same : (m : ℕ) (cs : List Core) → length cs ≤ mostAxes → stepsOf m t (gathered xs) cs ≡ stepsOf m t xs cs
+    unfolding stepsOf
+    steps-same m cs h = further-same m _ h
 
 -- zones of cores in a row
 pub zones-listed : (xs : List Axis) (f : ℕ → Core) (m k : ℕ) → zonesOf xs k (listed m k f) ≡ listed m k (λ (j : ℕ). zone (f j) (axisAt xs j))
@@ -122,7 +126,7 @@ evolve-over final steps c cutting s xs chain scratch =
     let m = length scratch in
     let lone = courseFinite final c cutting in
     let mild = courseOk final steps cutting in
-    ap (endedBy s chain scratch)
-    (ap (λ (k : Check). k then stepsAndOne (steps - 1) t (gathered xs) (coresOf s chain)) (ok-same xs lone mild t s n chain m)
+    ap (endedAs s chain scratch)
+    (ap (λ (k : Check). k then stepsOf steps t (gathered xs) (coresOf s chain)) (ok-same xs lone mild t s n chain m)
     ∙ bind-cong (stepOk lone mild t s n xs chain m) _ _
-    (λ a e. steps-same xs t (steps - 1) (coresOf s chain) (cores-few s chain (ok-chain lone mild t s n xs chain m e))))
+    (λ a e. steps-same xs t steps (coresOf s chain) (cores-few s chain (ok-chain lone mild t s n xs chain m e))))

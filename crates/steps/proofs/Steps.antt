@@ -35,7 +35,7 @@ use Rattle.stepform.specs.declared.Shift.{Shift}
 use Rattle.stepform.specs.declared.Shift.the-variants.{Stay, By}
 use Rattle.stepform.specs.Shifts.{shiftOf, shifted, moveCore, scaled}
 use Rattle.cutform.specs.Bonds.{noBond}
-use Rattle.cutform.specs.Rounding.{Carry, none, Cut, roundCore, coresIn}
+use Rattle.cutform.specs.Rounding.{Carry, none, Cut, roundCore, coresIn, afterCuts}
 use Rattle.cutform.specs.Keeping.{Stepped, keepStep, carryLeft, roundFrom}
 use Rattle.cutform.proofs.Cuts.{volume}
 use Rattle.stepform.specs.declared.Settings.{Settings}
@@ -43,7 +43,7 @@ use Rattle.stepform.specs.Zones.{Zone, zonesOf, rules}
 use Rattle.stepform.specs.Steps.{holding, shiftZone, scaleZone, roundZone, stepFrom, step}
 use Rattle.checks.specs.Over.{zoneIn, standFrom, Onward}
 use Rattle.steps.proofs.Gathers.{zones-listed}
-use Rattle.steps.specs.Held.{stepHeld, Came}
+use Rattle.steps.specs.Held.{stepHeld, stepOf, Ends, Came}
 use Rattle.steps.proofs.Traces.{Found, bonds-front, cores-stand}
 
 -- what is held, with another chain
@@ -101,6 +101,10 @@ module _ {A B : Type 0} (k : A → B) where
   verdict-of (done a) (Refused q) b e = absurd (done-refused e)
   verdict-of (refused r) Fits b e = absurd (done-refused (sym e))
   verdict-of (refused r) (Refused q) b e = ap Refused (refused-inj (sym e))
+
+  verdict-after : (T : Answer A) → verdictOf (bind T (λ a. done (k a))) ≡ verdictOf T
+  verdict-after (done a) = refl
+  verdict-after (refused r) = refl
 
   pub value-of : (T : Answer A) (v : Verdict) (b : B) → bind T (λ a. done (k a)) ≡ answered v b → (a : A) → T ≡ done a → (k a ≡ b) × (v ≡ Fits)
   unfolding answered
@@ -170,21 +174,23 @@ module _ (set : Settings) (s t : Shape) (xs : List Axis) (h : Stepped) (I : Insi
     unfolding stepHeld carryLeft
     plain = e
 
-    pub came-of : (v ≡ Fits → Inside s u) → Came (step set xs (tab (s .d) (standing s t (h .chain)))) s t v u (h' .bonds) (h' .chain)
+    pub came-of : (v ≡ Fits → Inside s u) → Came (stepOf set xs (tab (s .d) (standing s t (h .chain)))) s t v u (h' .bonds) (h' .chain)
     came-of inside = record {
-      verdict = verdict-of kept T v (u, h') plain ∙ ap verdictOf (sym step-is);
-      ends = λ tr g.
-          let f = sym step-is ∙ g in
+      verdict = verdict-of kept T v (u, h') plain ∙ ap verdictOf (sym step-is) ∙ sym (verdict-after afterCuts (step set xs (tab (s .d) (standing s t (h .chain)))));
+      ends = λ a b.
+          let D = bind-done (step set xs (tab (s .d) (standing s t (h .chain)))) (λ x. done (afterCuts x)) a b in
+          let tr = D .0 in
+          let f = sym step-is ∙ D .1 in
           let k = value-of kept T v (u, h') plain tr f in
           let shape : u ≡ reshaped 0 t (coresIn tr) = ap (λ (x : Shape × Stepped). x .0) (sym (k .0)) in
           let held : h' ≡ keepStep s 0 tr h = ap (λ (x : Shape × Stepped). x .1) (sym (k .0)) in
           let R = ready tr f in
           let J = inside (k .1) in
           let stand = cores-stand (set .cutting) s t h I lefts rights (R .0) (R .1) (R .2) tr (R .3) (subst (Inside s) shape J) in
-          record {
+          subst (Ends s t u (h' .bonds) (h' .chain)) (done-inj (D .2)) (record {
             shape = shape;
             inside = J;
             cores = stand ∙ ap (λ (x : Shape). tab (s .d) (standing s x (keepStep s 0 tr h .chain))) (sym shape) ∙ ap (λ (x : Stepped). tab (s .d) (standing s u (x .chain))) (sym held);
-            cut = ap (λ (x : Stepped). x .bonds) held ∙ bonds-front (set .cutting) s t h I lefts rights (R .0) (R .1) (R .2) tr (R .3) blank;
-          };
+            said = ap (λ (x : Stepped). x .bonds) held ∙ bonds-front (set .cutting) s t h I lefts rights (R .0) (R .1) (R .2) tr (R .3) blank;
+          });
     }

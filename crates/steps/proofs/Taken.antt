@@ -8,7 +8,7 @@ use lib.ListN.{length, take, drop, length-append}
 use lib.Seq.{take-at, take-take, take-length}
 use lib.Ieee.{Float}
 use Rattle.answers.specs.declared.Verdict.{Verdict}
-use Rattle.answers.specs.Outcome.{done}
+use Rattle.answers.specs.Outcome.{Answer, done}
 use Rattle.lists.specs.Lists.{tab}
 use Rattle.lists.specs.Slots.{offset, slot}
 use Rattle.lists.proofs.Tables.{listed-same}
@@ -17,13 +17,11 @@ use Rattle.shape.specs.declared.Shape.{Shape}
 use Rattle.shape.specs.Limits.{mostAxes}
 use Rattle.shape.specs.Shapes.{leftOf, pointsOf, rightOf, chainOk, coreSize, entriesOf}
 use Rattle.shape.specs.Cores.{Core, coreWith, coreAt, coresOf, standing}
-use Rattle.stepform.specs.declared.Axis.{Axis}
 use Rattle.cutform.specs.declared.Bond.{Bond}
-use Rattle.stepform.specs.declared.Settings.{Settings}
+use Rattle.cutform.specs.Rounding.{After}
 use Rattle.steps.specs.Held.{Came, Placed}
 use Rattle.shape.proofs.Shaped.{shaped}
 use Rattle.shape.proofs.Insides.{inside-itself}
-use Rattle.stepform.specs.Steps.{stepsAndOne}
 
 -- a chain stands in its own room
 stand-own : (s : Shape) (w : List Float) (k : ℕ) → standing s s w k ≡ coreAt s w k
@@ -47,6 +45,6 @@ taken-over s l x r e n =
 pub placed-own : (s : Shape) (l x r : List Float) → chainOk s ≡ done tt → x ≡ l → length l ≡ entriesOf s → length (s .left) ≡ mostAxes → length (s .right) ≡ mostAxes → Placed s s (x ++ r)
 placed-own s l x r ok e n a b = record { inside = inside-itself s (shaped s (λ (k : ℕ). true) ok); lefts = a; rights = b; long = omega (arith, length-append x r, ap length e) }
 
-pub came-own : (m : ℕ) (set : Settings) (s : Shape) (xs : List Axis) (l x r : List Float) → x ≡ l → length l ≡ entriesOf s → (v : Verdict) (u : Shape) (bonds : List Bond) (w : List Float)
-    → Came (stepsAndOne m set xs (tab (s .d) (standing s s (x ++ r)))) s s v u bonds w → Came (stepsAndOne m set xs (coresOf s l)) s s v u bonds w
-came-own m set s xs l x r e n v u bonds w C = subst (λ (cs : List Core). Came (stepsAndOne m set xs cs) s s v u bonds w) (taken-over s l x r e n) C
+pub came-own : (T : List Core → Answer After) (s : Shape) (l x r : List Float) → x ≡ l → length l ≡ entriesOf s → (v : Verdict) (u : Shape) (bonds : List Bond) (w : List Float)
+    → Came (T (tab (s .d) (standing s s (x ++ r)))) s s v u bonds w → Came (T (coresOf s l)) s s v u bonds w
+came-own T s l x r e n v u bonds w C = subst (λ (cs : List Core). Came (T cs) s s v u bonds w) (taken-over s l x r e n) C

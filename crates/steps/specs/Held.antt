@@ -8,20 +8,18 @@ use lib.Ieee.{Float}
 use Rattle.answers.specs.declared.Verdict.{Verdict}
 use Rattle.answers.specs.Outcome.{Answer, done, bind, verdictOf}
 use Rattle.lists.specs.Lists.{listed, tab}
-use Rattle.lists.specs.Slots.{fit}
 use Rattle.shape.specs.declared.Shape.{Shape}
 use Rattle.shape.specs.Limits.{mostAxes, mostCarries}
 use Rattle.shape.specs.Shapes.{chainOk, entriesOf}
 use Rattle.shape.specs.Sizes.{Inside}
-use Rattle.shape.specs.Cores.{standing, reshaped}
+use Rattle.shape.specs.Cores.{Core, standing, reshaped}
 use Rattle.stepform.specs.declared.Axis.{Axis}
 use Rattle.cutform.specs.declared.Bond.{Bond}
-use Rattle.cutform.specs.Bonds.{noBond}
-use Rattle.cutform.specs.Rounding.{Carry, Cut, coresIn, bondsIn}
+use Rattle.cutform.specs.Rounding.{coresIn, After, afterCuts}
 use Rattle.cutform.specs.Keeping.{Stepped, keepStep, carryLeft}
 use Rattle.stepform.specs.declared.Settings.{Settings}
 use Rattle.stepform.specs.Zones.{rules}
-use Rattle.stepform.specs.Steps.{stepFrom}
+use Rattle.stepform.specs.Steps.{stepFrom, step}
 use Rattle.stepform.specs.Call.{axisReaches}
 use Rattle.checks.specs.Over.{zoneIn, Rooms}
 
@@ -31,17 +29,21 @@ stepHeld set s z xs t h =
     bind (stepFrom rules set (s .d) z (carryLeft s t h z) (listed (s .d - z) z (zoneIn s t xs (h .chain))))
     (λ tr. done (reshaped z t (coresIn tr), keepStep s z tr h))
 
--- tr is what was left of each zone: u is the chain's shape at the end, w what stands in the room of s
-pub record Ends (s t u : Shape) (bonds : List Bond) (w : List Float) (tr : List (Carry × Cut)) : Type 0 where
-  pub shape : u ≡ reshaped 0 t (coresIn tr)
+-- a is what was left of the chain: u is its shape at the end, w what stands in the room of s
+pub record Ends (s t u : Shape) (bonds : List Bond) (w : List Float) (a : After) : Type 0 where
+  pub shape : u ≡ reshaped 0 t (a .cores)
   pub inside : Inside s u
-  pub cores : coresIn tr ≡ tab (s .d) (standing s u w)
-  pub cut : bonds ≡ fit noBond mostAxes (bondsIn tr)
+  pub cores : a .cores ≡ tab (s .d) (standing s u w)
+  pub said : bonds ≡ a .bonds
 
 -- v is the verdict on T, which began with a chain of shape t
-pub record Came (T : Answer (List (Carry × Cut))) (s t : Shape) (v : Verdict) (u : Shape) (bonds : List Bond) (w : List Float) : Type 0 where
+pub record Came (T : Answer After) (s t : Shape) (v : Verdict) (u : Shape) (bonds : List Bond) (w : List Float) : Type 0 where
   pub verdict : v ≡ verdictOf T
-  pub ends : (tr : List (Carry × Cut)) → T ≡ done tr → Ends s t u bonds w tr
+  pub ends : (a : After) → T ≡ done a → Ends s t u bonds w a
+
+-- one step, by what it leaves
+abbrev pub stepOf : Settings → List Axis → List Core → Answer After
+stepOf set xs cs = bind (step set xs cs) (λ tr. done (afterCuts tr))
 
 -- ---- what work in place asks
 -- a chain of shape t stands in the room of s

@@ -11,8 +11,8 @@ returns c =
     (c .before .before .before .before .before .before .lone-ok .ensures) _ (c .before .before .before .before .step-ok .ensures) _
     (c .before .before .ok .given .1) _ (c .refused-rounding .ensures)
 
-work-requires : tie.Need-work-requires
-work-requires c κs =
+work-once-requires : tie.Need-work-once-requires
+work-once-requires c κs =
     let at-4 = c .before .before .before .before in (
       ((over-passed _ _ _ _ _ _ _ _ _ (at-4 .step-ok .ensures) (c .before .before .enum-told .given .1)) .shape, (over-passed _ _ _ _ _ _ _ _ _ (at-4 .step-ok .ensures) (c .before .before .enum-told .given .1)) .reach),
       (
@@ -26,7 +26,7 @@ returns-2 c =
     step-goes _ _ _ _ _ _ _ _ (c .before .before .before .before .before .before .before .before .before .before .before .before .lone-finite .ensures)
     (c .before .before .before .before .before .before .before .before .before .before .before .lone-ok .ensures) _
     (c .before .before .before .before .before .before .before .before .before .step-ok .ensures)
-    (c .before .before .before .before .before .before .before .enum-told .given .1) _ _ _ (c .before .before .before .before .work .ensures)
+    (c .before .before .before .before .before .before .before .enum-told .given .1) _ _ _ (c .before .before .before .before .work-once .ensures)
 
 pub step-over-spec : {M : Type 1} → statement M
 step-over-spec = tie.close (tie.spec
@@ -38,7 +38,7 @@ step-over-spec = tie.close (tie.spec
     (λ c. search needs)
     returns
     (λ c. search needs)
-    work-requires
+    work-once-requires
     (λ c. search needs)
     (λ c. search needs)
     returns-2)

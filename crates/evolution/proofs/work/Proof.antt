@@ -1,6 +1,7 @@
 -- `evolution::work`: what the steps came to lies inside the source's room (came-inside), and `finish` makes the call's end of it (work-done).
 use borrow.Author.Needs.{needs}
 use Rattle.evolution.proofs.Calls.{came-inside, ok-sizes, finished-as, work-done}
+use Rattle.stepform.proofs.Late.{late-steps}
 use native.Mathlib.Omega.{arith}
 use Rattle.evolution.proofs.work.Statement.{statement}
 use Rattle.evolution.proofs.work.Tie as tie
@@ -20,8 +21,8 @@ finish-requires c κs =
 
 returns : tie.Need-returns
 returns c =
-    let at-9 = c .before .before .before .before .before .before .before .before .before in
-    work-done _ _ _ _ _ _ _ _ _ _ _ (at-9 .stepped .kept .1 .1 .1 .1 .1 .0) (at-9 .stepped .ensures)
+    let stepped = c .before .before .before .before .before .before .before .before .before in
+    work-done _ _ _ _ _ _ _ _ _ (stepped .stepped .kept .1 .1 .1 .1 .1 .0) (late-steps _ _ _ _) (stepped .stepped .ensures)
     (finished-as _ _ _ _ _ (c .before .before .before .before .finish .ensures))
 
 pub work-spec : {M : Type 1} → statement M

@@ -1,6 +1,7 @@
 -- `steps::stepped`: the chain copied to scratch stands there in its own room (came-own).
 use borrow.Author.Needs.{needs}
 use Rattle.steps.proofs.Taken.{placed-own, came-own}
+use Rattle.stepform.specs.Steps.{stepsOf}
 use Rattle.steps.proofs.stepped.Statement.{statement}
 use Rattle.steps.proofs.stepped.Tie as tie
 
@@ -13,9 +14,10 @@ steps-in-requires c κs =
 
 returns : tie.Need-returns
 returns c =
-    came-own _ _ _ _ _ _ _ (c .before .before .before .before .before .before .before .before .before .before .before .before .copy .ensures)
-    (c .before .before .before .before .before .before .before .before .before .before .before .before .before .before .before .before .pre .1 .0) _ _ _ _
-    (c .before .before .before .before .before .steps-in .ensures)
+    let start = c .before .before .before .before .before .before .before .before .before .before .before .before .before .before .before .before in
+    came-own (stepsOf (start .args .m) (start .args .set) (start .args .xs)) _ _ _ _
+    (c .before .before .before .before .before .before .before .before .before .before .before .before .copy .ensures)
+    (start .pre .1 .0) _ _ _ _ (c .before .before .before .before .before .steps-in .ensures)
 
 pub stepped-spec : {M : Type 1} → statement M
 stepped-spec = tie.close (tie.spec
