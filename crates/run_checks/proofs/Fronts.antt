@@ -10,6 +10,7 @@ use lib.Seq.{take-take}
 use lib.Ieee.{Float}
 use mir.Syntax.{w64}
 use mir.Val as val
+use Rattle.numbers.specs.Finite.{finite}
 use Rattle.answers.specs.declared.Refusal.the-variants.{Reach}
 use Rattle.answers.specs.declared.Verdict.the-variants.{Fits, Refused}
 use Rattle.answers.specs.Outcome.{done, demandEach, verdictOf}
@@ -25,7 +26,7 @@ use Rattle.shape.specs.Limits.{mostPoints, mostRank}
 use Rattle.shape.specs.Shapes.{leftOf, pointsOf, rightOf, shapeOk, coreSize, entriesOf}
 use Rattle.shape.proofs.Shaped.{Shaped, shaped}
 use Rattle.stepform.specs.declared.Axis.{Axis}
-use Rattle.cutform.specs.Keeping.{rankAmong, carrySize}
+use Rattle.cutform.specs.Keeping.{rankAmong, droppedAmong, carrySize}
 use Rattle.cutform.proofs.BondSlots.{carry-bond}
 use Rattle.sumform.specs.Sums.{sumSize}
 use Rattle.product.proofs.Slotted.{sum-size}
@@ -33,7 +34,7 @@ use Rattle.stepform.specs.declared.Settings.{Settings}
 use Rattle.stepform.specs.Call.{axisReaches}
 use Rattle.cutform.specs.declared.Bond.{Bond}
 use Rattle.runform.specs.Kept.{allCarries, allSums, leftHeld, rightHeld, heldCore, heldCarry}
-use Rattle.runform.specs.Checks.{rankOk, coreHeld, carryHeld, sumsHeld}
+use Rattle.runform.specs.Checks.{rankOk, coreHeld, carryHeld, sumsHeld, droppedHeld}
 use Rattle.run_checks.specs.Reach.{reachFrom}
 use Rattle.runform.proofs.KeptRanks.{rank-within, right-within, left-within}
 
@@ -153,3 +154,13 @@ module _ (z : ℕ) (set : Settings) (s : Shape) (xs : List Axis) where
 
     pub far-right : s .d ≤ i → Fits ≡ verdictOf (demandEach Reach (axisReaches set s xs) (s .d - z) z)
     far-right m = places-right (reachFrom z set s xs) (s .d) i e Reach m ∙ ap verdictOf (reach-all l)
+
+-- what a bond dropped
+module _ (s : Shape) (bonds : List Bond) (k : ℕ) where
+  pub dropped-found : k + 1 < s .d → (b : Bool) → b ≡ finite (droppedAmong bonds k) → b ≡ droppedHeld s bonds k
+  unfolding droppedHeld
+  dropped-found l b e = e ∙ sym (ap (λ (x : Bool). cond x (finite (droppedAmong bonds k)) true) (ltb-yes (suc k) (s .d) (omega arith)))
+
+  pub dropped-none : s .d ≤ k + 1 → true ≡ droppedHeld s bonds k
+  unfolding droppedHeld
+  dropped-none l = sym (ap (λ (x : Bool). cond x (finite (droppedAmong bonds k)) true) (ltb-no (suc k) (s .d) (omega arith)))

@@ -11,7 +11,7 @@ ghost use Rattle.shape.specs.Sizes.{PointsWithin, SizesWithin};
 ghost use Rattle.stepform.specs.Call.{axisReaches};
 ghost use Rattle.runform.specs.Slices.{outputs};
 ghost use Rattle.runform.specs.Kept.{allCarries, allSums};
-ghost use Rattle.runform.specs.Checks.{rankOk, coreHeld, carryHeld, sumsHeld, heldFinite};
+ghost use Rattle.runform.specs.Checks.{rankOk, coreHeld, carryHeld, sumsHeld, droppedHeld, heldFinite};
 ghost use Rattle.run_checks.specs.Reach.{reachFrom};
 
 // Whether the numbers at the front of what begins at `at` are all finite.
@@ -69,6 +69,17 @@ fn sums_held(
     front_finite(sums, at, used)
 }
 
+// What bond k dropped; right of the last core there is none.
+fn dropped_held(s: shape::Shape, bonds: [cutform::Bond; shape::MOST_AXES], k: usize) -> bool
+    requires { ⌜ (SizesWithin s) × (k < s .d) ⌝ }
+    ensures { λ r. ⌜ r ≡ droppedHeld s bonds k ⌝ }
+{
+    if k + 1 < s.d {
+        return numbers::is_finite(bonds[k].dropped);
+    }
+    true
+}
+
 // Whether every number that is kept of zone k is finite.
 fn zone_held(
     s: shape::Shape,
@@ -85,7 +96,8 @@ fn zone_held(
     let core = core_held(s, bonds, chain, k);
     let carry = carry_held(s, bonds, carries, k);
     let sum = sums_held(s, bonds, sums, k);
-    core & (carry & sum)
+    let dropped = dropped_held(s, bonds, k);
+    core & (carry & (sum & dropped))
 }
 
 // The first zone of which a number is kept that isn't finite, or d.

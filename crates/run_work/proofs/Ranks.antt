@@ -17,10 +17,10 @@ use Rattle.shape.specs.Shapes.{rightOf}
 use Rattle.shape.specs.Cores.{Core, coreAt}
 use Rattle.shape.proofs.Shaped.{Shaped}
 use Rattle.cutform.specs.declared.Bond.{Bond}
-use Rattle.cutform.specs.Bonds.{noBond}
+use Rattle.cutform.specs.Bonds.{noBond, pastBond}
 use Rattle.cutform.specs.Rounding.{Carry, Cut}
 use Rattle.cutform.proofs.Cuts.{Carried}
-use Rattle.cutform.specs.Keeping.{Stepped, bondSize, rankAt, keepStep}
+use Rattle.cutform.specs.Keeping.{Stepped, bondSize, rankAt, keepStep, rankAmong}
 use Rattle.cutform.proofs.BondSlots.{bond-one, bond-at}
 use Rattle.stepform.specs.Zones.{Zone, rules}
 use Rattle.stepform.specs.Steps.{holding, shiftZone, scaleZone, roundZone, stepFrom}
@@ -83,8 +83,8 @@ module _ (i : Inputs) (shp : Shaped (i .shape)) where
         let j : z + (k - z) ≡ k = omega arith in
         let C : Carried (rightOf s k) (getD tr (k - z) no-cut) = subst (λ (m : ℕ). Good m (getD tr (k - z) no-cut)) j (all-at Good z tr (all-good z (carryAt s h z) tr e) (k - z) no-cut (omega arith)) lt in
         let q : rankAt (keepStep s z tr h) k ≡ C .bond .rank =
-        sym (ap (λ (b : Bond). b .rank) (bond-at s k (keepStep s z tr h .bonds) lt noBond))
-        ∙ ap (λ (l : List Bond). getD l 0 noBond .rank) (slot-written (bondSize s) noBond (s .d) (λ (r : Carry × Cut). r .1 .bonds) no-cut refl z tr (h .bonds) k n (M .bonds) ge (omega arith)
+        sym (ap (λ (b : Bond). b .rank) (bond-at s k (keepStep s z tr h .bonds) lt pastBond))
+        ∙ ap (λ (l : List Bond). rankAmong l 0) (slot-written (bondSize s) noBond (s .d) (λ (r : Carry × Cut). r .1 .bonds) no-cut refl z tr (h .bonds) k n (M .bonds) ge (omega arith)
         ∙ ap (λ (m : ℕ). fit noBond m (getD tr (k - z) no-cut .1 .bonds)) (bond-one s k lt)
         ∙ ap (fit noBond 1) (C .bonds)) in
         (subst (λ (x : ℕ). 1 ≤ x) (sym q) (C .least), subst (λ (x : ℕ). x ≤ rightOf s k) (sym q) (C .most))

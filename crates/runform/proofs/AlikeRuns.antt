@@ -24,21 +24,22 @@ use Rattle.shape.specs.Shapes.{pointsOf, rightOf, coreSize}
 use Rattle.shape.specs.Cores.{Core, coreWith}
 use Rattle.shape.proofs.Shaped.{shape-same}
 use Rattle.cutform.specs.declared.Bond.{Bond}
-use Rattle.cutform.specs.Bonds.{noBond}
+use Rattle.cutform.specs.Bonds.{noBond, pastBond}
 use Rattle.cutform.specs.Rounding.{Carry, Cut, numbersIn}
 use Rattle.stepform.specs.Zones.{Rules}
 use Rattle.runform.specs.Slices.{sliceCount}
 use Rattle.runform.specs.Kept.{Inputs, Summed, Kept, running, leftRank, rightRank, keptCore, keptCarry, keptSums, lengthsOf, heldCore}
-use Rattle.cutform.specs.Keeping.{Stepped, bondSize, carrySize, rankAt, keepStep}
+use Rattle.cutform.specs.Keeping.{Stepped, bondSize, carrySize, bondAmong, droppedAmong, rankAt, keepStep}
 use Rattle.stepform.specs.Lone.{loneFinite}
-use Rattle.runform.specs.Checks.{rankOk, slicesLent, zoneFinite, coreHeld, carryHeld, sumsHeld, heldFinite, keptFinite}
+use Rattle.runform.specs.Checks.{rankOk, slicesLent, zoneFinite, coreHeld, carryHeld, sumsHeld, droppedHeld, heldFinite, keptFinite}
 use Rattle.runform.specs.Requests.{Request, zoneOf, partFits, newFinite, foundOk, foundNumbers, numbersOk, replaceOk}
 use Rattle.cutform.proofs.BondSlots.{bond-at}
-use Rattle.runform.proofs.Before.{Roomy, rank-before, core-before, carry-before}
+use Rattle.runform.proofs.Before.{Roomy, bond-before, core-before, carry-before}
 
 -- ---- two runs that agree in used room, their slices as long
 pub record AlikeSteps (s : Shape) (t t' : Stepped) : Type 0 where
   pub ranks : (k : ℕ) → suc k < s .d → rankAt t k ≡ rankAt t' k
+  pub dropped : (k : ℕ) → suc k < s .d → droppedAmong (t .bonds) k ≡ droppedAmong (t' .bonds) k
   pub cores : (k : ℕ) → k < s .d → keptCore s t k ≡ keptCore s t' k
   pub carries : (k : ℕ) → suc k < s .d → keptCarry s t k ≡ keptCarry s t' k
   pub chain-long : length (t .chain) ≡ length (t' .chain)
@@ -76,11 +77,12 @@ module _ (R : Rules) (i : Inputs) (t t' : Stepped) (u u' : Summed) (E : Alike (r
   rank-same k = bond-same s k (within (rightOf s k) (rankAt t k)) (within (rightOf s k) (rankAt t' k)) true (λ l. ap (within (rightOf s k)) (E .steps .ranks k l))
 
   kept-same : (k : ℕ) → k < i .shape .d → keptFinite s t u k ≡ keptFinite s t' u' k
-  unfolding heldFinite coreHeld carryHeld sumsHeld
+  unfolding heldFinite coreHeld carryHeld sumsHeld droppedHeld
   kept-same k lt =
       let a = ap (λ (c : Core). allFinite (c .entries)) (E .steps .cores k lt) in
       let b = bond-same s k (allFinite (keptCarry s t k)) (allFinite (keptCarry s t' k)) true (λ l. ap allFinite (E .steps .carries k l)) in
       let c = ap allFinite (E .sums k lt) in
+      let d = bond-same s k (finite (droppedAmong (t .bonds) k)) (finite (droppedAmong (t' .bonds) k)) true (λ l. ap finite (E .steps .dropped k l)) in
       cc
 
   lent-same : slicesLent s (lengthsOf (running i t u)) ≡ slicesLent s (lengthsOf (running i t' u'))
@@ -118,16 +120,21 @@ module _ (s : Shape) (t t' : Stepped) (M : Roomy s t) (M' : Roomy s t') (E : Ali
   mapped : {A : Type 0} (f : Carry × Cut → List A) → z + length (map f c) ≡ s .d
   mapped f = ap (λ (x : ℕ). z + x) (length-map c f) ∙ whole
 
-  rank-after : (k : ℕ) → z ≤ k → suc k < s .d → rankAt new k ≡ rankAt new' k
+  bond-after : (k : ℕ) → z ≤ k → suc k < s .d → bondAmong (new .bonds) k ≡ bondAmong (new' .bonds) k
   unfolding keepStep
-  rank-after k ge lt =
+  bond-after k ge lt =
       let f : Carry × Cut → List Bond = λ x. x .1 .bonds in
-      sym (ap (λ (b : Bond). b .rank) (bond-at s k (new .bonds) lt noBond))
-      ∙ ap (λ (l : List Bond). getD l 0 noBond .rank) (write-alike (bondSize s) noBond (s .d) z (map f c) (mapped f) (t .bonds) (t' .bonds) (M .bonds) (M' .bonds) k ge (omega arith))
-      ∙ ap (λ (b : Bond). b .rank) (bond-at s k (new' .bonds) lt noBond)
+      sym (bond-at s k (new .bonds) lt pastBond)
+      ∙ ap (λ (l : List Bond). bondAmong l 0) (write-alike (bondSize s) noBond (s .d) z (map f c) (mapped f) (t .bonds) (t' .bonds) (M .bonds) (M' .bonds) k ge (omega arith))
+      ∙ bond-at s k (new' .bonds) lt pastBond
+
+  -- what is asked of a bond, before z and from z on
+  asked-alike : {A : Type 0} (f : Bond → A) (k : ℕ) → suc k < s .d → f (bondAmong (t .bonds) k) ≡ f (bondAmong (t' .bonds) k) → f (bondAmong (new .bonds) k) ≡ f (bondAmong (new' .bonds) k)
+  asked-alike f k lt e =
+      below-or-not k z (λ b. ap f (bond-before s t M z inside c k b) ∙ e ∙ sym (ap f (bond-before s t' M' z inside c k b))) (λ ge. ap f (bond-after k ge lt))
 
   ranks-alike : (k : ℕ) → suc k < s .d → rankAt new k ≡ rankAt new' k
-  ranks-alike k lt = below-or-not k z (λ b. rank-before s t M z inside c k b ∙ E .ranks k lt ∙ sym (rank-before s t' M' z inside c k b)) (λ ge. rank-after k ge lt)
+  ranks-alike k lt = asked-alike (λ (b : Bond). b .rank) k lt (E .ranks k lt)
 
   left-alike : (k : ℕ) → k < s .d → leftRank new k ≡ leftRank new' k
   left-alike zero lt = refl
@@ -157,6 +164,7 @@ module _ (s : Shape) (t t' : Stepped) (M : Roomy s t) (M' : Roomy s t') (E : Ali
   unfolding keepStep
   steps-alike = record {
     ranks = ranks-alike;
+    dropped = λ k lt. asked-alike (λ (b : Bond). b .dropped) k lt (E .dropped k lt);
     cores = λ k lt. below-or-not k z (λ b. core-before s t M z inside c k b ∙ E .cores k lt ∙ sym (core-before s t' M' z inside c k b)) (λ ge. core-after k ge lt);
     carries = λ k lt. below-or-not k z (λ b. carry-before s t M z inside c k b ∙ E .carries k lt ∙ sym (carry-before s t' M' z inside c k b)) (λ ge. carry-after k ge lt);
     chain-long =

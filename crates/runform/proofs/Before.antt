@@ -17,10 +17,10 @@ use Rattle.shape.specs.declared.Shape.{Shape}
 use Rattle.shape.specs.Shapes.{pointsOf, rightOf, coreSize}
 use Rattle.shape.specs.Cores.{Core, coreWith}
 use Rattle.cutform.specs.declared.Bond.{Bond}
-use Rattle.cutform.specs.Bonds.{noBond}
+use Rattle.cutform.specs.Bonds.{noBond, pastBond}
 use Rattle.cutform.specs.Rounding.{Carry, Cut, numbersIn}
 use Rattle.runform.specs.Kept.{leftRank, rightRank, keptCore, keptCarry, heldCore}
-use Rattle.cutform.specs.Keeping.{Stepped, bondSize, carrySize, rankAt, keepStep}
+use Rattle.cutform.specs.Keeping.{Stepped, bondSize, carrySize, bondAmong, rankAt, keepStep}
 use Rattle.cutform.proofs.BondSlots.{bond-offset}
 
 -- d zones have d - 1 bonds
@@ -43,15 +43,18 @@ pub record Roomy (s : Shape) (t : Stepped) : Type 0 where
   pub carries : offset (carrySize s) (s .d) ≤ length (t .carries)
 
 module _ (s : Shape) (t : Stepped) (roomy : Roomy s t) (z : ℕ) (inside : z < s .d) (c : List (Carry × Cut)) where
-  pub rank-before : (k : ℕ) → k < z → rankAt (keepStep s z c t) k ≡ rankAt t k
+  pub bond-before : (k : ℕ) → k < z → bondAmong (keepStep s z c t .bonds) k ≡ bondAmong (t .bonds) k
   unfolding keepStep
-  rank-before k lt =
+  bond-before k lt =
       let m = offset-mono (bondSize s) z (s .d) (omega arith) in
       let r = roomy .bonds in
       let new = write (bondSize s) noBond (s .d) z (map (λ (x : Carry × Cut). x .1 .bonds) c) (t .bonds) in
       let e : take z new ≡ take z (t .bonds) =
       subst (λ (j : ℕ). take j new ≡ take j (t .bonds)) (bond-offset s z inside) (write-before (bondSize s) noBond (s .d) z (map (λ (x : Carry × Cut). x .1 .bonds) c) (t .bonds) (omega arith)) in
-      ap (λ (b : Bond). b .rank) (sym (getD-take z new k noBond lt) ∙ ap (λ (l : List Bond). getD l k noBond) e ∙ getD-take z (t .bonds) k noBond lt)
+      sym (getD-take z new k pastBond lt) ∙ ap (λ (l : List Bond). bondAmong l k) e ∙ getD-take z (t .bonds) k pastBond lt
+
+  pub rank-before : (k : ℕ) → k < z → rankAt (keepStep s z c t) k ≡ rankAt t k
+  rank-before k lt = ap (λ (b : Bond). b .rank) (bond-before k lt)
 
   pub left-before : (k : ℕ) → k ≤ z → leftRank (keepStep s z c t) k ≡ leftRank t k
   left-before zero le = refl

@@ -18,7 +18,7 @@ use Rattle.cutform.specs.Bonds.{gram, cutBond, absorb}
 use Rattle.cutform.specs.Factors.{divided, leftFactor, carryOf}
 use Rattle.cutform.specs.Rotation.{eye}
 use Rattle.cutform.specs.Sweeps.{offSum, settled, sweepsFrom, diagonalized}
-use Rattle.cutform.specs.Values.{singularOf, singulars, placeIn, indexAt, order, sorted, thresholdOf, keptRank}
+use Rattle.cutform.specs.Values.{singularOf, singulars, placeIn, indexAt, order, sorted, thresholdOf, keptRank, droppedFrom}
 use Rattle.cutform.specs.Call.{coreFinite, notBelowZero, cuttingFinite, cuttingOk, scratchAfter}
 use Rattle.cutform.specs.Rounding.{roundCore}
 use Rattle.sumform.specs.Contract.{contract}
@@ -31,7 +31,7 @@ use Rattle.runform.specs.Kept.{bare, blank, zoneAt, heldCore, carryAt, s
 use Rattle.cutform.specs.Keeping.{bondSize, carrySize, keepStep}
 use Rattle.runform.specs.Work.{keepSums, sumZone, restep, resum, sumFrom, workFrom}
 use Rattle.stepform.specs.Lone.{loneFinite, loneOk}
-use Rattle.runform.specs.Checks.{rankOk, lentFrom, scratchLent, madeFinite, coreHeld, carryHeld, sumsHeld, heldFinite, madeOk, freshOk, freshRun}
+use Rattle.runform.specs.Checks.{rankOk, lentFrom, scratchLent, madeFinite, coreHeld, carryHeld, sumsHeld, droppedHeld, heldFinite, madeOk, freshOk, freshRun}
 use Rattle.runform.specs.Requests.{foundOk, foundNumbers, numbersOk, replaceOk, replace}
 use Rattle.runform.specs.Call.{roomLent, runEnd, freshBy, replaceBy}
 use Rattle.runform.specs.Cases.{cases, AllRight}
@@ -48,13 +48,13 @@ unfolding cases freshEdges replacedEdges add sub mul div neg lt le eq ofInt ofBi
     rootOfUnits rootOf sumOn sumTo sumRows allFinite firstNotFinite stored pick listed flat first count pairs folded offset slot put fit laid write along
     every walk place entry block coreAt pointsAt sizeOk bondOk shapeOk coreSize pointSize axisFinite axisOk distance spacing shiftOf shifted
     cubicBandWeights bandOn shiftedAt scaled gram divided leftFactor carryOf cutBond absorb eye offSum settled sweepsFrom diagonalized singularOf singulars
-    placeIn indexAt order sorted thresholdOf keptRank coreFinite notBelowZero cuttingFinite cuttingOk scratchAfter roundCore contract contractAt reachesAt shiftZone scaleZone
+    placeIn indexAt order sorted thresholdOf keptRank droppedFrom coreFinite notBelowZero cuttingFinite cuttingOk scratchAfter roundCore contract contractAt reachesAt shiftZone scaleZone
     roundZone stepFrom rules bondSize carrySize sumSize bare blank zoneAt heldCore carryAt sumsAt weighedAt keepStep keepSums sumZone restep resum sumFrom
-    workFrom rankOk lentFrom scratchLent loneFinite madeFinite coreHeld carryHeld sumsHeld heldFinite loneOk madeOk freshOk freshRun foundOk foundNumbers
+    workFrom rankOk lentFrom scratchLent loneFinite madeFinite coreHeld carryHeld sumsHeld droppedHeld heldFinite loneOk madeOk freshOk freshRun foundOk foundNumbers
     numbersOk replaceOk replace roomLent runEnd freshBy replaceBy
 computed = record {
   right = (refl, (refl, (refl, (refl, (refl, (refl, (refl, (refl, (refl, (refl, (refl, (refl, (refl, (refl, (refl, (refl, (refl, (refl, (refl, tt)))))))))))))))))));
   fresh-edges = (refl, (refl, (refl, (refl, (refl, (refl, (refl, (refl, (refl, (refl, (refl, tt)))))))))));
-  replaced-edges = (refl, (refl, (refl, (refl, (refl, (refl, (refl, (refl, (refl, (refl, (refl, (refl, (refl, (refl, (refl, (refl, (refl, (refl, (refl, (refl, (refl, (refl, (refl, (refl, tt))))))))))))))))))))))));
+  replaced-edges = (refl, (refl, (refl, (refl, (refl, (refl, (refl, (refl, (refl, (refl, (refl, (refl, (refl, (refl, (refl, (refl, (refl, (refl, (refl, (refl, (refl, (refl, (refl, (refl, (refl, (refl, (refl, (refl, tt))))))))))))))))))))))))))));
   refused-fresh = (refl, refl);
 }

@@ -26,15 +26,15 @@ use Rattle.stepform.specs.Zones.{Rules}
 use Rattle.sumform.specs.Sums.{sumSize}
 use Rattle.runform.specs.Slices.{sliceCount}
 use Rattle.runform.specs.Kept.{Inputs, Summed, allCarries, allSums, lengthsFor, lengthsOf, bare, blank, keptCarry}
-use Rattle.cutform.specs.Keeping.{Stepped, carrySize, rankAt, keepStep}
+use Rattle.cutform.specs.Keeping.{Stepped, carrySize, droppedAmong, rankAt, keepStep}
 use Rattle.runform.specs.Work.{keepSums}
 use Rattle.stepform.specs.Lone.{loneFinite, loneOk}
-use Rattle.runform.specs.Checks.{rankOk, slicesLent, zoneFinite, coreHeld, carryHeld, sumsHeld, heldFinite, keptFinite}
+use Rattle.runform.specs.Checks.{rankOk, slicesLent, zoneFinite, coreHeld, carryHeld, sumsHeld, droppedHeld, heldFinite, keptFinite}
 use Rattle.runform.specs.Requests.{Request, zoneOf, present, partFits, InOrder, newFinite, newOk, foundOk, foundNumbers, shiftsOk, numbersOk, replaceOk}
 use Rattle.runform.proofs.Sound.{Sound}
 use Rattle.runform.proofs.InRow.{lent-passes}
 use Rattle.runform.proofs.Trace.{inputs-are, Trace, steppedBy, summedBy, keptBy}
-use Rattle.runform.proofs.Held.{cuts-length, sums-length, rank-fits, carry-finite, core-finite, sum-finite, figure-finite}
+use Rattle.runform.proofs.Held.{cuts-length, sums-length, rank-fits, dropped-finite, carry-finite, core-finite, sum-finite, figure-finite}
 
 -- 6 and 7 of the new part at its zone, and 8 of the shifts that are made
 abbrev pub partFinite : Request → ℕ → Bool
@@ -66,11 +66,12 @@ module _ (R : Rules) (S : Sound R) (i : Inputs) (T : Trace R i) where
   ranks-pass k lt = at-bond s k (within (rightOf s k) (rankAt t k)) (λ l. let f = rank-fits R S i (T .step) k l in and-yes _ _ (leb-yes 1 (rankAt t k) (f .0)) (leb-yes (rankAt t k) (rightOf s k) (f .1))) (ltb (suc k) (s .d)) refl
 
   kept-finite : (k : ℕ) → k < i .shape .d → keptFinite s t u k ≡ true
-  unfolding heldFinite coreHeld carryHeld sumsHeld
+  unfolding heldFinite coreHeld carryHeld sumsHeld droppedHeld
   kept-finite k lt =
       and-yes _ _ (core-finite R S i (T .step) k lt)
       (and-yes _ _ (at-bond s k (allFinite (keptCarry s t k)) (carry-finite R S i (T .step) k) (ltb (suc k) (s .d)) refl)
-      (sum-finite R S i T k lt))
+      (and-yes _ _ (sum-finite R S i T k lt)
+      (at-bond s k (finite (droppedAmong (t .bonds) k)) (dropped-finite R S i (T .step) k) (ltb (suc k) (s .d)) refl)))
 
   slices-pass : slicesLent s (lengthsOf (keptBy T)) ≡ done tt
   unfolding keepStep keepSums blank bare

@@ -26,7 +26,7 @@ use Rattle.shape.specs.Shapes.{pointsOf, rightOf, coreSize}
 use Rattle.shape.specs.Cores.{Core, coreWith, coreAt}
 use Rattle.shape.proofs.Shaped.{Shaped, shaped}
 use Rattle.cutform.specs.declared.Bond.{Bond}
-use Rattle.cutform.specs.Bonds.{noBond}
+use Rattle.cutform.specs.Bonds.{noBond, pastBond}
 use Rattle.cutform.specs.Rounding.{Carry, none, some, Cut, numbersIn}
 use Rattle.cutform.specs.Call.{coreFinite}
 use Rattle.cutform.proofs.BondSlots.{bond-one, bond-at}
@@ -36,7 +36,7 @@ use Rattle.stepform.specs.Steps.{holding, shiftZone, scaleZone, roundZone, step
 use Rattle.stepform.proofs.Restart.{step-length}
 use Rattle.sumform.specs.Sums.{sumSize}
 use Rattle.runform.specs.Kept.{Inputs, blank, zoneAt, zonesFrom, leftRank, rightRank, keptCore, keptCarry, carryAt, keptSums, sumsAt, weighedAt, weighedFrom, heldCore}
-use Rattle.cutform.specs.Keeping.{bondSize, carrySize, rankAt, keepStep}
+use Rattle.cutform.specs.Keeping.{bondSize, carrySize, bondAmong, droppedAmong, rankAt, keepStep}
 use Rattle.runform.specs.Work.{keepSums, sumZone}
 use Rattle.runform.proofs.Sound.{Sound}
 use Rattle.cutform.proofs.Cuts.{Carried}
@@ -106,14 +106,20 @@ module _ (R : Rules) (S : Sound R) (i : Inputs) (P : StepTrace R i) where
   carried-at k lt = good-at k (omega arith) .1 lt
 
   -- ---- ranks
-  rank-held : (k : ℕ) (lt : suc k < i .shape .d) → rankAt (steppedBy i (P .cuts)) k ≡ carried-at k lt .bond .rank
+  bond-held : (k : ℕ) (lt : suc k < i .shape .d) → bondAmong (steppedBy i (P .cuts) .bonds) k ≡ carried-at k lt .bond
   unfolding keepStep fit
-  rank-held k lt =
+  bond-held k lt =
       let C = carried-at k lt in
-      sym (ap (λ (b : Bond). b .rank) (bond-at (i .shape) k (steppedBy i (P .cuts) .bonds) lt noBond))
-      ∙ ap (λ (l : List Bond). getD l 0 noBond .rank) (written-slot (bondSize (i .shape)) noBond (i .shape .d) (λ (r : Carry × Cut). r .1 .bonds) no-cut refl (P .cuts) (blank i .stepped .bonds) k cuts-length (omega arith)
+      sym (bond-at (i .shape) k (steppedBy i (P .cuts) .bonds) lt pastBond)
+      ∙ ap (λ (l : List Bond). bondAmong l 0) (written-slot (bondSize (i .shape)) noBond (i .shape .d) (λ (r : Carry × Cut). r .1 .bonds) no-cut refl (P .cuts) (blank i .stepped .bonds) k cuts-length (omega arith)
       ∙ ap (λ (n : ℕ). fit noBond n (getD (P .cuts) k no-cut .1 .bonds)) (bond-one (i .shape) k lt)
       ∙ ap (fit noBond 1) (C .bonds))
+
+  rank-held : (k : ℕ) (lt : suc k < i .shape .d) → rankAt (steppedBy i (P .cuts)) k ≡ carried-at k lt .bond .rank
+  rank-held k lt = ap (λ (b : Bond). b .rank) (bond-held k lt)
+
+  pub dropped-finite : (k : ℕ) → suc k < i .shape .d → finite (droppedAmong (steppedBy i (P .cuts) .bonds) k) ≡ true
+  dropped-finite k lt = ap (λ (b : Bond). finite (b .dropped)) (bond-held k lt) ∙ carried-at k lt .dropped
 
   pub rank-fits : (k : ℕ) → suc k < i .shape .d → (1 ≤ rankAt (steppedBy i (P .cuts)) k) × (rankAt (steppedBy i (P .cuts)) k ≤ rightOf (i .shape) k)
   rank-fits k lt =

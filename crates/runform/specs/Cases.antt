@@ -17,7 +17,7 @@ use Rattle.shape.specs.Limits.{scratchFor}
 use Rattle.stepform.specs.declared.Axis.{Axis}
 use Rattle.cutform.specs.declared.Bond.{Bond}
 use Rattle.cutform.specs.Bonds.{noBond}
-use Rattle.cutform.specs.Keeping.{rankAt}
+use Rattle.cutform.specs.Keeping.{rankAt, droppedAmong}
 use Rattle.stepform.specs.declared.Settings.{Settings}
 use Rattle.stepform.specs.Zones.{rules}
 use Rattle.runform.specs.Slices.{slices}
@@ -43,9 +43,9 @@ axisOf a b = record { a = a; b = b; xmin = zero64; xmax = one64 }
 abbrev pub axes : List Axis
 axes = replicate 16 (axisOf zero64 zero64)
 
--- a bond of rank r that took no sweep
-abbrev pub bond : ℕ → Bool → Bond
-bond r settled = record { rank = r; sweeps = 0; settled = settled }
+-- a bond of rank r that took no sweep and dropped x
+abbrev pub bond : ℕ → Bool → Float → Bond
+bond r settled x = record { rank = r; sweeps = 0; settled = settled; dropped = x }
 
 abbrev pub D : List Float
 D = number 3 0 ∷ zero64 ∷ zero64 ∷ number 1 2 ∷ one64 ∷ one64 ∷ []
@@ -59,9 +59,10 @@ settings eps = record { tau = one64; c = zero64; cutting = record { eps = eps } 
 abbrev scratch : List Float
 scratch = zeros (scratchFor 6)
 
--- ---- what a call leaves: what is told of a refusal, or the first rank, the figure, the chain, the carries and the sums
+-- ---- what a call leaves: what is told of a refusal, or the first rank, what its bond dropped, the figure, the chain, the carries and the sums
 abbrev pub shown : Kept → Verdict → List ℕ
-shown k Fits = rankAt (k .stepped) 0 ∷ bits (k .summed .figure ∷ (k .stepped .chain ++ (k .stepped .carries ++ k .summed .sums)))
+shown k Fits =
+    rankAt (k .stepped) 0 ∷ bits (droppedAmong (k .stepped .bonds) 0 ∷ k .summed .figure ∷ (k .stepped .chain ++ (k .stepped .carries ++ k .summed .sums)))
 shown k (Refused r) = toldOf (Refused r)
 
 abbrev pub told : RunEnd → List ℕ
@@ -78,7 +79,8 @@ abbrev kept : Kept
 kept = keptAfter (freshly (shapeOf 2 1))
 
 abbrev holding : Float → Float → Float → Float → List ℕ
-holding x a b figure = 2 ∷ bits (figure ∷ zero64 ∷ one64 ∷ one64 ∷ zero64 ∷ number 1 2 ∷ x ∷ zero64 ∷ number 1 2 ∷ number 3 0 ∷ zero64 ∷ a ∷ b ∷ figure ∷ [])
+holding x a b figure =
+    2 ∷ bits (zero64 ∷ figure ∷ zero64 ∷ one64 ∷ one64 ∷ zero64 ∷ number 1 2 ∷ x ∷ zero64 ∷ number 1 2 ∷ number 3 0 ∷ zero64 ∷ a ∷ b ∷ figure ∷ [])
 
 -- D with a zone 1 of two points: of no axis that moves, and what a new record of axis 1 leaves: core 1's numbers, and the figure
 abbrev wide : Kept
@@ -92,19 +94,19 @@ moved a = told (replaceBy rules wide (newAxis 1 a) (zeros (scratchFor 8)))
 
 abbrev widely : Float → Float → Float → Float → Float → List ℕ
 widely a b c d figure =
-    2 ∷ bits (figure ∷ zero64 ∷ one64 ∷ one64 ∷ zero64 ∷ a ∷ b ∷ c ∷ d ∷ zero64 ∷ number 1 2 ∷ number 3 0 ∷ zero64 ∷ two64 ∷ one64 ∷ figure ∷ [])
+    2 ∷ bits (zero64 ∷ figure ∷ zero64 ∷ one64 ∷ one64 ∷ zero64 ∷ a ∷ b ∷ c ∷ d ∷ zero64 ∷ number 1 2 ∷ number 3 0 ∷ zero64 ∷ two64 ∷ one64 ∷ figure ∷ [])
 
--- D as it is kept at eps 0.75, of rank 1, but as others may have left it: with another rank, x in a carry's used room, y in unused room
+-- D as it is kept at eps 0.75, of rank 1, but as others may have left it: with another rank, 5 for the dropped 3, x in a carry's used room, y in unused room
 abbrev left : List Axis → ℕ → Float → Float → Kept
 left xs r x y = record {
   inputs = record { shape = shapeOf 2 1; axes = xs; set = settings (fin false 3 (negsuc 1)); source = D; weights = weights };
-  stepped = record { bonds = bond r false ∷ replicate 15 noBond; chain = zero64 ∷ one64 ∷ y ∷ y ∷ number 1 2 ∷ y ∷ []; carries = zero64 ∷ x ∷ y ∷ y ∷ [] };
+  stepped = record { bonds = bond r false (number 5 0) ∷ replicate 15 noBond; chain = zero64 ∷ one64 ∷ y ∷ y ∷ number 1 2 ∷ y ∷ []; carries = zero64 ∷ x ∷ y ∷ y ∷ [] };
   summed = record { sums = two64 ∷ y ∷ number 1 3 ∷ []; figure = number 1 3 };
 }
 
 -- what a new core 1 leaves there: its own slot's unused room is +0
 abbrev leaving : Float → List ℕ
-leaving y = 1 ∷ bits (number 1 3 ∷ zero64 ∷ one64 ∷ y ∷ y ∷ number 1 2 ∷ zero64 ∷ zero64 ∷ number 1 2 ∷ y ∷ y ∷ two64 ∷ y ∷ number 1 3 ∷ [])
+leaving y = 1 ∷ bits (number 5 0 ∷ number 1 3 ∷ zero64 ∷ one64 ∷ y ∷ y ∷ number 1 2 ∷ zero64 ∷ zero64 ∷ number 1 2 ∷ y ∷ y ∷ two64 ∷ y ∷ number 1 3 ∷ [])
 
 pub record Case : Type 0 where
   pub got : List ℕ

@@ -5,6 +5,7 @@ use mathlib.Core.List.{List, [], _∷_}
 use lib.Dec.{eqb}
 use lib.ListN.{length}
 use lib.Ieee.{Float}
+use Rattle.numbers.specs.Finite.{finite}
 use Rattle.answers.specs.declared.Refusal.the-variants.{Length, Number, Setting, Reach}
 use Rattle.answers.specs.Outcome.{Answer, done, Check, _then_, demand, demandEach}
 use Rattle.lists.specs.Floats.{allFinite}
@@ -21,7 +22,7 @@ use Rattle.stepform.specs.Call.{reachesAt}
 use Rattle.runform.specs.Slices.{Outputs, outputs, outputsInOrder}
 use Rattle.runform.specs.Kept.{Inputs, Summed, Kept, roomFor, lengthsFor, blank, heldCore, heldCarry, heldSums}
 use Rattle.cutform.specs.declared.Bond.{Bond}
-use Rattle.cutform.specs.Keeping.{Stepped, rankAmong}
+use Rattle.cutform.specs.Keeping.{Stepped, rankAmong, droppedAmong}
 use Rattle.runform.specs.Work.{workFrom}
 
 -- ---- 3: a kept rank is at least 1 and at most its source's
@@ -67,8 +68,12 @@ carryHeld s bonds carries k = atBond s k (allFinite (heldCarry s bonds carries k
 unfoldable pub sumsHeld : Shape → List Bond → List Float → ℕ → Bool
 sumsHeld s bonds sums k = allFinite (heldSums s bonds sums k)
 
+unfoldable pub droppedHeld : Shape → List Bond → ℕ → Bool
+droppedHeld s bonds k = atBond s k (finite (droppedAmong bonds k)) true
+
 unfoldable pub heldFinite : Shape → List Bond → Outputs (List Float) → ℕ → Bool
-heldFinite s bonds m k = coreHeld s bonds (m .chain) k && (carryHeld s bonds (m .carries) k && sumsHeld s bonds (m .sums) k)
+heldFinite s bonds m k =
+    coreHeld s bonds (m .chain) k && (carryHeld s bonds (m .carries) k && (sumsHeld s bonds (m .sums) k && droppedHeld s bonds k))
 
 abbrev pub keptFinite : Shape → Stepped → Summed → ℕ → Bool
 keptFinite s t u = heldFinite s (t .bonds) (outputs (t .chain) (t .carries) (u .sums))

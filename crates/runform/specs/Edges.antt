@@ -5,7 +5,7 @@ use mathlib.Core.Bool.{true, false}
 use mathlib.Core.List.{List, [], _∷_, _++_}
 use lib.IntN.{pos, negsuc}
 use lib.ListN.{replicate}
-use lib.Ieee.{Float, fin, nan}
+use lib.Ieee.{Float, fin, inf, nan}
 use Rattle.numbers.specs.Arithmetic.{zero64, one64, two64}
 use Rattle.answers.specs.declared.Part.the-variants.{Spectrum}
 use Rattle.answers.specs.declared.Refusal.{Refusal}
@@ -15,6 +15,7 @@ use Rattle.lists.specs.Floats.{zeros}
 use Rattle.shape.specs.declared.Shape.{Shape}
 use Rattle.shape.specs.Limits.{scratchFor}
 use Rattle.stepform.specs.declared.Axis.{Axis}
+use Rattle.cutform.specs.declared.Bond.{Bond}
 use Rattle.cutform.specs.Bonds.{noBond}
 use Rattle.stepform.specs.declared.Settings.{Settings}
 use Rattle.stepform.specs.Zones.{rules}
@@ -66,16 +67,24 @@ abbrev lent : ℕ → ℕ → ℕ → ℕ → ℕ → ℕ → List ℕ
 lent a b c d e f = told (freshCall (shapeOf 2 1) axes set (slices (zeros a) (zeros b) (zeros c) (zeros d) (zeros e)) (zeros f))
 
 -- ---- D as it is kept at eps 0.75, of rank 1; others may have written to any of this
-abbrev holding : Shape → List Axis → Settings → List Float → ℕ → Float → Kept
-holding s xs t points r figure = record {
+abbrev holdingBonds : List Bond → Shape → List Axis → Settings → List Float → Float → Kept
+holdingBonds bonds s xs t points figure = record {
   inputs = record { shape = s; axes = xs; set = t; source = D; weights = points };
   stepped = record {
-    bonds = bond r true ∷ replicate 15 noBond;
+    bonds = bonds;
     chain = zero64 ∷ one64 ∷ minus-nought ∷ minus-nought ∷ number 1 2 ∷ minus-nought ∷ [];
     carries = zero64 ∷ number 1 2 ∷ minus-nought ∷ minus-nought ∷ [];
   };
   summed = record { sums = two64 ∷ minus-nought ∷ number 1 3 ∷ []; figure = figure };
 }
+
+-- 3 was dropped, and others wrote 5
+abbrev holding : Shape → List Axis → Settings → List Float → ℕ → Float → Kept
+holding s xs t points r figure = holdingBonds (bond r true (number 5 0) ∷ replicate 15 noBond) s xs t points figure
+
+-- x stands for what the one bond dropped, y behind it
+abbrev dropping : Float → Float → Kept
+dropping x y = holdingBonds (bond 1 true x ∷ bond 0 false y ∷ replicate 14 noBond) (shapeOf 2 1) axes set weights (number 1 3)
 
 abbrev spoilt : List Axis → Settings → List Float → Kept
 spoilt xs t points = holding (shapeOf 2 1) xs t points 1 (number 1 3)
@@ -102,9 +111,9 @@ eachBeyond k = after k (newCore 2 (zeros 9)) ++ (after k (newAxis 2 still) ++ af
 abbrev short : Request → List ℕ
 short q = told (replaceBy rules well q (zeros 1))
 
--- rank 1, the figure, chain, carries and sums, with o in unused room
-abbrev rankOne : Float → List ℕ
-rankOne o = 1 ∷ bits (number 1 3 ∷ zero64 ∷ one64 ∷ o ∷ o ∷ number 1 2 ∷ o ∷ zero64 ∷ number 1 2 ∷ o ∷ o ∷ two64 ∷ o ∷ number 1 3 ∷ [])
+-- rank 1, x for what was dropped, the figure, chain, carries and sums, with o in unused room
+abbrev rankOne : Float → Float → List ℕ
+rankOne x o = 1 ∷ bits (x ∷ number 1 3 ∷ zero64 ∷ one64 ∷ o ∷ o ∷ number 1 2 ∷ o ∷ zero64 ∷ number 1 2 ∷ o ∷ o ∷ two64 ∷ o ∷ number 1 3 ∷ [])
 
 -- ---- what fresh runs give
 unfoldable pub freshEdges : List Case
@@ -123,7 +132,7 @@ freshEdges =
     ∷ case (lent 6 3 6 4 4 1) (5 ∷ 4 ∷ 0 ∷ [])
     ∷ case (lent 6 3 6 4 3 1) (5 ∷ 5 ∷ 0 ∷ [])
     -- unused room is +0, whatever was there
-    ∷ case (freshly axes set D weights) (rankOne zero64)
+    ∷ case (freshly axes set D weights) (rankOne (number 3 0) zero64)
     ∷ []
 
 -- ---- what replacements give
@@ -155,11 +164,16 @@ replacedEdges =
     ∷ case (each (spoilt axes (setOf one64 zero64 minus-one) weights)) (thrice 7 0)
     ∷ case (each (spoilt (axesOf (axisOf minus-one zero64) still) set weights)) (thrice 7 0)
     ∷ case (each (spoilt (axesOf still (axisOf minus-one zero64)) set weights)) (thrice 7 1)
-    -- unused room of what is made anew is +0
-    ∷ case (after well (newCore 0 (number 3 0 ∷ zero64 ∷ zero64 ∷ number 1 2 ∷ []))) (rankOne zero64)
+    -- what the bond dropped too, but not what stands behind the last bond
+    ∷ case (each (dropping nan zero64)) (thrice 6 0)
+    ∷ case (each (dropping (inf false) zero64)) (thrice 6 0)
+    ∷ case (each (dropping (inf true) zero64)) (thrice 6 0)
+    ∷ case (after (dropping minus-one nan) (newWeights 1 (one64 ∷ []))) (rankOne minus-one minus-nought)
+    -- unused room of what is made anew is +0, and what was dropped is told anew
+    ∷ case (after well (newCore 0 (number 3 0 ∷ zero64 ∷ zero64 ∷ number 1 2 ∷ []))) (rankOne (number 3 0) zero64)
     -- new weights make no shift: never 8, which a new core of the same zone gives
     ∷ case (after (spoilt (axesOf far far) set weights) (newCore 0 (zeros 4))) (8 ∷ 0 ∷ 0 ∷ [])
-    ∷ case (after (spoilt (axesOf far far) set weights) (newWeights 1 (one64 ∷ []))) (rankOne minus-nought)
+    ∷ case (after (spoilt (axesOf far far) set weights) (newWeights 1 (one64 ∷ []))) (rankOne (number 5 0) minus-nought)
     ∷ []
 
 -- ---- a refused fresh run: the record has what was given and zeros, the slices are as they were

@@ -1,4 +1,4 @@
--- `heldFinite` is the three tests of a zone one by one.
+-- `heldFinite` is the four tests of a zone one by one.
 use borrow.Author.Needs.{needs}
 use Rattle.runform.specs.Checks.{heldFinite}
 use Rattle.run_checks.proofs.rooms.zone_held.Statement.{statement}
@@ -10,6 +10,7 @@ returns c = cc
 
 pub zone-held-spec : {M : Type 1} → statement M
 zone-held-spec = tie.close (tie.spec
+    (λ c κs. search needs)
     (λ c κs. search needs)
     (λ c κs. search needs)
     (λ c κs. search needs)
