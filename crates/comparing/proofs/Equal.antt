@@ -57,17 +57,19 @@ flags-tell true false = tells-no true≢false
 flags-tell false true = tells-no (λ e. true≢false (sym e))
 flags-tell false false = tells-yes refl
 
-same-fields : (a b : Bond) → a .rank ≡ b .rank → a .sweeps ≡ b .sweeps → a .settled ≡ b .settled → a ≡ b
-same-fields a b e f g =
-    ap (λ (x : ℕ). record { rank = x; sweeps = a .sweeps; settled = a .settled }) e
-    ∙ ap (λ (x : ℕ). record { rank = b .rank; sweeps = x; settled = a .settled }) f
-    ∙ ap (λ (x : Bool). record { rank = b .rank; sweeps = b .sweeps; settled = x }) g
+same-fields : (a b : Bond) → a .rank ≡ b .rank → a .sweeps ≡ b .sweeps → a .settled ≡ b .settled → a .dropped ≡ b .dropped → a ≡ b
+same-fields a b e f g h =
+    ap (λ (x : ℕ). record { rank = x; sweeps = a .sweeps; settled = a .settled; dropped = a .dropped }) e
+    ∙ ap (λ (x : ℕ). record { rank = b .rank; sweeps = x; settled = a .settled; dropped = a .dropped }) f
+    ∙ ap (λ (x : Bool). record { rank = b .rank; sweeps = b .sweeps; settled = x; dropped = a .dropped }) g
+    ∙ ap (λ (x : Float). record { rank = b .rank; sweeps = b .sweeps; settled = b .settled; dropped = x }) h
 
-pub bonds-tell : (a b : Bond) → Tells ((eqb (a .rank) (b .rank) && eqb (a .sweeps) (b .sweeps)) && Bool·beq (a .settled) (b .settled)) (a ≡ b)
-bonds-tell a b =
-    tells-as (tells-both (tells-both (counts-tell (a .rank) (b .rank)) (counts-tell (a .sweeps) (b .sweeps))) (flags-tell (a .settled) (b .settled)))
-    (λ w. same-fields a b (w .0 .0) (w .0 .1) (w .1))
-    (λ e. ((ap (λ (x : Bond). x .rank) e, ap (λ (x : Bond). x .sweeps) e), ap (λ (x : Bond). x .settled) e))
+pub bonds-tell : (a b : Bond) (r : Bool) → Tells r (a .dropped ≡ b .dropped)
+    → Tells (((eqb (a .rank) (b .rank) && eqb (a .sweeps) (b .sweeps)) && Bool·beq (a .settled) (b .settled)) && r) (a ≡ b)
+bonds-tell a b r t =
+    tells-as (tells-both (tells-both (tells-both (counts-tell (a .rank) (b .rank)) (counts-tell (a .sweeps) (b .sweeps))) (flags-tell (a .settled) (b .settled))) t)
+    (λ w. same-fields a b (w .0 .0 .0) (w .0 .0 .1) (w .0 .1) (w .1))
+    (λ e. (((ap (λ (x : Bond). x .rank) e, ap (λ (x : Bond). x .sweeps) e), ap (λ (x : Bond). x .settled) e), ap (λ (x : Bond). x .dropped) e))
 
 -- ---- a loop over two lists: the first i of a and b agree
 pub record Agreed {A : Type 0} (o : A) (a b : List A) (i : ℕ) : Type 0 where

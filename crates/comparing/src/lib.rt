@@ -30,7 +30,8 @@ pub fn same_numbers(a: &[f64], b: &[f64]) -> bool
 fn same_bond(a: cutform::Bond, b: cutform::Bond) -> bool
     ensures { λ r. ⌜ Tells r (a ≡ b) ⌝ }
 {
-    (a.rank == b.rank) & (a.sweeps == b.sweeps) & (a.settled == b.settled)
+    let dropped = same_number(a.dropped, b.dropped);
+    (a.rank == b.rank) & (a.sweeps == b.sweeps) & (a.settled == b.settled) & dropped
 }
 
 fn same_bonds(a: [cutform::Bond; shape::MOST_AXES], b: [cutform::Bond; shape::MOST_AXES]) -> bool

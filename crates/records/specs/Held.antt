@@ -16,7 +16,7 @@ use Rattle.records.specs.Given.{shapeIn, axisIn, settingsIn}
 use Rattle.records.specs.Told.{refusalOf, shapeOut, bondOut}
 
 abbrev pub bondIn : CBond → Bond
-bondIn b = record { rank = b .rank; sweeps = b .sweeps; settled = b .settled }
+bondIn b = record { rank = b .rank; sweeps = b .sweeps; settled = b .settled; dropped = b .dropped }
 
 abbrev pub runIn : CRun → Run
 runIn r = record {

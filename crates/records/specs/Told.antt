@@ -32,7 +32,7 @@ abbrev pub shapeOut : Shape → CShape
 shapeOut s = record { d = s .d; left = s .left; n = s .n; right = s .right }
 
 abbrev pub bondOut : Bond → CBond
-bondOut b = record { rank = b .rank; sweeps = b .sweeps; settled = b .settled }
+bondOut b = record { rank = b .rank; sweeps = b .sweeps; settled = b .settled; dropped = b .dropped }
 
 abbrev pub roundedOut : Rounded → CRounded
 roundedOut w = record { refusal = refusalOf (w .verdict); shape = shapeOut (w .shape); bonds = map bondOut (w .bonds) }

@@ -28,6 +28,7 @@ fn bond_in(b: told::CBond) -> cutform::Bond
         rank: b.rank,
         sweeps: b.sweeps,
         settled: b.settled,
+        dropped: b.dropped,
     }
 }
 
@@ -37,6 +38,7 @@ fn no_bonds() -> [cutform::Bond; shape::MOST_AXES] {
         rank: 0,
         sweeps: 0,
         settled: false,
+        dropped: 0.0,
     }; shape::MOST_AXES]
 }
 

@@ -13,12 +13,13 @@ pub struct CRefusal {
     pub index: usize,
 }
 
-// What is said of a bond: the rank kept, the sweeps made, and whether the sum is below 1e-30 at their end.
+// What is said of a bond: the rank kept, the sweeps made, whether the sum is below 1e-30 at their end, and the largest value not kept.
 #[repr(C)]
 pub struct CBond {
     pub rank: usize,
     pub sweeps: usize,
     pub settled: bool,
+    pub dropped: f64,
 }
 
 // The chain's shape at the end, and what is said of each bond.
@@ -102,6 +103,7 @@ fn bond_out(b: cutform::Bond) -> CBond
         rank: b.rank,
         sweeps: b.sweeps,
         settled: b.settled,
+        dropped: b.dropped,
     }
 }
 
@@ -111,6 +113,7 @@ fn no_bonds() -> [CBond; shape::MOST_AXES] {
         rank: 0,
         sweeps: 0,
         settled: false,
+        dropped: 0.0,
     }; shape::MOST_AXES]
 }
 

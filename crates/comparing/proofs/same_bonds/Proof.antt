@@ -3,19 +3,19 @@ use borrow.Author.Needs.{needs}
 use borrow.Author.Tests.{not-false}
 use Prim.Native.Nat.{_≤_, _-_}
 use Rattle.shape.specs.Limits.{mostAxes}
-use Rattle.cutform.specs.Bonds.{noBond}
+use Rattle.cutform.specs.Bonds.{pastBond}
 use Rattle.comparing.proofs.Equal.{refuted, Agreed, agreed-none, agreed-more, agreed-all, differs-at}
 use Rattle.comparing.proofs.same_bonds.Statement.{statement}
 use Rattle.comparing.proofs.same_bonds.Tie as tie
 
 abbrev Inv-loop : tie.InvT-loop
-Inv-loop a b k₀ k = (k ≤ mostAxes) × Agreed noBond a b k
+Inv-loop a b k₀ k = (k ≤ mostAxes) × Agreed pastBond a b k
 
 abbrev μ-loop : tie.MeasureT-loop
 μ-loop a b k₀ k = mostAxes - k
 
 returns : tie.Need-returns Inv-loop μ-loop
-returns c = differs-at noBond _ (refuted (c .before .same-bond .ensures) (c .if1 .taken))
+returns c = differs-at pastBond _ (refuted (c .before .same-bond .ensures) (c .if1 .taken))
 
 loop-again : tie.Need-loop-again Inv-loop μ-loop
 loop-again c = (search needs, agreed-more (c .before .before .before .before .before .loop .inv .1) (c .before .same-bond .ensures .only (not-false _ (c .if1 .left))))
