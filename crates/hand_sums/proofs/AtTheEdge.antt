@@ -10,7 +10,7 @@ use Rattle.shape.specs.Shapes.{sizeOk, bondOk, shapeOk, coreSize, pointSize}
 use Rattle.stepform.specs.Axes.{axisFinite, axisOk}
 use Rattle.pairform.specs.Slabs.{plusProduct, slabEntry, slab}
 use Rattle.sumform.specs.Start.{startSized, startLent, startFinite, startOk, startCall}
-use Rattle.cutform.specs.Call.{lengthsOk, coreFinite, notBelowZero, cuttingFinite, cuttingOk, endedBy}
+use Rattle.cutform.specs.Call.{lengthsOk, coreFinite, notBelowZero, cuttingFinite, cuttingOk, endedAs}
 use Rattle.stepform.specs.Lone.{loneFinite, loneOk, courseFinite, courseOk}
 use Rattle.stepform.specs.Call.{zonesFinite, settingsOk, stepOk, stepOver, evolveOver}
 use Rattle.hand_sums.specs.Cases.{AllRight}
@@ -19,6 +19,6 @@ use Rattle.hand_sums.specs.Edges.{edges}
 pub at-the-edge : AllRight edges
 unfolding edges add mul lt eq ofBits toBits demand demandEach allFinite pick listed flat offset slot place entry coreAt pointsAt sizeOk bondOk shapeOk
     coreSize pointSize axisFinite axisOk plusProduct slabEntry slab startSized startLent startFinite startOk startCall lengthsOk coreFinite notBelowZero cuttingFinite cuttingOk
-    endedBy loneFinite loneOk courseFinite courseOk zonesFinite settingsOk stepOk stepOver evolveOver
+    endedAs loneFinite loneOk courseFinite courseOk zonesFinite settingsOk stepOk stepOver evolveOver
 at-the-edge =
     (refl, (refl, (refl, (refl, (refl, (refl, (refl, (refl, (refl, (refl, (refl, (refl, (refl, (refl, (refl, (refl, (refl, (refl, (refl, (refl, tt))))))))))))))))))))

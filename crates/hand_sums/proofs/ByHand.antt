@@ -19,36 +19,45 @@ use Rattle.cutform.specs.Bonds.{gram, cutBond, absorb}
 use Rattle.cutform.specs.Factors.{divided, leftFactor, carryOf}
 use Rattle.cutform.specs.Rotation.{tangentOf, slopeOf, cosineOf, turnedAt, eye}
 use Rattle.cutform.specs.Sweeps.{turnColumns, turnRows, cleared, turned, skipped, rotate, sweep, offSum, settled, sweepsFrom, diagonalized}
-use Rattle.cutform.specs.Values.{singularOf, singulars, placeIn, indexAt, order, sorted, thresholdOf, keptRank}
-use Rattle.cutform.specs.Call.{lengthsOk, coreFinite, notBelowZero, cuttingFinite, cuttingOk, roundFinite, roundOk, scratchAfter, endedBy, roundCall}
+use Rattle.cutform.specs.Values.{singularOf, singulars, placeIn, indexAt, order, sorted, thresholdOf, keptRank, droppedFrom}
+use Rattle.cutform.specs.Call.{lengthsOk, coreFinite, notBelowZero, cuttingFinite, cuttingOk, roundFinite, roundOk, scratchAfter, endedAs, roundCall}
 use Rattle.cutform.specs.Rounding.{roundCore, rounding}
 use Rattle.sumform.specs.Call.{innerLent, innerFinite, innerOk, weighed, innerCall}
 use Rattle.sumform.specs.Contract.{contract}
 use Rattle.sumform.specs.Product.{contractAt, sumAxis, sums, inner}
-use Rattle.stepform.specs.Lone.{loneFinite, loneOk}
-use Rattle.stepform.specs.Call.{reachesAt, zonesFinite, settingsOk, stepOk, stepOver}
-use Rattle.stepform.specs.Steps.{shiftZone, scaleZone, roundZone, stepFrom, step}
+use Rattle.stepform.specs.Lone.{loneFinite, loneOk, courseFinite, courseOk}
+use Rattle.stepform.specs.Call.{reachesAt, zonesFinite, settingsOk, stepOk, stepOver, settingsFor, evolveOver}
+use Rattle.stepform.specs.Steps.{shiftZone, scaleZone, roundZone, stepFrom, step, greater, furtherBond, further, stepsFrom, stepsOf}
 use Rattle.stepform.specs.Zones.{zonesOf, rules}
 use Rattle.hand_sums.specs.Cases.{cases, AllRight}
 use Rattle.hand_sums.specs.Overflows.{overflows}
+use Rattle.hand_sums.specs.Dropped.{dropping}
 
-both : AllRight cases × AllRight overflows
-unfolding cases overflows add sub mul div neg lt le eq ofInt ofBits toBits demand demandEach floorOf wrap rootIn wholeRoot rootOfUnits rootOf wholeOf fractionOf
+all : AllRight cases × (AllRight overflows × AllRight dropping)
+unfolding cases overflows dropping add sub mul div neg lt le eq ofInt ofBits toBits demand demandEach floorOf wrap rootIn wholeRoot rootOfUnits rootOf wholeOf fractionOf
     sumOn sumTo sumRows allFinite firstNotFinite stored pick listed flat first count pairs folded offset slot fit along every walk place entry block coreAt
     coresOf pointsAt reshaped sizeOk bondOk shapeOk coreSize pointSize axisFinite axisOk distance spacing shiftOf shifted scaled cubicBandWeights bandOn
     shiftedAt gram divided leftFactor carryOf cutBond absorb tangentOf slopeOf cosineOf turnedAt eye turnColumns turnRows cleared turned skipped rotate
-    sweep offSum settled sweepsFrom diagonalized singularOf singulars placeIn indexAt order sorted thresholdOf keptRank lengthsOk coreFinite notBelowZero cuttingFinite cuttingOk
-    roundFinite roundOk scratchAfter endedBy roundCall roundCore rounding innerLent innerFinite innerOk weighed innerCall contract contractAt sumAxis sums
-    inner loneFinite loneOk reachesAt zonesFinite settingsOk stepOk stepOver shiftZone scaleZone roundZone stepFrom step zonesOf rules
-both = (
+    sweep offSum settled sweepsFrom diagonalized singularOf singulars placeIn indexAt order sorted thresholdOf keptRank droppedFrom lengthsOk coreFinite notBelowZero cuttingFinite cuttingOk
+    roundFinite roundOk scratchAfter endedAs roundCall roundCore rounding innerLent innerFinite innerOk weighed innerCall contract contractAt sumAxis sums
+    inner loneFinite loneOk reachesAt zonesFinite settingsOk stepOk stepOver shiftZone scaleZone roundZone stepFrom step zonesOf rules courseFinite courseOk
+    greater furtherBond further stepsFrom stepsOf settingsFor evolveOver
+all = (
   (refl, (refl, (refl, (refl, (refl, (refl, (refl, (refl, (refl, (refl, (refl, tt))))))))))),
-  (refl, (refl, (refl, (refl, (refl, (refl, (refl, (refl, (refl, (refl, (refl, (refl, tt)))))))))))),
+  (
+    (refl, (refl, (refl, (refl, (refl, (refl, (refl, (refl, (refl, (refl, (refl, (refl, tt)))))))))))),
+    (refl, (refl, (refl, (refl, (refl, (refl, (refl, (refl, (refl, tt))))))))),
+  ),
 )
 
 -- the sums of the scope
 pub by-hand : AllRight cases
-by-hand = both .0
+by-hand = all .0
 
 -- which part overflowed
 pub by-part : AllRight overflows
-by-part = both .1
+by-part = all .1 .0
+
+-- what was dropped
+pub by-drop : AllRight dropping
+by-drop = all .1 .1

@@ -48,8 +48,12 @@ two-cores n r m = record { d = 2; left = 1 ∷ r ∷ replicate 14 0; n = n ∷ m
 abbrev pub D-shape : Shape
 D-shape = two-cores 2 2 1
 
+-- D with x for its last number, which is core 1's
+abbrev pub D-with : Float → List Float
+D-with x = whole 3 ∷ zero64 ∷ zero64 ∷ power 1 (pos 2) ∷ one64 ∷ x ∷ []
+
 abbrev D : List Float
-D = whole 3 ∷ zero64 ∷ zero64 ∷ power 1 (pos 2) ∷ one64 ∷ one64 ∷ []
+D = D-with one64
 
 -- ---- what a call answers: what is told of a refusal, or the right ranks, the sweeps and the chain of n cores
 abbrev ended : ℕ → Rounded → List Float → Verdict → List ℕ

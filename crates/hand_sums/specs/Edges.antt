@@ -17,7 +17,7 @@ use Rattle.stepform.specs.declared.Axis.{Axis}
 use Rattle.pairform.specs.Slabs.{slab}
 use Rattle.sumform.specs.Start.{startCall}
 use Rattle.stepform.specs.Call.{stepCall, evolveCall}
-use Rattle.hand_sums.specs.Cases.{bits, whole, D-shape, Case, case}
+use Rattle.hand_sums.specs.Cases.{bits, D-shape, D-with, Case, case}
 
 abbrev minus-one : Float
 minus-one = fin true 1 (pos 0)
@@ -31,10 +31,7 @@ three-cores l0 r0 l1 r1 l2 r2 =
     let none : List ℕ = replicate 13 0 in
     toldOf (verdictOf (chainOk (record { d = 3; left = l0 ∷ l1 ∷ l2 ∷ none; n = 1 ∷ 1 ∷ 1 ∷ none; right = r0 ∷ r1 ∷ r2 ∷ none })))
 
--- ---- D with x for its last number, which is core 1's, and with these settings
-abbrev D-with : Float → List Float
-D-with x = whole 3 ∷ zero64 ∷ zero64 ∷ whole 4 ∷ one64 ∷ x ∷ []
-
+-- ---- D with another last number, and with these settings
 abbrev axis : Float → Float → Axis
 axis a b = record { a = a; b = b; xmin = zero64; xmax = one64 }
 
