@@ -13,6 +13,9 @@ pub const SUMS: usize = 10;
 
 pub const SCRATCH: usize = shape::SCRATCH_TIMES * ENTRIES + shape::SCRATCH_BESIDE;
 
+// What the day's plan is rounded by.
+pub const MILLIONTH: f64 = 0.000001;
+
 // The zones of which an input is replaced.
 pub const HARBOUR: usize = 0;
 
@@ -148,8 +151,8 @@ pub fn axis(a: f64) -> stepform::Axis {
 }
 
 // Two kinds of weather between neighbours, mild and cold, and between Old Town and Mill also severe. A step of a quarter of an hour,
-// nothing added; what is below a millionth of the largest is rounded off. The run keeps nothing yet.
-pub fn plan() -> crate::plans::Plan {
+// nothing added; what is not above eps times the largest is rounded off. The run keeps nothing yet.
+pub fn plan(eps: f64) -> crate::plans::Plan {
     let shape = shape::Shape {
         d: ZONES,
         left: [1, 2, 3, 2, 2, 0, 0, 0, 0, 0, 0, 0, 0, 0, 0, 0],
@@ -163,7 +166,7 @@ pub fn plan() -> crate::plans::Plan {
         set: stepform::Settings {
             tau: 0.25,
             c: 0.0,
-            cutting: cutform::Cutting { eps: 0.000001 },
+            cutting: cutform::Cutting { eps },
         },
         bonds: [none; shape::MOST_AXES],
         figure: 0.0,

@@ -59,14 +59,16 @@ fn morning() -> State {
         b"it to its neighbours: a rank counts the kinds of weather told apart, a kept rank those that rounding\n",
     );
     say(
-        b"leaves; sweeps are the work of that, until it is settled. A weight is 1 where a load is within the\n",
+        b"leaves, and the largest dropped says how much the strongest of the others counts; sweeps are the work\n",
     );
     say(
-        b"pipe's limit, and less where it is not. The figure is the chance that every zone is within its\n",
+        b"of that, until it is settled. A weight is 1 where a load is within the pipe's limit, and less where\n",
     );
-    say(b"limit, a quarter of an hour on.\n\n");
+    say(
+        b"it is not. The figure is the chance that every zone is within its limit, a quarter of an hour on.\n\n",
+    );
     say(b"The fresh run:\n");
-    let a = plans::fresh(inputs::plan());
+    let a = plans::fresh(inputs::plan(inputs::MILLIONTH));
     told(true, a, b"cores, carries and sums", 0)
 }
 
@@ -119,6 +121,25 @@ fn show(now: State) {
     say(b"\n");
 }
 
+// The morning's plan at another eps.
+fn at_eps(eps: f64) {
+    let a = plans::fresh(inputs::plan(eps));
+    let plan = a.plan;
+    let run = plan.run;
+    table::at_eps(eps, run);
+}
+
+fn three_eps() {
+    say(
+        b"The morning's plan at three values of eps: each bond's kept rank, and the largest value that it dropped.\n\n",
+    );
+    say(b"     eps      Harbour     Old Town         Mill      Station    chance\n");
+    at_eps(inputs::MILLIONTH);
+    at_eps(0.2);
+    at_eps(0.3);
+    say(b"\n");
+}
+
 fn main() {
     let a = morning();
     show(a);
@@ -131,6 +152,7 @@ fn main() {
     let f = insulated(e, inputs::axis(0.01));
     say(b"At the end of the day:\n\n");
     show(f);
+    three_eps();
     say(b"Every run had the bits of a fresh run: ");
     print::yes(f.same);
     say(b"\n");

@@ -25,6 +25,22 @@ pub fn column(n: usize, width: usize) {
     say(&digits[..k]);
 }
 
+// The largest value that a bond dropped, at the right end of a column: none, one too small for six decimals, or the value.
+pub fn dropped(x: f64, width: usize) {
+    if x == 0.0 {
+        blanks(width, 7);
+        say(b"nothing");
+        return;
+    }
+    if x < 0.000001 {
+        blanks(width, 9);
+        say(b"<0.000001");
+        return;
+    }
+    blanks(width, 8);
+    say(&digits::chance(x));
+}
+
 pub fn yes(b: bool) {
     if b {
         say(b"yes");

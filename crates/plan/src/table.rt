@@ -1,4 +1,4 @@
-// The table of zones: what their inputs have, and what the run keeps of the bond behind each.
+// The table of zones: what their inputs have, and what the run keeps of the bond behind each; and what each eps keeps and drops.
 ghost use Prim.Native.Nat.{_<_};
 ghost use Rattle.shape.specs.Limits.{mostAxes};
 use crate::inputs;
@@ -23,6 +23,7 @@ fn bond(r: runform::Run, z: usize)
     print::column(b.sweeps, 8);
     say(b"  ");
     print::yes(b.settled);
+    print::dropped(b.dropped, 21);
 }
 
 fn row(r: runform::Run, z: usize)
@@ -40,10 +41,27 @@ fn row(r: runform::Run, z: usize)
 }
 
 pub fn zones(r: runform::Run) {
-    say(b"zone         left rank  points  right rank  kept rank  sweeps  settled\n");
+    say(
+        b"zone         left rank  points  right rank  kept rank  sweeps  settled  largest dropped\n",
+    );
     let mut z = 0;
     while z < inputs::ZONES {
         row(r, z);
         z += 1;
     }
+}
+
+// What each bond keeps and drops at one eps, and the figure.
+pub fn at_eps(eps: f64, r: runform::Run) {
+    say(&digits::chance(eps));
+    let mut z = 0;
+    while z + 1 < inputs::ZONES {
+        let b = r.bonds[z];
+        print::column(b.rank, 3);
+        print::dropped(b.dropped, 10);
+        z += 1;
+    }
+    say(b"  ");
+    say(&digits::chance(r.figure));
+    say(b"\n");
 }
