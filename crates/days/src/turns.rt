@@ -82,7 +82,7 @@ fn renewed(
 }
 
 // ---- what others wrote
-// What is said of a bond, with a rank that none can have; `right` is the source's there.
+// What is said of a bond, with a rank that none can have, or a dropped value that isn't finite; `right` is the source's there.
 fn spoilt_bond(q: asks::Ask, b: cutform::Bond, right: usize) -> cutform::Bond {
     let mut t = b;
     if q.flaw == asks::RANK_ZERO {
@@ -90,6 +90,9 @@ fn spoilt_bond(q: asks::Ask, b: cutform::Bond, right: usize) -> cutform::Bond {
     }
     if q.flaw == asks::RANK_ABOVE {
         t.rank = std::num::wrapping_add_usize(right, 1);
+    }
+    if q.spoilt == asks::DROPPED {
+        t.dropped = q.wrong;
     }
     t
 }

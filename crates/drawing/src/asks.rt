@@ -16,6 +16,9 @@ pub const SCRATCH: usize = 5;
 
 pub const NO_LIST: usize = 6;
 
+// what the bonds dropped, which stands in the record: among what others wrote to it takes the place of scratch
+pub const DROPPED: usize = 5;
+
 // ---- the flaws, each by the refusal that it is to bring. Those before NOT_FINITE are about the call or about a run that others
 // wrote to, and no fresh run can have them.
 // 3: a kept rank of 0, or above its source's
@@ -31,7 +34,7 @@ const PART: usize = 3;
 
 const LENT: usize = 4;
 
-// 6: a NaN or an infinity that others wrote into a list of the run, or into its figure
+// 6: a NaN or an infinity that others wrote into a list of the run, to what a bond dropped, or into its figure
 const HELD: usize = 5;
 
 pub const FIGURE: usize = 6;
@@ -76,7 +79,7 @@ pub const TWO_SETTINGS: usize = 44;
 // 2: a size of 0, and a zone number of d or more
 pub const SIZE_AND_ZONE: usize = 45;
 
-// 6, of the lower zone: in the new part, and in a list of the run
+// 6, of the lower zone: in the new part, and in a list of the run or in what a bond dropped
 pub const TWO_NUMBERS: usize = 46;
 
 // 8, where that axis is shifted: an axis record whose shift is too far
@@ -90,7 +93,7 @@ pub struct Ask {
     // the zone that is named, and the one that others wrote to
     pub zone: usize,
     pub spot: usize,
-    // the list that others wrote to, and the one whose length is wrong
+    // the list that others wrote to, or DROPPED, and the one whose length is wrong
     pub spoilt: usize,
     pub lent: usize,
     // how many numbers the part has
@@ -136,6 +139,15 @@ fn list(wanted: bool, x: usize, n: usize, d: usize) -> usize {
     }
     let drawn = chance::below(x, n);
     if (d < 2) & (drawn == CARRIES) {
+        return 0;
+    }
+    drawn
+}
+
+// What others wrote to, where it is wanted: one of the run's five lists, or what a bond dropped, where there is a bond.
+fn held(wanted: bool, x: usize, d: usize) -> usize {
+    let drawn = list(wanted, x, 6, d);
+    if (d < 2) & (drawn == DROPPED) {
         return 0;
     }
     drawn
@@ -224,8 +236,8 @@ fn asked(seed: usize, s: shape::Shape, flaw: usize) -> Ask {
     let y = chance::next(x);
     let next = chance::next(y);
     let kind = kind(x / 64, flaw);
-    let spoilt = list((flaw == HELD) | (flaw == TWO_NUMBERS), x / 256, 5, d);
-    let bond = (flaw <= RANK_ABOVE) | (spoilt == CARRIES);
+    let spoilt = held((flaw == HELD) | (flaw == TWO_NUMBERS), x / 256, d);
+    let bond = (flaw <= RANK_ABOVE) | (spoilt == CARRIES) | (spoilt == DROPPED);
     let mut zone = chance::below(y, d);
     let length = length(s, zone, kind, flaw);
     let wrong = not_finite(y / 16);
