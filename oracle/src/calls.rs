@@ -48,11 +48,12 @@ fn same_chain(xs: &[TtCore<f64>], ys: &[TtCore<f64>]) -> bool {
     xs.len() == ys.len() && xs.iter().zip(ys).all(one)
 }
 
-/// The sweeps of each bond, whether the sum is below 1e-30 at the end, and the carry that goes on.
+/// The sweeps of each bond, whether the sum is below 1e-30 at the end, the largest value that isn't kept, and the carry that goes on.
 #[derive(Default)]
 pub struct Bonds {
     pub sweeps: Vec<usize>,
     pub settled: Vec<bool>,
+    pub dropped: Vec<f64>,
     pub carries: Vec<Vec<f64>>,
 }
 
@@ -66,9 +67,12 @@ pub fn cut(core: &mut TtCore<f64>, k: usize, eps: f64, bonds: &mut Bonds) -> Res
     let carry = tt_core::diag_times_vt(&s, &v, s.len(), columns);
     demand_finite(Made::Factor, k, &u)?;
     demand_finite(Made::Carry, k, &carry)?;
+    let (kept, rest) = sweeps.values.split_at(s.len());
+    assert!(same(kept, &s), "the kept values are not the first");
     (core.r_right, core.data) = (s.len(), u);
     bonds.sweeps.push(sweeps.made);
     bonds.settled.push(sweeps.settled);
+    bonds.dropped.push(rest.first().copied().unwrap_or(0.0));
     bonds.carries.push(carry);
     Ok(())
 }
@@ -182,7 +186,7 @@ pub fn step(rule: &TtChernoff<f64>, tau: f64, state: &mut TtState<f64>) -> Resul
     Ok(bonds)
 }
 
-/// `evolve`, with the last step's counts
+/// `evolve`, with the last step's counts, and of each bond the greatest value that a step dropped
 pub fn evolve(
     rule: &TtChernoff<f64>,
     t_final: f64,
@@ -191,9 +195,16 @@ pub fn evolve(
 ) -> Result<Bonds, Refused> {
     let mut rust = state.clone();
     let mut bonds = Bonds::default();
+    let mut greatest = vec![0.0; state.cores.len() - 1];
     for _ in 0..steps {
         bonds = step(rule, t_final / steps as f64, state)?;
+        for (most, dropped) in greatest.iter_mut().zip(&bonds.dropped) {
+            if *most < *dropped {
+                *most = *dropped;
+            }
+        }
     }
+    bonds.dropped = greatest;
     rule.evolve(t_final, steps, &mut rust);
     assert!(
         same_chain(&state.cores, &rust.cores),

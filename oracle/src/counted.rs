@@ -13,6 +13,8 @@ pub struct Sweeps {
     pub made: usize,
     /// the sum is below 1e-30 at the end
     pub settled: bool,
+    /// the singular values as the Rust answers them, falling
+    pub values: Vec<f64>,
 }
 
 fn gram(a: &[f64], m: usize, n: usize) -> Vec<f64> {
@@ -90,6 +92,7 @@ pub fn gram_ev(a: &[f64], m: usize, n: usize, watch: &mut Watch) -> Sweeps {
     Sweeps {
         made,
         settled: settled(&g, n),
+        values: rust_values,
     }
 }
 

@@ -45,7 +45,7 @@ fn refused(line: &mut Line, why: &Refused) {
     };
 }
 
-/// The right rank of each core, the bonds' counts and flags, and the chain.
+/// The right rank of each core, the bonds' counts, flags and dropped values, and the chain.
 fn ended(line: &mut Line, cores: &[TtCore<f64>], end: Result<Bonds, Refused>) {
     match end {
         Err(why) => refused(line, &why),
@@ -55,6 +55,7 @@ fn ended(line: &mut Line, cores: &[TtCore<f64>], end: Result<Bonds, Refused>) {
             line.words("ranks", &ranks)
                 .words("sweeps", &bonds.sweeps)
                 .words("settled", &settled)
+                .floats("dropped", &bonds.dropped)
                 .chain(cores);
         }
     }

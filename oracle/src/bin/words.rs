@@ -8,7 +8,7 @@ use std::io::{BufWriter, Read, Write};
 /// The bits of what stands in an output or in scratch before a call: 7.5.
 const MARK: u64 = 0x401e_0000_0000_0000;
 
-/// As many places as an array of a shape or of counts has.
+/// As many places as an array of a shape or of bonds has.
 const PLACES: usize = 16;
 
 /// 16 hex digits are a float's bits, fewer digits a count; a name stands for nothing.
@@ -143,7 +143,7 @@ impl Answer {
         self.words.push(w);
     }
 
-    /// The counts at the front of an array; 0 stands behind them.
+    /// The counts at the front of an array, or the bits of floats; 0 stands behind them.
     fn counts(&mut self, each: &[u64]) {
         let at = self.words.len();
         self.words.push(each.len() as u64);
@@ -203,15 +203,14 @@ fn refusal(words: &[&str]) -> [usize; 3] {
     }
 }
 
-/// The shape, the counts, the flags, and the chain; a refused call has no counts, and leaves shape and chain as given.
+/// The shape, the bonds' counts, flags and dropped values, and the chain; a refused call has no bonds, and leaves shape and chain as given.
 fn rounded(a: &mut Answer, given: &[&str], words: &[&str], refused: bool) {
     let mut s = shape(given);
     let chain = list(given, "chain").expect("a chain");
     let length = chain.len() as u64;
     if refused {
         a.shape(&s);
-        a.counts(&[]);
-        a.counts(&[]);
+        (0..3).for_each(|_| a.counts(&[]));
         a.held(&chain, length, 0);
         return;
     }
@@ -221,6 +220,7 @@ fn rounded(a: &mut Answer, given: &[&str], words: &[&str], refused: bool) {
     a.shape(&s);
     a.counts(&list(words, "sweeps").expect("sweeps"));
     a.counts(&list(words, "settled").expect("flags"));
+    a.counts(&list(words, "dropped").expect("dropped values"));
     a.held(&list(words, "chain").expect("a chain"), length, 0);
 }
 
