@@ -160,6 +160,18 @@ pub fn flags(list: [cutform::Bond; shape::MOST_AXES]) -> bool {
     all
 }
 
+// Whether the numbers that follow, how many and each by its bits, are what the first bonds dropped, and +0 behind them.
+pub fn dropped(list: [cutform::Bond; shape::MOST_AXES]) -> bool {
+    let n = word();
+    let mut all = true;
+    let mut k = 0;
+    while k < shape::MOST_AXES {
+        all = all & (digits::pattern(list[k].dropped) == wanted(k, n, 0) as u64);
+        k += 1;
+    }
+    all
+}
+
 // Whether a shape is the one that follows: d, then the three arrays as counts.
 pub fn shape_is(s: shape::Shape) -> bool {
     let left = s.left;

@@ -10,9 +10,10 @@ pub fn ended(r: cutform::Rounded, chain: &[f64], scratch: &[f64]) -> bool {
     let shaped = crate::cases::shape_is(shape);
     let made = crate::cases::sweeps(bonds, right);
     let small = crate::cases::flags(bonds);
+    let lost = crate::cases::dropped(bonds);
     let entries = crate::cases::holds(chain);
     let left = crate::cases::holds(scratch);
-    told & shaped & made & small & entries & left
+    told & shaped & made & small & lost & entries & left
 }
 
 // One case: shape, eps, chain, the length of scratch, then the answer.
