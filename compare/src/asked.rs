@@ -44,13 +44,17 @@ pub fn fresh(run: &Run, scratch: usize) -> Option<Refusal> {
     found.lowest()
 }
 
-/// 6 of the used room of what it keeps.
+/// 6 of the used room of what it keeps; the records behind the last bond are unused.
 fn kept(found: &mut Found, run: &Run) {
+    let d = run.shape().d;
     found.finite(0, &[run.record.figure]);
-    for k in 0..run.shape().d {
+    for k in 0..d {
         found.finite(k, &run.kept_core(k).data);
         found.finite(k, run.kept_carry(k));
         found.finite(k, run.kept_sums(k));
+        if k + 1 < d {
+            found.finite(k, &[run.record.bonds[k].dropped]);
+        }
     }
 }
 

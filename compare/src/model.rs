@@ -141,6 +141,7 @@ fn step_from(run: &mut Run, z: usize) -> Result<(), Refused> {
                 rank: core.r_right,
                 sweeps: bond.sweeps[0],
                 settled: bond.settled[0],
+                dropped: bond.dropped[0],
             };
             put(
                 &mut made.carries,
@@ -182,6 +183,20 @@ pub fn replace(run: &Run, zone: usize, new: &Part) -> Result<Run, Refused> {
     Ok(made)
 }
 
+/// The run's bonds are the step's.
+fn demand_bonds(made: &Run, bonds: &Bonds) {
+    let told = &made.record.bonds[..bonds.sweeps.len()];
+    assert!(
+        told.iter().map(|bond| bond.sweeps).eq(bonds.sweeps.clone()),
+        "a run's sweeps are not the step's"
+    );
+    let dropped: Vec<f64> = told.iter().map(|bond| bond.dropped).collect();
+    assert!(
+        same(&dropped, &bonds.dropped),
+        "a run's dropped values are not the step's"
+    );
+}
+
 /// A fresh run on the inputs of this one, held to the Rust's `step`, then its `inner_separable`.
 pub fn fresh(inputs: &Run) -> Result<Run, Refused> {
     let mut made = blank(inputs);
@@ -198,14 +213,7 @@ pub fn fresh(inputs: &Run) -> Result<Run, Refused> {
         cores.into_iter().all(|(k, c)| bits(c, &made.kept_core(k))),
         "a run's cores are not the step's"
     );
-    assert!(
-        made.record
-            .bonds
-            .iter()
-            .zip(&bonds.sweeps)
-            .all(|(bond, sweeps)| bond.sweeps == *sweeps),
-        "a run's sweeps are not the step's"
-    );
+    demand_bonds(&made, &bonds);
     assert!(
         same(&[figure], &[made.record.figure]),
         "a run's figure is not the inner product"

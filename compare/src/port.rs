@@ -63,11 +63,20 @@ pub struct Sizes(pub [usize; 3]);
 
 /// What is said of a bond.
 #[repr(C)]
-#[derive(Clone, Copy, Debug, Default, PartialEq)]
+#[derive(Clone, Copy, Debug, Default)]
 pub struct Bond {
     pub rank: usize,
     pub sweeps: usize,
     pub settled: bool,
+    pub dropped: f64,
+}
+
+/// By bits: a NaN that others left must stay as it is, and a zero's sign counts.
+impl PartialEq for Bond {
+    fn eq(&self, other: &Bond) -> bool {
+        let all = |b: &Bond| (b.rank, b.sweeps, b.settled, b.dropped.to_bits());
+        all(self) == all(other)
+    }
 }
 
 /// What a rounding, a step and an evolve answer.

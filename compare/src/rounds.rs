@@ -10,7 +10,7 @@ use oracle::random::Random;
 use oracle::spill;
 use oracle::tt_core::TtCore;
 
-/// The Rust's chain at the end, with counts and flags.
+/// The Rust's chain at the end, with counts, flags and dropped values.
 pub struct Ended {
     pub cores: Vec<TtCore<f64>>,
     pub bonds: Bonds,
@@ -28,6 +28,7 @@ fn answer(s: &Shape, want: &Result<Ended, Refusal>) -> Rounded {
                 rank: end.cores[k].r_right,
                 sweeps: *made,
                 settled: end.bonds.settled[k],
+                dropped: end.bonds.dropped[k],
             };
         }
     }

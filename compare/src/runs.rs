@@ -72,11 +72,25 @@ fn spoil_inputs(r: &mut Random, run: &mut Run) {
     }
 }
 
-/// Writes to what a run keeps, as others might.
+/// What others might write as a bond's dropped value.
+fn dropped(r: &mut Random) -> f64 {
+    let any = f64::from_bits(r.next());
+    r.of(&[
+        any,
+        any,
+        1.0,
+        -0.0,
+        f64::NAN,
+        f64::INFINITY,
+        f64::NEG_INFINITY,
+    ])
+}
+
+/// Writes to what a run keeps, as others might; a dropped value also behind the last bond, where it is unused.
 fn write_to(r: &mut Random, run: &mut Run) {
     let k = r.below(run.shape().d.clamp(1, 16));
     let any = f64::from_bits(r.next());
-    match r.below(10) {
+    match r.below(11) {
         0 => spoil::number(r, &mut run.chain),
         1 => spoil::number(r, &mut run.carries),
         2 => spoil::number(r, &mut run.sums),
@@ -86,6 +100,10 @@ fn write_to(r: &mut Random, run: &mut Run) {
         6 => run.record.bonds[k].sweeps = r.of(&[0, 51, usize::MAX]),
         7 => run.record.bonds[k].settled ^= true,
         8 => {
+            let place = r.below(16);
+            run.record.bonds[r.of(&[k, place])].dropped = dropped(r);
+        }
+        9 => {
             let kept = [&mut run.chain, &mut run.carries, &mut run.sums];
             kept.into_iter()
                 .flatten()
