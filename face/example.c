@@ -1,5 +1,5 @@
-/* A plan of two zones: its figure, its file and its rounding; of one zone: a step, and a run with new weights; of two zones again: a
- * run that refuses a wild forecast and a wild weight. */
+/* A plan of two zones: its figure, its file and two roundings, of which one drops a value; of one zone: a step, and a run with new
+ * weights; of two zones again: a run that refuses a wild forecast and a wild weight. */
 #include "uyavsker.h"
 
 #include <stdio.h>
@@ -27,10 +27,18 @@ static bool refused(uyavsker_refusal refusal)
     return true;
 }
 
+static size_t entries_of(uyavsker_shape shape)
+{
+    size_t entries = 0;
+    for (size_t k = 0; k < shape.d; k++)
+        entries += shape.left[k] * shape.n[k] * shape.right[k];
+    return entries;
+}
+
 static void print_figure(uyavsker_shape shape, const double *chain)
 {
     const double weights[] = {1, 2, 1};
-    uyavsker_figure figure = uyavsker_inner_separable(shape, chain, ENTRIES, weights, 3);
+    uyavsker_figure figure = uyavsker_inner_separable(shape, chain, entries_of(shape), weights, 3);
     if (!refused(figure.refusal))
         printf("figure %g\n", figure.value);
 }
@@ -47,6 +55,22 @@ static void print_file(uyavsker_shape shape, const double *chain)
     refused(uyavsker_read_chain(file, BYTES - 1, read, ENTRIES).refusal);
     if (!refused(uyavsker_read_chain(file, BYTES, read, ENTRIES).refusal))
         print_numbers("read", read, ENTRIES);
+}
+
+/* At its bond the plan has the values 4 and 3. With eps 0.75 the second isn't above 0.75*4, and is dropped. */
+static void print_rounding(uyavsker_shape shape, double eps)
+{
+    double chain[] = {3, 0, 0, 4, 1, 1};
+    double scratch[UYAVSKER_SCRATCH(ENTRIES)];
+    uyavsker_rounded rounded =
+        uyavsker_tt_round(shape, (uyavsker_cutting){.eps = eps}, chain, ENTRIES, scratch, UYAVSKER_SCRATCH(ENTRIES));
+    if (refused(rounded.refusal))
+        return;
+    uyavsker_bond bond = rounded.bonds[0];
+    print_numbers("rounded", chain, entries_of(rounded.shape));
+    printf("eps %g: rank %zu, sweeps %zu, settled %s, dropped %g\n", eps, bond.rank, bond.sweeps, bond.settled ? "yes" : "no",
+           bond.dropped);
+    print_figure(rounded.shape, chain);
 }
 
 static const uyavsker_shape one_zone = {.d = 1, .left = {1}, .n = {4}, .right = {1}};
@@ -105,17 +129,11 @@ static void print_wild(uyavsker_shape shape)
 int main(void)
 {
     uyavsker_shape shape = {.d = 2, .left = {1, 2}, .n = {2, 1}, .right = {2, 1}};
-    double chain[] = {3, 0, 0, 4, 1, 1};
-    double scratch[UYAVSKER_SCRATCH(ENTRIES)];
+    const double chain[] = {3, 0, 0, 4, 1, 1};
     print_figure(shape, chain);
     print_file(shape, chain);
-    uyavsker_rounded rounded =
-        uyavsker_tt_round(shape, (uyavsker_cutting){.eps = 0}, chain, ENTRIES, scratch, UYAVSKER_SCRATCH(ENTRIES));
-    if (refused(rounded.refusal))
-        return 1;
-    print_numbers("rounded", chain, ENTRIES);
-    printf("sweeps %zu, settled %s\n", rounded.bonds[0].sweeps, rounded.bonds[0].settled ? "yes" : "no");
-    print_figure(rounded.shape, chain);
+    print_rounding(shape, 0);
+    print_rounding(shape, 0.75);
     print_step();
     print_run();
     print_wild(shape);

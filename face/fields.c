@@ -48,9 +48,23 @@ static bool same_shape(const uyavsker_shape *a, const uyavsker_shape *b)
         && same_sizes(a->right, b->right, ZONES);
 }
 
+/* By its bits, since == takes -0 for +0 and no NaN for itself. */
+static bool same_bits(double a, double b)
+{
+    return memcmp(&a, &b, sizeof a) == 0;
+}
+
 static bool same_bond(const uyavsker_bond *a, const uyavsker_bond *b)
 {
-    return a->rank == b->rank && a->sweeps == b->sweeps && a->settled == b->settled;
+    return a->rank == b->rank && a->sweeps == b->sweeps && a->settled == b->settled && same_bits(a->dropped, b->dropped);
+}
+
+static bool same_bonds(const uyavsker_bond *a, const uyavsker_bond *b)
+{
+    for (size_t k = 0; k < ZONES; k++)
+        if (!same_bond(&a[k], &b[k]))
+            return false;
+    return true;
 }
 
 static bool same_axis(const uyavsker_axis *a, const uyavsker_axis *b)
@@ -76,6 +90,14 @@ static bool as_wanted(void)
         && same(lent.chain, wanted.chain, NUMBERS) && same(lent.carries, wanted.carries, CARRIES)
         && same(lent.sums, wanted.sums, SUMS) && same(lent.part, wanted.part, NUMBERS)
         && same(lent.scratch, wanted.scratch, UYAVSKER_SCRATCH(NUMBERS));
+}
+
+/* Entry (il, im, ir) of zone k of the ladder. */
+static double *entry_at(double *chain, size_t k, size_t il, size_t im, size_t ir)
+{
+    for (size_t before = 0; before < k; before++)
+        chain += source.left[before] * source.n[before] * source.right[before];
+    return chain + (il * source.n[k] + im) * source.right[k] + ir;
 }
 
 static void fill(double *numbers, size_t count, double first)
@@ -171,17 +193,24 @@ static void figures(void)
 
 static uyavsker_rounded rounded;
 
-static void expect_rounded(size_t times, double entry(size_t, size_t, size_t, size_t), const char *what)
+/* What is said of the ladder's bonds after so many roundings, and nothing behind them. Only the first rounding drops something: what
+ * it leaves has no value but 1. */
+static void put_bonds(uyavsker_bond *bonds, size_t times)
 {
-    put_cores(wanted.chain, &kept, &kept, entry);
-    memset(wanted.scratch, 0, sizeof wanted.scratch);
-    bool said = true;
+    memset(bonds, 0, ZONES * sizeof *bonds);
     for (size_t k = 0; k < LAST; k++) {
         bool all = sweeps_all(k) && (times == 1 || kept_rank(k) > 1);
-        const uyavsker_bond bond = {.rank = kept_rank(k), .sweeps = all ? 50 : 0, .settled = !all};
-        said = said && same_bond(&rounded.bonds[k], &bond);
+        bonds[k] = (uyavsker_bond){.rank = kept_rank(k), .sweeps = all ? 50 : 0, .settled = !all, .dropped = dropped_value(k)};
     }
-    expect(same_shape(&rounded.shape, &kept) && said, what);
+}
+
+static void expect_rounded(size_t times, double entry(size_t, size_t, size_t, size_t), const char *what)
+{
+    uyavsker_bond bonds[ZONES];
+    put_bonds(bonds, times);
+    put_cores(wanted.chain, &kept, &kept, entry);
+    memset(wanted.scratch, 0, sizeof wanted.scratch);
+    expect(same_shape(&rounded.shape, &kept) && same_bonds(rounded.bonds, bonds), what);
     expect(same(lent.chain, wanted.chain, NUMBERS) && same(lent.scratch, wanted.scratch, UYAVSKER_SCRATCH(NUMBERS)), what);
 }
 
@@ -218,6 +247,22 @@ static void roundings(void)
     expect_rounded(2, evolved_entry, "answer of evolve");
 }
 
+/* At its bond the chain has the values 2, 4 and 3, and keeps what lies above eps times 4. */
+static double dropped_with(double eps)
+{
+    double chain[] = {2, 0, 0, 0, 4, 0, 0, 0, 3, 1, 1, 1};
+    uyavsker_rounded told = uyavsker_tt_round(two_zones(3, 3, 1), (uyavsker_cutting){.eps = eps}, chain, 12, lent.scratch,
+                                              UYAVSKER_SCRATCH(12));
+    return told.bonds[0].dropped;
+}
+
+static void largest_values_dropped(void)
+{
+    expect(same_bits(dropped_with(0.75), 3), "the larger of two values dropped");
+    expect(same_bits(dropped_with(0.5), 2), "the one value dropped");
+    expect(same_bits(dropped_with(0.25), 0), "no value dropped");
+}
+
 /* ---- kept runs ---- */
 
 static uyavsker_ran ran;
@@ -245,9 +290,15 @@ static uyavsker_refusal new_weights(const size_t *n)
     return ran.refusal;
 }
 
+/* Moves the last zone by two points, and any other once around. */
+static uyavsker_axis new_record(void)
+{
+    return ladder_axis(zone, zone == LAST ? 2 : (double)(9 + zone));
+}
+
 static uyavsker_refusal new_axis(const size_t *n)
 {
-    ran = uyavsker_replace_axis(given, zone, ladder_axis(LAST, 2), lent.source, n[0], lent.weights, n[1], lent.chain, n[2],
+    ran = uyavsker_replace_axis(given, zone, new_record(), lent.source, n[0], lent.weights, n[1], lent.chain, n[2],
                                 lent.carries, n[3], lent.sums, n[4], lent.scratch, n[5]);
     return ran.refusal;
 }
@@ -256,9 +307,9 @@ static uyavsker_refusal new_axis(const size_t *n)
 static void expect_record(const char *what)
 {
     const uyavsker_run *run = &ran.run;
-    bool alike = true;
+    bool alike = same_bonds(run->bonds, given.bonds);
     for (size_t k = 0; k < ZONES; k++)
-        alike = alike && same_axis(&run->axes[k], &given.axes[k]) && same_bond(&run->bonds[k], &given.bonds[k]);
+        alike = alike && same_axis(&run->axes[k], &given.axes[k]);
     expect(alike && same_shape(&run->shape, &given.shape) && run->figure == given.figure, what);
     expect(run->settings.tau == given.settings.tau && run->settings.c == given.settings.c, what);
     expect(run->settings.cutting.eps == given.settings.cutting.eps, what);
@@ -327,13 +378,16 @@ static void fresh_runs(void)
     want_carries();
     want_sums();
     expect(as_wanted(), "slices of fresh_run");
-    for (size_t k = 0; k < LAST; k++) {
-        given.bonds[k].rank = kept_rank(k);
-        given.bonds[k].sweeps = sweeps_all(k) ? 50 : 0;
-        given.bonds[k].settled = !sweeps_all(k);
-    }
+    put_bonds(given.bonds, 1);
     given.figure = wanted.sums[SUMS - 1];
     expect_record("record of fresh_run");
+}
+
+/* What others wrote to every bond's record, and behind them. */
+static void mark_bonds(void)
+{
+    for (size_t k = 0; k < ZONES; k++)
+        given.bonds[k] = (uyavsker_bond){.rank = kept_rank(k), .sweeps = 100 + k, .settled = k % 4 == 1, .dropped = 6e5 + (double)k};
 }
 
 /* A run that others wrote to, with another value in every field and slice. What a replacement of the last zone reads of it are the
@@ -342,11 +396,7 @@ static void give_written_run(void)
 {
     give_ladder();
     zone = LAST;
-    for (size_t k = 0; k < ZONES; k++) {
-        given.bonds[k].rank = kept_rank(k);
-        given.bonds[k].sweeps = 100 + k;
-        given.bonds[k].settled = k % 4 == 1;
-    }
+    mark_bonds();
     given.figure = -7.5;
     memcpy(lent.carries + CARRIES - 4, (double[]){2, 3, 5, 7}, 4 * sizeof(double));
     memcpy(lent.sums + SUMS - 3, (double[]){11, 13}, 2 * sizeof(double));
@@ -409,7 +459,7 @@ static void replacements(void)
     want_last(last_entry, 2);
     want_figure();
     expect_lengths(new_axis, without_part, 6, "replace_axis");
-    given.axes[LAST] = ladder_axis(LAST, 2);
+    given.axes[LAST] = new_record();
     expect_replaced("answer of replace_axis");
 }
 
@@ -425,14 +475,82 @@ static void numbers_that_new_weights_look_at(void)
     expect_refusal(new_weights(lengths), UYAVSKER_NUMBER, 1, "carries of replace_weights");
 }
 
+/* What a bond dropped is a number of its left core; behind the d - 1 bonds nobody asks for it. Either way it stays. */
+static void expect_dropped_is_looked_at(uyavsker_refusal call(const size_t *lengths), const size_t *lengths, const char *what)
+{
+    const double wild[] = {NAN, INFINITY, -INFINITY};
+    for (size_t k = 0; k < ZONES; k++) {
+        bool asked = k < LAST;
+        give_written_run();
+        given.bonds[k].dropped = wild[k % 3];
+        expect_refusal(call(lengths), asked ? UYAVSKER_NUMBER : UYAVSKER_NONE, asked ? k : 0, what);
+        expect(same_bonds(ran.run.bonds, given.bonds), what);
+    }
+}
+
+static void dropped_that_is_not_finite(void)
+{
+    const size_t without_part[] = {NUMBERS, POINTS, NUMBERS, CARRIES, SUMS, UYAVSKER_SCRATCH(NUMBERS)};
+    const size_t with_core[] = {NUMBERS, POINTS, NUMBERS, CARRIES, SUMS, LAST_NUMBERS, UYAVSKER_SCRATCH(NUMBERS)};
+    const size_t with_weights[] = {NUMBERS, POINTS, NUMBERS, CARRIES, SUMS, LAST_POINTS, UYAVSKER_SCRATCH(NUMBERS)};
+    expect_dropped_is_looked_at(new_core, with_core, "dropped, not finite, in replace_core");
+    expect_dropped_is_looked_at(new_weights, with_weights, "dropped, not finite, in replace_weights");
+    expect_dropped_is_looked_at(new_axis, without_part, "dropped, not finite, in replace_axis");
+}
+
+/* A fresh run to whose bonds others wrote. The new part for zone 5 is what stands there already: so many numbers from `part` on. */
+static void give_marked_run(const double *part, size_t count)
+{
+    const size_t lengths[] = {NUMBERS, POINTS, NUMBERS, CARRIES, SUMS, UYAVSKER_SCRATCH(NUMBERS)};
+    give_ladder();
+    expect_refusal(fresh(lengths), UYAVSKER_NONE, 0, "a run to be marked");
+    given = ran.run;
+    mark_bonds();
+    zone = 5;
+    memcpy(lent.part, part, count * sizeof *part);
+    wanted = lent;
+}
+
+/* The record has what was written left of zone 5 and behind the bonds, and from zone 5 on what a fresh run says. */
+static void expect_said_from_zone(const char *what)
+{
+    uyavsker_bond fresh_bonds[ZONES];
+    put_bonds(fresh_bonds, 1);
+    memcpy(given.bonds + zone, fresh_bonds + zone, (LAST - zone) * sizeof *fresh_bonds);
+    expect(as_wanted(), what);
+    expect_record(what);
+}
+
+/* Zone 5 has the sizes 7, 14, 3; before it stand 9 + 10 + 11 + 12 + 13 points. */
+static void bonds_that_are_said_anew(void)
+{
+    enum { CORE = 7 * 14 * 3 };
+    const size_t without_part[] = {NUMBERS, POINTS, NUMBERS, CARRIES, SUMS, UYAVSKER_SCRATCH(NUMBERS)};
+    const size_t with_core[] = {NUMBERS, POINTS, NUMBERS, CARRIES, SUMS, CORE, UYAVSKER_SCRATCH(NUMBERS)};
+    const size_t with_weights[] = {NUMBERS, POINTS, NUMBERS, CARRIES, SUMS, 14, UYAVSKER_SCRATCH(NUMBERS)};
+
+    give_marked_run(lent.weights + 55, 14);
+    expect_refusal(new_weights(with_weights), UYAVSKER_NONE, 0, "the same weights");
+    expect(as_wanted(), "slices with the same weights");
+    expect_record("record with the same weights");
+
+    give_marked_run(entry_at(lent.source, 5, 0, 0, 0), CORE);
+    expect_refusal(new_core(with_core), UYAVSKER_NONE, 0, "the same core");
+    expect_said_from_zone("answer with the same core");
+
+    give_marked_run(lent.source, 0);
+    expect_refusal(new_axis(without_part), UYAVSKER_NONE, 0, "the same axis");
+    expect_said_from_zone("answer with the same axis");
+}
+
 /* ---- refusals in the work: number, place and index differ from each other, and where they can from 0 ---- */
 
-/* Entry (il, im, ir) of zone k of the ladder. */
-static double *entry_at(double *chain, size_t k, size_t il, size_t im, size_t ir)
+/* Of a chain that isn't rounded nothing is said, whatever was found at the bonds before. */
+static void expect_unrounded(uyavsker_refusal told, uint8_t number, size_t place, size_t index, const char *what)
 {
-    for (size_t before = 0; before < k; before++)
-        chain += source.left[before] * source.n[before] * source.right[before];
-    return chain + (il * source.n[k] + im) * source.right[k] + ir;
+    const uyavsker_bond blank[ZONES] = {{.rank = 0}};
+    expect_stored(told, number, place, index, what);
+    expect(same_bonds(rounded.bonds, blank), what);
 }
 
 static void refused_roundings(void)
@@ -442,21 +560,21 @@ static void refused_roundings(void)
     /* Zone 5 has three columns, and 1e200 in a row of its own in the last: the Gram matrix at (2, 2). */
     put_cores(lent.chain, &source, &source, source_entry);
     *entry_at(lent.chain, 5, 2, 2, 2) = 1e200;
-    expect_stored(round_ladder(lengths + 1), UYAVSKER_SPECTRUM, 5, 2 * 3 + 2, "tt_round refused");
+    expect_unrounded(round_ladder(lengths + 1), UYAVSKER_SPECTRUM, 5, 2 * 3 + 2, "tt_round refused");
 
     /* Zone 3, of 12 points and 4 columns, moves by half a point: 0.78125 of point 6 and 0.125 of each neighbour are too much. */
     put_cores(lent.chain, &source, &source, source_entry);
     for (size_t im = 5; im <= 7; im++)
         *entry_at(lent.chain, 3, 1, im, 2) = DBL_MAX;
     axes.axis[3] = ladder_axis(3, 0.5);
-    expect_stored(step_ladder(lengths), UYAVSKER_ENTRY, 3, (1 * 12 + 6) * 4 + 2, "step refused");
+    expect_unrounded(step_ladder(lengths), UYAVSKER_ENTRY, 3, (1 * 12 + 6) * 4 + 2, "step refused");
     axes = ladder_axes();
 
     /* Of zone 6 column 2 alone is kept, and 1e100 carried from it to row 2 of zone 7, which becomes row 0 of two columns. */
     put_cores(lent.chain, &source, &source, source_entry);
     *entry_at(lent.chain, 6, 0, 2, 2) = 1e100;
     *entry_at(lent.chain, 7, 2, 9, 1) = 1e300;
-    expect_stored(evolve_ladder(lengths), UYAVSKER_FACTOR, 7, 9 * 2 + 1, "evolve refused");
+    expect_unrounded(evolve_ladder(lengths), UYAVSKER_FACTOR, 7, 9 * 2 + 1, "evolve refused");
 }
 
 /* Sum 6 of zone 2 is sum 2 of zone 1, which is 1.25, times entry (2, 6, 6) and the weight of point 6. */
@@ -503,18 +621,26 @@ static void refused_cores(void)
     expect_record("record of replace_axis refused");
 }
 
-/* A run of the scope's chain D, whose source and chain, weights and sums, carries and new core are of one length. Nothing moves. */
-static void slices_of_one_length(void)
+/* The scope's chain D for a run, in which nothing moves. */
+static void give_d(double eps)
 {
-    const size_t lengths[] = {6, 3, 6, 4, 3, UYAVSKER_SCRATCH(6)};
-    const size_t with_part[] = {6, 3, 6, 4, 3, 4, UYAVSKER_SCRATCH(6)};
     give_ladder();
-    given = (uyavsker_run){.shape = two_zones(2, 2, 1), .bonds = {{.rank = 2, .settled = true}}, .figure = 11};
+    given = (uyavsker_run){.shape = two_zones(2, 2, 1), .settings = {.cutting = {.eps = eps}}};
     memset(&axes, 0, sizeof axes);
     memcpy(lent.source, (double[]){3, 0, 0, 4, 1, 1}, 6 * sizeof(double));
     memcpy(lent.weights, (double[]){1, 2, 1}, 3 * sizeof(double));
     wanted = lent;
     memset(wanted.scratch, 0, UYAVSKER_SCRATCH(6) * sizeof(double));
+}
+
+/* A run of D, whose source and chain, weights and sums, carries and new core are of one length. */
+static void slices_of_one_length(void)
+{
+    const size_t lengths[] = {6, 3, 6, 4, 3, UYAVSKER_SCRATCH(6)};
+    const size_t with_part[] = {6, 3, 6, 4, 3, 4, UYAVSKER_SCRATCH(6)};
+    give_d(0);
+    given.bonds[0] = (uyavsker_bond){.rank = 2, .settled = true};
+    given.figure = 11;
     memcpy(wanted.chain, (double[]){0, 1, 1, 0, 4, 3}, 6 * sizeof(double));
     memcpy(wanted.carries, (double[]){0, 4, 3, 0}, 4 * sizeof(double));
     memcpy(wanted.sums, (double[]){2, 1, 11}, 3 * sizeof(double));
@@ -533,6 +659,29 @@ static void slices_of_one_length(void)
     given.figure = 16;
     expect_record("record of a new core in D");
     expect(as_wanted(), "slices of a new core in D");
+}
+
+/* D has the values 4 and 3 at its bond; 3 isn't above three quarters of 4, and is dropped. What is left makes 2*4 with the weights. A
+ * new core has 6 and 4, of which 4 is dropped, and makes 1*6. Behind the one bond stands what isn't finite, and stays. */
+static void cuts_in_a_run(void)
+{
+    const double wild[] = {NAN, INFINITY, -INFINITY};
+    const size_t lengths[] = {6, 3, 6, 4, 3, UYAVSKER_SCRATCH(6)};
+    const size_t with_part[] = {6, 3, 6, 4, 3, 4, UYAVSKER_SCRATCH(6)};
+    give_d(0.75);
+    given.bonds[0] = (uyavsker_bond){.rank = 1, .settled = true, .dropped = 3};
+    given.figure = 8;
+    expect_refusal(fresh(lengths), UYAVSKER_NONE, 0, "a run of D that is cut");
+    expect_record("record of a run of D that is cut");
+
+    zone = 0;
+    memcpy(lent.part, (double[]){0, 6, 4, 0}, 4 * sizeof(double));
+    for (size_t k = 1; k < ZONES; k++)
+        given.bonds[k].dropped = wild[k % 3];
+    expect_refusal(new_core(with_part), UYAVSKER_NONE, 0, "a new core in D that is cut");
+    given.bonds[0].dropped = 4;
+    given.figure = 6;
+    expect_record("record of a new core in D that is cut");
 }
 
 /* ---- pairs ---- */
@@ -671,14 +820,18 @@ int main(void)
     starts();
     figures();
     roundings();
+    largest_values_dropped();
     fresh_runs();
     replacements();
     numbers_that_new_weights_look_at();
+    dropped_that_is_not_finite();
+    bonds_that_are_said_anew();
     refused_roundings();
     refused_figure();
     refused_weights();
     refused_cores();
     slices_of_one_length();
+    cuts_in_a_run();
     pairs();
     refused_pairs();
     pairs_of_one_length();

@@ -28,6 +28,11 @@ bool sweeps_all(size_t k)
     return k % 3 == 1;
 }
 
+double dropped_value(size_t k)
+{
+    return kept_rank(k) < source_rank(k) ? (double)(k + 1) * 0x1p-14 : 0;
+}
+
 double last_entry(size_t il, size_t im)
 {
     return 1 + 1000 * (double)il + (double)(im * im);
@@ -47,7 +52,7 @@ double source_entry(size_t k, size_t il, size_t im, size_t ir)
         return 0x1p-50;
     if (im != ir || il != row)
         return 0;
-    return ir < kept_rank(k) ? 1 : 0x1p-10;
+    return ir < kept_rank(k) ? 1 : dropped_value(k);
 }
 
 static double moved_once(size_t il, size_t im)

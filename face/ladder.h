@@ -13,9 +13,13 @@ size_t kept_rank(size_t k);
 /* The shape with these ranks, and with 9 + k points in zone k. */
 uyavsker_shape ladder_shape(size_t (*rank)(size_t k));
 
-/* Number (il, im, ir) of zone k. But in the last zone each column has one number in a row of its own: 1, or 2^-10 where a
- * rounding drops the column. Column 1 of every third zone also has 2^-50 beside the 1 of column 0: g*g is 2^-100, which is
- * below 1e-30, so no sweep rotates, and 2*g*g isn't, so all 50 are made. */
+/* The value that a rounding of the source drops at bond k, another one at each, and +0 where it keeps all. Its square is exact, and
+ * so is the root of that. */
+double dropped_value(size_t k);
+
+/* Number (il, im, ir) of zone k. But in the last zone each column has one number in a row of its own, which is then its value:
+ * 1, or what is dropped. Column 1 of every third zone also has 2^-50 beside the 1 of column 0: g*g is 2^-100, which is below
+ * 1e-30, so no sweep rotates, and 2*g*g isn't, so all 50 are made. */
 double source_entry(size_t k, size_t il, size_t im, size_t ir);
 
 /* The same after one step and after two: zone 0 changes its sign, and the last zone is moved along its axis by one point. */

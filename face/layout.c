@@ -43,12 +43,13 @@ AT(uyavsker_sizes, left, 0);
 AT(uyavsker_sizes, n, 8);
 AT(uyavsker_sizes, right, 16);
 
-SIZE(uyavsker_bond, 24);
+SIZE(uyavsker_bond, 32);
 AT(uyavsker_bond, rank, 0);
 AT(uyavsker_bond, sweeps, 8);
 AT(uyavsker_bond, settled, 16);
+AT(uyavsker_bond, dropped, 24);
 
-SIZE(uyavsker_rounded, 800);
+SIZE(uyavsker_rounded, 928);
 AT(uyavsker_rounded, refusal, 0);
 AT(uyavsker_rounded, shape, 24);
 AT(uyavsker_rounded, bonds, 416);
@@ -70,13 +71,13 @@ SIZE(uyavsker_seen, 16);
 AT(uyavsker_seen, inside, 0);
 AT(uyavsker_seen, value, 8);
 
-SIZE(uyavsker_run, 1320);
+SIZE(uyavsker_run, 1448);
 AT(uyavsker_run, shape, 0);
 AT(uyavsker_run, axes, 392);
 AT(uyavsker_run, settings, 904);
 AT(uyavsker_run, bonds, 928);
-AT(uyavsker_run, figure, 1312);
+AT(uyavsker_run, figure, 1440);
 
-SIZE(uyavsker_ran, 1344);
+SIZE(uyavsker_ran, 1472);
 AT(uyavsker_ran, refusal, 0);
 AT(uyavsker_ran, run, 24);

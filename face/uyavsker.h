@@ -38,7 +38,7 @@ enum {
     UYAVSKER_BOND = 3,      /* ranks that don't meet, or a kept rank that can't be: the bond's left core */
     UYAVSKER_ZONE = 4,      /* a zone number of d or more: 0 */
     UYAVSKER_LENGTH = 5,    /* a lent length is wrong: the slice, from 0, in the call's order */
-    UYAVSKER_NUMBER = 6,    /* a number isn't finite: its core, axis or zone; a lone setting 0 */
+    UYAVSKER_NUMBER = 6,    /* a number isn't finite: its core, axis or zone; a bond's: its left core; a lone setting 0 */
     UYAVSKER_SETTING = 7,   /* a setting is below zero, or steps are outside limits: the axis for a, else 0 */
     UYAVSKER_REACH = 8,     /* a shift is too far: the first such axis */
     UYAVSKER_ENTRY = 9,     /* a shifted entry: its axis; a scaled one: 0; index as in its core.
@@ -141,15 +141,18 @@ typedef struct {
 
 /* ---- what a call answers ---- */
 
-/* What is said of a bond: the rank kept, the sweeps made, and whether the sum is below 1e-30 at their end. `settled` holds
- * nothing but true and false. */
+/* What is said of a bond: the rank kept, the sweeps made, whether the sum is below 1e-30 at their end, and the largest
+ * singular value that was dropped, +0 if all were kept. The values are those of the bond's matrix as rounding meets it, which
+ * is its left core with what the bond before handed on. `settled` holds nothing but true and false. */
 typedef struct {
     size_t rank;
     size_t sweeps;
     bool settled;
+    double dropped;
 } uyavsker_bond;
 
-/* The chain's shape at the end, and what is said of each of the d - 1 bonds; blank behind them, and after a refusal. */
+/* The chain's shape at the end, and what is said of each of the d - 1 bonds; blank behind them, and after a refusal: 0, 0,
+ * false, +0. */
 typedef struct {
     uyavsker_refusal refusal;
     uyavsker_shape shape;
@@ -181,7 +184,9 @@ typedef struct {
     double value;
 } uyavsker_seen;
 
-/* A kept run but for its five slices: what it is made from; what is said of bond k; the figure. */
+/* A kept run but for its five slices: what it is made from; what is said of bond k; the figure. `dropped` of the first d - 1
+ * bonds must be finite, else a replacement refuses the run with 6 at the bond's left core; behind them it may be anything,
+ * and stays. */
 typedef struct {
     uyavsker_shape shape;
     uyavsker_axis axes[UYAVSKER_MOST_AXES];
@@ -190,6 +195,7 @@ typedef struct {
     double figure;
 } uyavsker_run;
 
+/* After a refusal: the run as it was given; a fresh one with blank bonds and the figure +0. */
 typedef struct {
     uyavsker_refusal refusal;
     uyavsker_run run;
@@ -227,13 +233,15 @@ uyavsker_rounded uyavsker_tt_round(uyavsker_shape shape, uyavsker_cutting cuttin
 uyavsker_rounded uyavsker_step(uyavsker_shape shape, uyavsker_settings settings, uyavsker_axes axes, size_t count,
                                double *chain, size_t chain_len, double *scratch, size_t scratch_len);
 
+/* Of each bond it answers rank, sweeps and settled of the last step, and the greatest `dropped` of all steps. */
 uyavsker_rounded uyavsker_evolve(uyavsker_shape shape, uyavsker_course course, uyavsker_axes axes, size_t count,
                                  double *chain, size_t chain_len, double *scratch, size_t scratch_len);
 
 /* ---- kept runs ----
  *
  * The slices of a run: the source chain, the weights, the stepped chain (as long as the source), the carries (right[k] times
- * right[k] numbers for each of the d - 1 bonds) and the sums (right[k] numbers per axis). */
+ * right[k] numbers for each of the d - 1 bonds) and the sums (right[k] numbers per axis). A new core or axis writes anew
+ * what is said of the bonds from its zone on; new weights write nothing of that. */
 
 /* One step of the source, then its inner product with the weights. */
 uyavsker_ran uyavsker_fresh_run(uyavsker_shape shape, uyavsker_axes axes, uyavsker_settings settings,

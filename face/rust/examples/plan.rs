@@ -1,5 +1,5 @@
-//! A plan of two zones: its figure, its file and its rounding; of one zone: a step, and a run with new weights; of two zones
-//! again: a run that refuses a wild forecast and a wild weight.
+//! A plan of two zones: its figure, its file and two roundings, of which one drops a value; of one zone: a step, and a run
+//! with new weights; of two zones again: a run that refuses a wild forecast and a wild weight.
 use uyavsker::{text_of, Axis, Chain, Cutting, Refusal, Run, Settings, Shape};
 
 fn print_numbers(name: &str, numbers: &[f64]) {
@@ -14,6 +14,17 @@ fn print_file(chain: &Chain) -> Result<(), Refusal> {
         println!("{refusal}");
     }
     print_numbers("read", Chain::read(&file)?.numbers());
+    Ok(())
+}
+
+// At its bond the plan has the values 4 and 3. With eps 0.75 the second isn't above 0.75*4, and is dropped.
+fn print_rounding(mut chain: Chain, weights: &[f64], eps: f64) -> Result<(), Refusal> {
+    let bond = chain.round(&Cutting { eps })?.bonds()[0];
+    let settled = if bond.settled { "yes" } else { "no" };
+    let (rank, sweeps, dropped) = (bond.rank, bond.sweeps, bond.dropped);
+    print_numbers("rounded", chain.numbers());
+    println!("eps {eps}: rank {rank}, sweeps {sweeps}, settled {settled}, dropped {dropped}");
+    println!("figure {}", chain.inner(weights)?);
     Ok(())
 }
 
@@ -71,15 +82,11 @@ fn print_wild(shape: Shape, numbers: &[f64], weights: &[f64]) -> Result<(), Refu
 fn main() -> Result<(), Refusal> {
     let (weights, two_zones) = ([1.0, 2.0, 1.0], [3.0, 0.0, 0.0, 4.0, 1.0, 1.0]);
     let shape = Shape::new(&[(1, 2, 2), (2, 1, 1)])?;
-    let mut chain = Chain::new(shape, two_zones.to_vec())?;
+    let chain = Chain::new(shape, two_zones.to_vec())?;
     println!("figure {}", chain.inner(&weights)?);
     print_file(&chain)?;
-    let rounded = chain.round(&SETTINGS.cutting)?;
-    print_numbers("rounded", chain.numbers());
-    let bond = rounded.bonds()[0];
-    let settled = if bond.settled { "yes" } else { "no" };
-    println!("sweeps {}, settled {settled}", bond.sweeps);
-    println!("figure {}", chain.inner(&weights)?);
+    print_rounding(chain.clone(), &weights, 0.0)?;
+    print_rounding(chain, &weights, 0.75)?;
     let (one_zone, numbers) = (Shape::new(&[(1, 4, 1)])?, [4.0, 8.0, 16.0, 0.0]);
     print_step(one_zone, &numbers)?;
     print_run(one_zone, &numbers)?;

@@ -81,7 +81,8 @@ pub fn step(
     Rounded::of(told)
 }
 
-/// All steps of a course; refused at a later step, the chain is that of before the first.
+/// All steps of a course; refused at a later step, the chain is that of before the first. Of each bond it answers the last
+/// step's rank, sweeps and `settled`, and the greatest `dropped` of all steps.
 pub fn evolve(
     shape: &Shape,
     course: &Course,

@@ -93,7 +93,8 @@ impl Chain {
         Ok(self.packed(rounded))
     }
 
-    /// All steps of a course; refused, the chain is as it was.
+    /// All steps of a course; refused, the chain is as it was. Of each bond it answers the last step's rank, sweeps and
+    /// `settled`, and the greatest `dropped` of all steps.
     pub fn evolve(&mut self, course: &Course, axes: &[Axis]) -> Result<Rounded, Refusal> {
         let (numbers, scratch) = (&mut self.numbers, &mut self.scratch);
         let rounded = calls::evolve(&self.shape, course, axes, numbers, scratch)?;

@@ -42,7 +42,7 @@ pub struct Course {
 
 /// What is said of a bond.
 #[repr(C)]
-#[derive(Clone, Copy, Debug, PartialEq, Eq)]
+#[derive(Clone, Copy, Debug, PartialEq)]
 pub struct Bond {
     /// The rank that is kept.
     pub rank: usize,
@@ -50,10 +50,13 @@ pub struct Bond {
     pub sweeps: usize,
     /// Whether the sum is below 1e-30 at their end.
     pub settled: bool,
+    /// The largest singular value that was dropped, +0 if all were kept; `evolve` answers the greatest of all its steps. The
+    /// values are those of the bond's matrix as rounding meets it, which is its left core with what the bond before handed on.
+    pub dropped: f64,
 }
 
 /// What a call that rounds answers.
-#[derive(Clone, Copy, Debug, PartialEq, Eq)]
+#[derive(Clone, Copy, Debug, PartialEq)]
 pub struct Rounded {
     /// The chain's shape at the end.
     pub shape: Shape,

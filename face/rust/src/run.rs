@@ -5,6 +5,9 @@ use crate::records::{listed, Axis, Bond, Settings};
 use crate::refusal::Refusal;
 use crate::shape::Shape;
 
+#[cfg(test)]
+mod tests;
+
 // What a run keeps, and scratch.
 #[derive(Clone, Debug)]
 struct Slices {
@@ -144,7 +147,7 @@ impl Run {
         &self.kept.sums
     }
 
-    /// What is said of each bond.
+    /// What is said of each bond. A new core or axis writes it anew from its zone on, new weights don't.
     pub fn bonds(&self) -> &[Bond] {
         self.shape().of_bonds(&self.record.bonds)
     }

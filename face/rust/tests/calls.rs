@@ -57,6 +57,7 @@ fn a_rounding() {
         rank: 2,
         sweeps: 0,
         settled: true,
+        dropped: 0.0,
     };
     assert_eq!(rounded.bonds(), [bond]);
     assert!(scratch.iter().all(|x| *x == 0.0));
@@ -66,11 +67,31 @@ fn a_rounding() {
 fn a_rounding_that_cuts() {
     let mut chain = Chain::new(shape_of_d(), D.to_vec()).unwrap();
     let rounded = chain.round(&Cutting { eps: 0.75 }).unwrap();
+    // The bond's values are 4 and 3, and 3 isn't above 0.75*4.
+    let bond = Bond {
+        rank: 1,
+        sweeps: 0,
+        settled: true,
+        dropped: 3.0,
+    };
+    assert_eq!(rounded.bonds(), [bond]);
     assert_eq!(rounded.shape, Shape::new(&[(1, 2, 1), (1, 1, 1)]).unwrap());
     assert_eq!(
         (chain.shape(), chain.numbers()),
         (&rounded.shape, &[0.0, 1.0, 4.0][..])
     );
+}
+
+#[test]
+fn the_largest_value_dropped() {
+    let shape = Shape::new(&[(1, 3, 3), (3, 1, 1)]).unwrap();
+    let numbers = [2.0, 0.0, 0.0, 0.0, 4.0, 0.0, 0.0, 0.0, 3.0, 1.0, 1.0, 1.0];
+    // The bond's values are 2, 4 and 3, of which those above eps times 4 are kept.
+    for (eps, rank, dropped) in [(0.75, 1, 3.0), (0.5, 2, 2.0), (0.25, 3, 0.0)] {
+        let mut chain = Chain::new(shape, numbers.to_vec()).unwrap();
+        let bond = chain.round(&Cutting { eps }).unwrap().bonds()[0];
+        assert_eq!((bond.rank, bond.dropped), (rank, dropped));
+    }
 }
 
 #[test]
@@ -159,6 +180,41 @@ fn steps_of_a_course_are_single_steps() {
         &[AXIS],
     );
     assert_eq!((none, once), (Err(refusal(7, 0)), twice));
+}
+
+// Core 0 has a column of ones, which a step leaves, and two that it halves. The values that it meets are then 2, 1.5 and `third`.
+fn halving(third: f64) -> Chain {
+    let signs = [(1.0, 1.0), (1.0, -1.0), (-1.0, -1.0), (-1.0, 1.0)];
+    let core = signs.map(|(x, y)| [1.0, 1.5 * x, third * y]).concat();
+    let shape = Shape::new(&[(1, 4, 3), (3, 1, 1)]).unwrap();
+    Chain::new(shape, [core, vec![1.0; 3]].concat()).unwrap()
+}
+
+#[test]
+fn a_course_answers_the_greatest_value_that_it_dropped() {
+    let (axes, cutting) = ([AXIS, Axis::default()], Cutting { eps: 0.5 });
+    let (tau, c) = (1.0, 0.0);
+    let course = Course {
+        t_final: 3.0,
+        steps: 3,
+        c,
+        cutting,
+    };
+    for third in [0.25, 0.75] {
+        let mut chain = halving(third);
+        let mut step = || chain.step(&Settings { tau, c, cutting }, &axes).unwrap();
+        // A rounding leaves columns of length 1, so the second step meets the values 1 and 0.5, and the third 1 alone.
+        let dropped = [step(), step(), step()].map(|stepped| stepped.bonds()[0].dropped);
+        assert_eq!(dropped, [third, 0.5, 0.0]);
+        let bond = Bond {
+            rank: 1,
+            sweeps: 0,
+            settled: true,
+            dropped: third.max(0.5),
+        };
+        let evolved = halving(third).evolve(&course, &axes).unwrap();
+        assert_eq!(evolved.bonds(), [bond]);
+    }
 }
 
 #[test]

@@ -75,21 +75,30 @@ fn a_figure_of_slices_of_one_length() {
     );
 }
 
-// What is said of the ladder's bonds, where `all` says whether all sweeps are made at one.
+// What is said of the ladder's bonds, where `all` says whether all sweeps are made at one. Only the first rounding drops something:
+// what it leaves has no value but 1.
 fn bonds(all: impl Fn(usize) -> bool) -> Vec<Bond> {
     let bond = |k| Bond {
         rank: kept_rank(k),
         sweeps: if all(k) { 50 } else { 0 },
         settled: !all(k),
+        dropped: dropped_value(k),
     };
     (0..LAST).map(bond).collect()
+}
+
+// Holds what is said of bonds to what is wanted, and what was dropped by its bits, which tell +0 from -0.
+fn assert_bonds(said: &[Bond], wanted: &[Bond]) {
+    let bits = |bonds: &[Bond]| -> Vec<u64> { bonds.iter().map(|b| b.dropped.to_bits()).collect() };
+    assert_eq!(said, wanted);
+    assert_eq!(bits(said), bits(wanted));
 }
 
 // Holds what a call answers, and the slices it was lent, to the ladder after so many roundings.
 fn assert_rounded(rounded: &Rounded, lent: (&[f64], &[f64]), times: usize, entry: Entry) {
     let kept = cores(kept_rank);
     let all = |k: usize| sweeps_all(k) && (times == 1 || kept_rank(k) > 1);
-    assert_eq!(rounded.bonds(), bonds(all));
+    assert_bonds(rounded.bonds(), &bonds(all));
     assert!(rounded.shape.cores().eq(kept.clone()));
     let mut chain = numbers(&kept, &kept, entry);
     chain.resize(lent.0.len(), 0.0);
@@ -237,7 +246,7 @@ impl Wanted {
     }
 
     fn assert_is(&self, run: &Run) {
-        assert_eq!(run.bonds(), bonds(sweeps_all));
+        assert_bonds(run.bonds(), &bonds(sweeps_all));
         assert_eq!(run.shape(), shape(source_rank));
         assert_eq!((run.axes(), run.settings()), (&self.axes[..], &SETTINGS));
         assert_eq!(

@@ -1,5 +1,5 @@
 //! Kept runs: what a replacement leaves is the fresh run on the present inputs.
-use uyavsker::{Axis, Cutting, Refusal, Run, Settings, Shape};
+use uyavsker::{Axis, Bond, Cutting, Refusal, Run, Settings, Shape};
 
 const SETTINGS: Settings = Settings {
     tau: 0.5,
@@ -47,10 +47,16 @@ fn first() -> Run {
     fresh(&AXES, numbers(s.entries(), 1), numbers(s.points(), 2)).unwrap()
 }
 
+fn dropped_bits(run: &Run) -> Vec<u64> {
+    let bits = |bond: &Bond| bond.dropped.to_bits();
+    run.bonds().iter().map(bits).collect()
+}
+
 fn assert_same(run: &Run, other: &Run) {
     assert_eq!(run.figure().to_bits(), other.figure().to_bits());
     assert_eq!(run.stepped(), other.stepped());
     assert_eq!(run.bonds(), other.bonds());
+    assert_eq!(dropped_bits(run), dropped_bits(other));
     assert_eq!(
         (run.source(), run.weights()),
         (other.source(), other.weights())
@@ -124,6 +130,26 @@ fn a_replaced_axis() {
         let anew = fresh(&axes, first().source().to_vec(), first().weights().to_vec()).unwrap();
         assert_same(&run, &anew);
         assert_eq!(figure, anew.figure());
+    }
+}
+
+// With eps 1 a bond keeps its largest value alone, and drops the next.
+#[test]
+fn a_replacement_drops_what_a_fresh_run_drops() {
+    let (s, cutting) = (shape(), Cutting { eps: 1.0 });
+    let settings = Settings {
+        cutting,
+        ..SETTINGS
+    };
+    let made = |source| Run::fresh(&s, &AXES, &settings, source, numbers(s.points(), 2)).unwrap();
+    for (zone, range) in [(0, 0..8), (1, 8..26), (2, 26..41)] {
+        let mut source = numbers(s.entries(), 1);
+        let part = numbers(range.len(), 3);
+        let mut run = made(source.clone());
+        run.replace_core(zone, &part).unwrap();
+        source[range].copy_from_slice(&part);
+        assert_same(&run, &made(source));
+        assert!(run.bonds().iter().all(|bond| bond.dropped > 0.0));
     }
 }
 

@@ -50,6 +50,15 @@ pub fn sweeps_all(k: usize) -> bool {
     k % 3 == 1
 }
 
+/// The value that a rounding of the source drops at bond k, another one at each, and 0 where it keeps all.
+pub fn dropped_value(k: usize) -> f64 {
+    if kept_rank(k) < source_rank(k) {
+        (k + 1) as f64 * 2f64.powi(-14)
+    } else {
+        0.0
+    }
+}
+
 pub fn last_entry(il: usize, im: usize) -> f64 {
     (1 + 1000 * il + im * im) as f64
 }
@@ -74,7 +83,7 @@ pub fn source_entry(k: usize, (il, im, ir): (usize, usize, usize)) -> f64 {
     if ir < kept_rank(k) {
         1.0
     } else {
-        2f64.powi(-10)
+        dropped_value(k)
     }
 }
 
