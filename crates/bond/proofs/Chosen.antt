@@ -71,6 +71,7 @@ module _ (eps : Float) (n : ℕ) (g : List Float) (s : Stage) (q : Chosen) (e : 
       order-lt n (A .0) (ap length (sym (S .0)) ∙ length-tab n _) (S .1) (q .order) (sym (ap (λ (x : Chosen). x .order) (done-inj (A .2)))) j (omega arith)
 
 -- the matrix, the order and the values stand at the front of slices of which parts were lent
-pub chosen-front : (eps : Float) (n m : ℕ) (g : List Float) (s : Stage) (k : ℕ) (x : Float) (js js′ : List ℕ) (ss ss′ : List Float) → chosenOf eps n (take (m - 0) g) ≡ staged s (record { rank = k; dropped = x; order = js; values = ss }) → length js ≡ n → length ss ≡ n
+pub chosen-front : (eps : Float) (n m : ℕ) (g : List Float) (s : Stage) (k : ℕ) (x : Float) (js js′ : List ℕ) (ss ss′ : List Float)
+    → chosenOf eps n (take (m - 0) g) ≡ staged s (record { rank = k; dropped = x; order = js; values = ss }) → length js ≡ n → length ss ≡ n
     → chosenOf eps n (take m g) ≡ staged s (record { rank = k; dropped = x; order = take n (js ++ js′); values = take n (ss ++ ss′) })
 chosen-front eps n m g s k x js js′ ss ss′ e a b = ap (λ (j : ℕ). chosenOf eps n (take j g)) (sym (sub-zero m)) ∙ e ∙ rw (part-again n js js′ a, part-again n ss ss′ b)

@@ -146,7 +146,8 @@ fn kept_are(stage: answers::Stage, rank: usize, dropped: f64) -> Kept
 // The values, then their order, then the values in it.
 fn keep_all(g: &[f64], n: usize, eps: f64, sv: &mut [f64], ss: &mut [f64], js: &mut [usize]) -> Kept
     requires { ⌜ (length (now g) ≡ n * n) × (1 ≤ n) × (length (now sv) ≡ n) × (length (now ss) ≡ n) × (length (now js) ≡ n) ⌝ }
-    ensures { λ r. ⌜ chosenOf eps n (now (g .entry)) ≡ staged (r .stage) (record { rank = r .rank; dropped = r .dropped; order = now (js .exit); values = now (ss .exit) }) ⌝ }
+    ensures { λ r. ⌜ chosenOf eps n (now (g .entry))
+        ≡ staged (r .stage) (record { rank = r .rank; dropped = r .dropped; order = now (js .exit); values = now (ss .exit) }) ⌝ }
 {
     singular_values(g, n, sv);
     let made = lists::stored(sv);

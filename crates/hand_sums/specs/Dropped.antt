@@ -14,6 +14,7 @@ use Rattle.stepform.specs.declared.Axis.{Axis}
 use Rattle.cutform.specs.declared.Rounded.{Rounded}
 use Rattle.cutform.specs.declared.Bond.{Bond}
 use Rattle.cutform.specs.Call.{roundCall}
+use Rattle.stepform.specs.declared.Settings.{Settings}
 use Rattle.stepform.specs.Call.{stepCall, evolveCall}
 use Rattle.hand_sums.specs.Cases.{bits, power, whole, two-cores, D-shape, D-with, Case, case}
 
@@ -40,16 +41,17 @@ still = record { a = zero64; b = zero64; xmin = zero64; xmax = one64 }
 
 abbrev stepped : List ℕ
 stepped =
-    said (stepCall (record { tau = one64; c = zero64; cutting = record { eps = three-quarters } }) D-shape (still ∷ still ∷ []) (D-with one64) (zeros (scratchFor 6)) .result)
+    let settings : Settings = record { tau = one64; c = zero64; cutting = record { eps = three-quarters } } in
+    said (stepCall settings D-shape (still ∷ still ∷ []) (D-with one64) (zeros (scratchFor 6)) .result)
 
--- ---- steps that move core 0 by one of its four points either way: a column of one number stays, one of two signs is halved where its neighbours differ in one,
--- and to nothing where they differ in both
+-- ---- steps that move core 0 by one of its four points either way: a column of one number stays; of two signs, with one neighbour of each, it is halved
 abbrev moving : Axis
 moving = record { a = quarter64; b = zero64; xmin = zero64; xmax = whole 3 }
 
 -- rounded by eps 0.5
 abbrev evolved : ℕ → ℕ → Float → List Float → List ℕ
-evolved r steps final l = said (evolveCall final steps zero64 (record { eps = half64 }) (two-cores 4 r 1) (moving ∷ still ∷ []) l (zeros (scratchFor (length l))) .result)
+evolved r steps final l =
+    said (evolveCall final steps zero64 (record { eps = half64 }) (two-cores 4 r 1) (moving ∷ still ∷ []) l (zeros (scratchFor (length l))) .result)
 
 -- columns 1, 1, 1, 1 and 2, 2, -2, -2: of norms 2 and 2 after the first step, of 1 and 0.5 after the second, which drops 0.5; the third drops nothing
 abbrev two-columns : List Float

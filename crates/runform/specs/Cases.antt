@@ -100,7 +100,11 @@ widely a b c d figure =
 abbrev left : List Axis → ℕ → Float → Float → Kept
 left xs r x y = record {
   inputs = record { shape = shapeOf 2 1; axes = xs; set = settings (fin false 3 (negsuc 1)); source = D; weights = weights };
-  stepped = record { bonds = bond r false (number 5 0) ∷ replicate 15 noBond; chain = zero64 ∷ one64 ∷ y ∷ y ∷ number 1 2 ∷ y ∷ []; carries = zero64 ∷ x ∷ y ∷ y ∷ [] };
+  stepped = record {
+    bonds = bond r false (number 5 0) ∷ replicate 15 noBond;
+    chain = zero64 ∷ one64 ∷ y ∷ y ∷ number 1 2 ∷ y ∷ [];
+    carries = zero64 ∷ x ∷ y ∷ y ∷ [];
+  };
   summed = record { sums = two64 ∷ y ∷ number 1 3 ∷ []; figure = number 1 3 };
 }
 

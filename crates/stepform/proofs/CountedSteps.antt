@@ -26,6 +26,7 @@ use Rattle.stepform.specs.declared.Axis.{Axis}
 use Rattle.cutform.specs.declared.Bond.{Bond}
 use Rattle.cutform.specs.declared.Cutting.{Cutting}
 use Rattle.cutform.specs.Bonds.{noBond, pastBond}
+use Rattle.cutform.specs.Keeping.{bondAmong}
 use Rattle.cutform.specs.Rounding.{Carry, none, Cut, After, rounding, coresIn, bondsIn, afterCuts}
 use Rattle.cutform.specs.Claims.{BondCounted, coreIn, RoundCounted}
 use Rattle.cutform.proofs.CountedBonds.{round-once}
@@ -105,9 +106,9 @@ further-counted cutting cs said bonds most long R = record {
   ran = R .ran;
   bond = λ k lt.
       let B = R .bond k lt in
-      let e : getD (further said bonds) k noBond ≡ furtherBond (getD said k pastBond) (getD bonds k noBond) =
-      getD-tab mostAxes (λ (j : ℕ). furtherBond (getD said j pastBond) (getD bonds j pastBond)) k noBond (omega arith)
-      ∙ ap (furtherBond (getD said k pastBond)) (getD-any bonds k pastBond noBond (omega arith)) in
+      let e : getD (further said bonds) k noBond ≡ furtherBond (bondAmong said k) (getD bonds k noBond) =
+      getD-tab mostAxes (λ (j : ℕ). furtherBond (bondAmong said j) (bondAmong bonds j)) k noBond (omega arith)
+      ∙ ap (furtherBond (bondAmong said k)) (getD-any bonds k pastBond noBond (omega arith)) in
       subst (BondCounted k (stateAt none (R .cuts) k) (coreIn cs k)) (sym e) (record { core = B .core; taken = B .taken; end = B .end; counted = B .counted });
 }
 

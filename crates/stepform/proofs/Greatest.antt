@@ -1,10 +1,9 @@
 -- What is said of a bond after a further step: of what was dropped before and in it, neither is greater than what is told, which is one of them. Assumes nothing.
-use mathlib.Core.Path.{_≡_, refl, sym, ap, _∙_}
-use mathlib.Core.Logic.{_⊎_, inl, inr, ⊎-elim}
+use mathlib.Core.Path.{_≡_, refl}
+use mathlib.Core.Logic.{_⊎_, inl, inr}
 use Prim.Native.Nat.{ℕ, _<_}
-use mathlib.Core.Bool.{Bool, true, false, true≢false}
+use mathlib.Core.Bool.{Bool, true, false}
 use mathlib.Core.List.{List}
-use lib.ListN.{getD}
 use lib.Ieee.{Float, lt}
 use Rattle.numbers.specs.Finite.{finite}
 use Rattle.lists.specs.Lists.{pick}
@@ -14,6 +13,7 @@ use Rattle.lists.proofs.Tests.{fails}
 use Rattle.shape.specs.Limits.{mostAxes}
 use Rattle.cutform.specs.declared.Bond.{Bond}
 use Rattle.cutform.specs.Bonds.{pastBond}
+use Rattle.cutform.specs.Keeping.{bondAmong}
 use Rattle.stepform.specs.Steps.{greater, furtherBond, further}
 
 -- z is the greater of x and y
@@ -45,6 +45,6 @@ unfolding furtherBond
 further-bond said b f g = record { rank = refl; sweeps = refl; settled = refl; dropped = greater-is (said .dropped) (b .dropped) f g }
 
 -- of every bond
-pub further-at : (said bonds : List Bond) (k : ℕ) → k < mostAxes → getD (further said bonds) k pastBond ≡ furtherBond (getD said k pastBond) (getD bonds k pastBond)
+pub further-at : (said bonds : List Bond) (k : ℕ) → k < mostAxes → bondAmong (further said bonds) k ≡ furtherBond (bondAmong said k) (bondAmong bonds k)
 unfolding further
-further-at said bonds k l = getD-tab mostAxes (λ (j : ℕ). furtherBond (getD said j pastBond) (getD bonds j pastBond)) k pastBond l
+further-at said bonds k l = getD-tab mostAxes (λ (j : ℕ). furtherBond (bondAmong said j) (bondAmong bonds j)) k pastBond l

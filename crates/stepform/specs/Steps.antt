@@ -3,7 +3,7 @@
 use Prim.Native.Nat.{ℕ, zero, suc}
 use mathlib.Core.List.{List}
 use lib.Dec.{ltb}
-use lib.ListN.{length, getD, replicate}
+use lib.ListN.{length, replicate}
 use lib.Ieee.{Float, lt}
 use Rattle.answers.specs.Outcome.{Answer, done, bind}
 use Rattle.lists.specs.Lists.{pick, tab}
@@ -12,7 +12,8 @@ use Rattle.shape.specs.Limits.{mostAxes}
 use Rattle.shape.specs.Cores.{Core, coreWith}
 use Rattle.stepform.specs.declared.Axis.{Axis}
 use Rattle.cutform.specs.declared.Bond.{Bond}
-use Rattle.cutform.specs.Bonds.{noBond, pastBond}
+use Rattle.cutform.specs.Bonds.{noBond}
+use Rattle.cutform.specs.Keeping.{bondAmong}
 use Rattle.cutform.specs.Rounding.{Carry, none, Cut, coresIn, After, afterCuts}
 use Rattle.stepform.specs.declared.Settings.{Settings}
 use Rattle.stepform.specs.Zones.{Zone, zonesOf, Rules, rules}
@@ -56,7 +57,7 @@ furtherBond said b = record { rank = b .rank; sweeps = b .sweeps; settled = b .s
 
 -- and of all bonds
 unfoldable pub further : List Bond → List Bond → List Bond
-further said bonds = tab mostAxes (λ (k : ℕ). furtherBond (getD said k pastBond) (getD bonds k pastBond))
+further said bonds = tab mostAxes (λ (k : ℕ). furtherBond (bondAmong said k) (bondAmong bonds k))
 
 -- m steps, each from the chain that the last one left
 unfoldable pub stepsFrom : ℕ → Settings → List Axis → After → Answer After

@@ -3,20 +3,20 @@ use Prim.Native.Nat.{ℕ, _-_, _≤_}
 use mathlib.Core.Path.{_≡_}
 use mathlib.Core.List.{List}
 use native.Mathlib.Numerals.{add-one}
-use lib.ListN.{length, getD, set}
+use lib.ListN.{length, set}
 use Rattle.lists.specs.Lists.{iter}
 use Rattle.lists.proofs.Turns.{turns}
 use Rattle.lists.proofs.Tables.{fill-all}
 use Rattle.shape.specs.Limits.{mostAxes}
 use Rattle.cutform.specs.declared.Bond.{Bond}
-use Rattle.cutform.specs.Bonds.{pastBond}
+use Rattle.cutform.specs.Keeping.{bondAmong}
 use Rattle.stepform.specs.Steps.{furtherBond, further}
 use Rattle.steps.proofs.further.Statement.{statement}
 use Rattle.steps.proofs.further.Tie as tie
 
 abbrev Inv-loop : tie.InvT-loop
 Inv-loop said bonds all₀ k₀ all k =
-    (k ≤ mostAxes) × (length all ≡ mostAxes) × (all ≡ iter k (λ (j : ℕ) (l : List Bond). set l j (furtherBond (getD said j pastBond) (getD bonds j pastBond))) said)
+    (k ≤ mostAxes) × (length all ≡ mostAxes) × (all ≡ iter k (λ (j : ℕ) (l : List Bond). set l j (furtherBond (bondAmong said j) (bondAmong bonds j))) said)
 
 abbrev μ-loop : tie.MeasureT-loop
 μ-loop said bonds all₀ k₀ all k = mostAxes - k
