@@ -34,7 +34,7 @@ padded o n [] k =
 padded o n (y ∷ x) zero = refl
 padded o n (y ∷ x) (suc k) = padded o n x k
 
-in-array : {A : Type 0} (o : A) (n : ℕ) (x : List A) (k : ℕ) → k < n → getD (fit o n x) k o ≡ getD x k o
+pub in-array : {A : Type 0} (o : A) (n : ℕ) (x : List A) (k : ℕ) → k < n → getD (fit o n x) k o ≡ getD x k o
 unfolding fit
 in-array o n x k lt = getD-take n (x ++ replicate n o) k o lt ∙ padded o n x k
 

@@ -14,3 +14,5 @@ pub mod BondSlots
 pub mod Late
 -- its counts
 pub mod CountedCall
+-- what was dropped is finite
+pub mod Fine

@@ -1,13 +1,18 @@
--- What the sweeps of bonds claim of a step and of steps one after another, which proofs/ proves of the calls. Definitions only.
+-- What the sweeps of bonds, and what they dropped, claim of a step and of steps one after another, which proofs/ proves of the calls. Definitions only.
 use mathlib.Core.Path.{_≡_}
-use Prim.Native.Nat.{ℕ, zero, suc}
+use mathlib.Core.Logic.{_⊎_}
+use Prim.Native.Nat.{ℕ, zero, suc, _<_}
+use mathlib.Core.Bool.{false}
 use mathlib.Core.List.{List}
+use lib.Ieee.{Float, lt}
+use Rattle.numbers.specs.Arithmetic.{zero64}
 use Rattle.answers.specs.Outcome.{Answer, done, bind}
 use Rattle.lists.specs.Walks.{every}
 use Rattle.shape.specs.Cores.{Core}
 use Rattle.stepform.specs.declared.Axis.{Axis}
 use Rattle.cutform.specs.declared.Bond.{Bond}
-use Rattle.cutform.specs.Rounding.{coresIn}
+use Rattle.cutform.specs.Rounding.{Carry, Cut, coresIn, afterCuts}
+use Rattle.cutform.specs.Keeping.{droppedAmong}
 use Rattle.cutform.specs.Claims.{RoundCounted}
 use Rattle.stepform.specs.declared.Settings.{Settings}
 use Rattle.stepform.specs.Zones.{zonesOf, rules}
@@ -33,3 +38,16 @@ pub record LastCounted (m : ℕ) (t : Settings) (xs : List Axis) (cs : List Core
   pub cores : List Core
   pub before : coresAfter m t xs cs ≡ done cores
   pub last : StepCounted t xs cores bonds
+
+-- y is what bond k dropped in step i, from 0, of steps over the cores cs
+pub record DroppedIn (i : ℕ) (t : Settings) (xs : List Axis) (cs : List Core) (k : ℕ) (y : Float) : Type 0 where
+  pub cores : List Core
+  pub before : coresAfter i t xs cs ≡ done cores
+  pub cuts : List (Carry × Cut)
+  pub made : step t xs cores ≡ done cuts
+  pub value : droppedAmong (afterCuts cuts .bonds) k ≡ y
+
+-- x is the greatest value that bond k dropped in m steps: none of them dropped more, and one of them dropped it, or it is +0
+pub record Greatest (m : ℕ) (t : Settings) (xs : List Axis) (cs : List Core) (k : ℕ) (x : Float) : Type 0 where
+  pub most : (i : ℕ) (y : Float) → i < m → DroppedIn i t xs cs k y → lt x y ≡ false
+  pub one : (x ≡ zero64) ⊎ ((i : ℕ) × (i < m) × DroppedIn i t xs cs k x)
