@@ -30,7 +30,7 @@ pub enum Refusal {
     Length(usize),
     // the core, axis or zone of an input number that isn't finite, or 0 for a lone setting
     Number(usize),
-    // the axis whose a is below zero, or 0 for another setting outside its limits
+    // the axis whose a is below zero or whose boundary isn't known, or 0 for another setting outside its limits
     Setting(usize),
     // the first axis whose shift is too far
     Reach(usize),

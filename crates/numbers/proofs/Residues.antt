@@ -1,17 +1,13 @@
--- Integers modulo n: a residue is below n, a sum's residue is that of the residues, and reading around the end is reading in the block written twice. Assumes nothing.
+-- Integers modulo n: a residue is below n, and a sum's residue is that of the residues. Assumes nothing.
 use mathlib.Core.Path.{_≡_, refl, sym, ap, _∙_}
 use mathlib.Core.Logic.{inl, inr}
-use mathlib.Core.List.{List, _++_}
 use Prim.Native.Nat.{ℕ, zero, suc, _+_, _-_, _*_, _/_, _%_, _≤_, _<_}
-use native.Mathlib.Nat.{eq-or-lt-of-le, zero-mod, sub-zero, sub-self, mod-lt, mod-eq-of-lt, mod-self, add-mod-left, add-mod-right, add-mod-mod, add-mul-mod-self-right, suc-mod, div-add-mod', add-zero, suc-mul, add-mul}
+use native.Mathlib.Nat.{eq-or-lt-of-le, zero-mod, sub-zero, sub-self, mod-lt, mod-eq-of-lt, mod-self, add-mod-left, add-mod-right, add-mod-mod, add-mul-mod-self-right, suc-mod, div-add-mod', add-zero, suc-mul}
 use native.Mathlib.Omega.{arith}
 use mathlib.Core.Bool.{Bool, true, false, cond}
 use borrow.Author.Tests.{le-ltb, ltb-true, ltb-false}
 use lib.Dec.{ltb}
-use lib.Arith.{digits-lt}
 use lib.IntN.{ℤ, pos, negsuc, subℕ, _+ℤ_, _-ℤ_, +ℤ-comm, +ℤ-assoc}
-use lib.ListN.{length, getD, List·getD-append}
-use lib.Seq.{getD-append-add}
 use Rattle.numbers.specs.Residues.{wrap}
 
 pub wrap-lt : (n : ℕ) (z : ℤ) → 0 < n → wrap n z < n
@@ -80,21 +76,3 @@ pub wrap-minus : (n i s : ℕ) → 0 < n → wrap n (pos i -ℤ pos s) ≡ (i + 
 unfolding wrap
 wrap-minus n i zero h = ap (λ (x : ℕ). x % n) (add-zero i) ∙ sym (ap (λ (x : ℕ). (i + (n - x)) % n) (zero-mod n) ∙ ap (λ (x : ℕ). (i + x) % n) (sub-zero n) ∙ add-mod-right i n)
 wrap-minus n i (suc k) h = wrap-sub n i k h ∙ next n i (k % n) (mod-lt k h) ∙ ap (λ (x : ℕ). (i + (n - x)) % n) (sym (suc-mod k n))
-
--- ---- a block of n rows of r, written twice
-pub read-twice : {A : Type 0} (s : List A) (n r i x : ℕ) (z : ℤ) (d : A) → length s ≡ n * r → i < n → x < r
-    → getD (s ++ s) (wrap n z * r + (i * r + x)) d ≡ getD s (wrap n (pos i +ℤ z) * r + x) d
-read-twice s n r i x z d e h l = rw (wrap-plus n i z (omega arith)) (go (wrap n z) (wrap-lt n z (omega arith)) (ltb (i + wrap n z) n) refl)
-  where
-    go : (o : ℕ) → o < n → (b : Bool) → ltb (i + o) n ≡ b → getD (s ++ s) (o * r + (i * r + x)) d ≡ getD s ((i + o) % n * r + x) d
-    go o m true t =
-        let a = ltb-true (i + o) n t in
-        let y : o * r + (i * r + x) ≡ (i + o) * r + x = omega (arith, add-mul i o r) in
-        rw (y, mod-eq-of-lt a) (List·getD-append s s d ((i + o) * r + x) (rw e (digits-lt a l)))
-    go o m false t =
-        let a = ltb-false (i + o) n t in
-        let j = i + o - n in
-        let k : i + o ≡ n + j = omega arith in
-        let b : (i + o) % n ≡ j = ap (λ (y : ℕ). y % n) k ∙ add-mod-left n j ∙ mod-eq-of-lt (omega arith) in
-        let y : o * r + (i * r + x) ≡ length s + (j * r + x) = omega (arith, add-mul i o r, ap (λ (y : ℕ). y * r) k, add-mul n j r) in
-        rw (y, b) (getD-append-add s s (j * r + x) d)

@@ -1,8 +1,9 @@
--- The floor as an integer: its f64 is the floor, zero signs aside, and where the fraction is zero it turns with the sign. Assumes nothing.
+-- The floor as an integer: its f64 is the floor, zero signs aside, and where the fraction is zero it turns with the sign; else to 1 below. Assumes nothing.
 use mathlib.Core.Path.{_≡_, refl, sym, ap, _∙_}
-use Prim.Native.Nat.{ℕ, zero, suc, _*_, _/_, _%_}
-use native.Mathlib.Nat.{mul-one, mul-right-comm, mul-mod-left, eq-of-mul-eq-mul-right}
-use mathlib.Core.Bool.{Bool, true, false, not, _||_, Bool·beq}
+use Prim.Native.Nat.{ℕ, zero, suc, _+_, _*_, _/_, _%_, _≤_, zero-le}
+use native.Mathlib.Nat.{add-zero, le-refl, mul-one, mul-right-comm, mul-mod-left, eq-of-mul-eq-mul-right}
+use mathlib.Core.Logic.{_⊎_, inl, inr}
+use mathlib.Core.Bool.{Bool, true, false, not, _||_, cond, Bool·beq}
 use borrow.Author.Tests.{eqb-true}
 use lib.IntN.{ℤ, pos, negsuc, negℤ, negℤ-negℤ}
 use lib.Dec.{T, eqb}
@@ -75,6 +76,21 @@ same-size s m e (fin u n d) t c v h =
     let b = n * up d * down e in
     eq-of-mul-eq-mul-right (down d) (down-pos d) (m * up e) (c * down e)
     (eqb-true a b (both (eqb a b) (Bool·beq s u || eqb a 0) h .0) ∙ ap (λ (x : ℕ). x * down e) (sym (mul-one (n * up d)) ∙ v .1) ∙ mul-right-comm c (down d) (down e))
+
+-- the floors of x and of -x: their sizes are the same, or that of the one below zero is 1 more
+cut-away : (a b : ℕ) → (d : ℕ) × (d ≤ 1) × (cut true a b ≡ a / b + d)
+cut-away a b = go (eqb (a % b) 0)
+  where
+    go : (p : Bool) → (d : ℕ) × (d ≤ 1) × (cond p (a / b) (a / b + 1) ≡ a / b + d)
+    go true = (0, zero-le, sym (add-zero (a / b)))
+    go false = (1, le-refl 1, refl)
+
+pub whole-turned : (x : Float) → (q : ℕ) × (d : ℕ) × (d ≤ 1) × (((wholeOf x ≡ pos q) × (wholeOf (neg x) ≡ negℤ (pos (q + d)))) ⊎ ((wholeOf x ≡ negℤ (pos (q + d))) × (wholeOf (neg x) ≡ pos q)))
+unfolding wholeOf neg
+whole-turned nan = (0, 0, zero-le, inl (refl, refl))
+whole-turned (inf s) = (0, 0, zero-le, inl (refl, refl))
+whole-turned (fin false m e) = let r = cut-away (m * up e) (down e) in (m * up e / down e, r .0, r .1, inl (refl, ap (λ (c : ℕ). negℤ (pos c)) (r .2)))
+whole-turned (fin true m e) = let r = cut-away (m * up e) (down e) in (m * up e / down e, r .0, r .1, inr (ap (λ (c : ℕ). negℤ (pos c)) (r .2), refl))
 
 -- the floor of -x is minus the floor of x, and neither has anything above it but a zero
 pub record ZeroFraction (x : Float) : Type 0 where

@@ -25,7 +25,7 @@ use Rattle.stepform.specs.Steps.{holding, shiftZone, scaleZone, roundZon
 -- ---- one core
 late-move : (k : ℕ) (s : Shift) (c : Core) → Late (moveCore k s c)
 late-move k Stay c = late-done (c .entries)
-late-move k (By ratio) c = late-making Entry k (stored (shifted c ratio))
+late-move k (By ratio boundary) c = late-making Entry k (stored (shifted c ratio boundary))
 
 module _ (t : Settings) where
   late-shift : (k : ℕ) (z : Zone) → Late (shiftZone rules t k z)

@@ -1,3 +1,6 @@
+-- the wrapped index, and what a boundary does to an entry
+pub mod Boundaries
+pub mod Mirrors
 -- the entry at zero fraction, and examples
 pub mod Still
 pub mod Examples

@@ -1,3 +1,4 @@
+pub mod Boundaries
 pub mod Weights
 pub mod Axes
 pub mod Shifts

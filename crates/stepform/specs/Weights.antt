@@ -4,7 +4,6 @@ use mathlib.Core.List.{List, [], _∷_}
 use lib.IntN.{ℤ, pos, _+ℤ_, _-ℤ_}
 use lib.Ieee.{Float, neg}
 use Rattle.numbers.specs.Arithmetic.{plus, minus, times, one64, two64, half64, quarter64, sixth64}
-use Rattle.numbers.specs.Residues.{wrap}
 use Rattle.lists.specs.Floats.{at, sumOn}
 
 -- the four weights of a fraction, the products in this order
@@ -19,10 +18,10 @@ cubicBandWeights t =
     ∷ times (times (times tp1 t) t1) sixth64
     ∷ []
 
--- acc, then the four terms (0.25*weight)*v at the offsets s0 - 1 to s0 + 2 from i, indices modulo n
-unfoldable pub bandOn : Float → ℕ → List Float → ℤ → (ℕ → Float) → ℕ → Float
-bandOn acc n ws s0 v i = sumOn acc 4 (λ (m : ℕ). times (times quarter64 (at ws m)) (v (wrap n (pos i +ℤ s0 -ℤ pos 1 +ℤ pos m))))
+-- acc, then the four terms (0.25*weight)*v at the offsets s0 - 1 to s0 + 2 from i, w being the wrapped index
+unfoldable pub bandOn : Float → (ℤ → ℕ) → List Float → ℤ → (ℕ → Float) → ℕ → Float
+bandOn acc w ws s0 v i = sumOn acc 4 (λ (m : ℕ). times (times quarter64 (at ws m)) (v (w (pos i +ℤ s0 -ℤ pos 1 +ℤ pos m))))
 
 -- 0.5*v[i], then the forward band, then the backward band
-unfoldable pub shiftedAt : ℕ → List Float → ℤ → List Float → ℤ → (ℕ → Float) → ℕ → Float
-shiftedAt n forward s0 backward s1 v i = bandOn (bandOn (times half64 (v i)) n forward s0 v i) n backward s1 v i
+unfoldable pub shiftedAt : (ℤ → ℕ) → List Float → ℤ → List Float → ℤ → (ℕ → Float) → ℕ → Float
+shiftedAt w forward s0 backward s1 v i = bandOn (bandOn (times half64 (v i)) w forward s0 v i) w backward s1 v i

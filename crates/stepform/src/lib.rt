@@ -1,17 +1,23 @@
 // What a step is: one axis shifted, core 0 scaled, the chain rounded. Definitions stand in specs/; here are the records that calls are given.
 
+// The boundaries that an axis can have. They are numbers, so that one that isn't known can be lent, and refused.
+pub const PERIODIC: usize = 0;
+
+pub const REFLECTING: usize = 1;
+
 // The settings of one axis.
 pub struct Axis {
     pub a: f64,
     pub b: f64,
     pub xmin: f64,
     pub xmax: f64,
+    pub boundary: usize,
 }
 
-// A core stays, or is shifted by a ratio.
+// A core stays, or is shifted by a ratio along an axis of such a boundary.
 pub enum Shift {
     Stay,
-    By(f64),
+    By(f64, usize),
 }
 
 // One step of a plan: its lone settings.
