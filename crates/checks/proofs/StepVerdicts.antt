@@ -75,7 +75,7 @@ pub reaches-found : (t : Settings) (s : Shape) (xs : List Axis) (k : ℕ) (x : A
 unfolding reachesAt rules
 reaches-found t s xs k x y b e f g = g ∙ ap reaches f ∙ ap (λ (z : Axis). reaches (shiftOf z (t .tau) (pointsOf s k))) e
 
--- i is the first axis whose a is below zero, j the first whose shift is too far
+-- i is the first axis whose a is below zero or whose boundary isn't known, j the first whose shift is too far
 module _ (mild : Bool) (t : Settings) (s : Shape) (xs : List Axis) where
   abbrev reach : Check
   reach = demandEach Reach (axisReaches t s xs) (s .d) 0
@@ -88,9 +88,9 @@ module _ (mild : Bool) (t : Settings) (s : Shape) (xs : List Axis) where
   lone-wrong h = flag-stops (mildEach then reach) (Setting 0) mild h
 
   module _ (h : not mild ≡ false) (i : ℕ) (e : i ≡ firstNot (λ (k : ℕ). axisOk (axisAt xs k)) (s .d)) where
-    pub below-wrong : i < s .d → Refused (Setting i) ≡ verdictOf (settingsOk mild t s xs)
+    pub record-wrong : i < s .d → Refused (Setting i) ≡ verdictOf (settingsOk mild t s xs)
     unfolding settingsOk
-    below-wrong l =
+    record-wrong l =
         flag-passes (mildEach then reach) (Setting 0) mild h (Refused (Setting i))
         (then-stops mildEach reach (Refused (Setting i)) (place-wrong (λ (k : ℕ). axisOk (axisAt xs k)) (s .d) i e Setting l) (Setting i) refl)
 
@@ -107,4 +107,4 @@ module _ (mild : Bool) (t : Settings) (s : Shape) (xs : List Axis) where
       pub settings-right : s .d ≤ j → Fits ≡ verdictOf (settingsOk mild t s xs)
       settings-right m = on Fits (places-right (axisReaches t s xs) (s .d) j f Reach m)
 
-pub ruleset settings-found = (lone-wrong, below-wrong, far-wrong, settings-right)
+pub ruleset settings-found = (lone-wrong, record-wrong, far-wrong, settings-right)

@@ -39,7 +39,7 @@ pub record Stands (s t : Shape) (w : List Float) : Type 0 where
   pub within : SizesWithin s
   pub long : entriesOf s ≤ length w
 
--- and a shift: room for one core, and for one of its blocks twice
+-- and a shift: room for one core, and for one of its blocks three times
 pub record Rooms (room block : List Float) : Type 0 where
   pub core : mostCore ≤ length room
-  pub twice : mostBlock ≤ length block
+  pub thrice : mostBlock ≤ length block

@@ -45,8 +45,8 @@ pub fn first_not_finite(d: usize, xs: [stepform::Axis; shape::MOST_AXES]) -> usi
     k
 }
 
-// The first axis whose a is below zero, or d.
-pub fn first_below_zero(d: usize, xs: [stepform::Axis; shape::MOST_AXES]) -> usize
+// The first axis whose a is below zero or whose boundary isn't known, or d.
+pub fn first_out_of_order(d: usize, xs: [stepform::Axis; shape::MOST_AXES]) -> usize
     requires { ⌜ d ≤ mostAxes ⌝ }
     ensures { λ r. ⌜ r ≡ firstNot (λ (k : ℕ). axisOk (axisAt xs k)) d ⌝ }
 {
@@ -129,9 +129,9 @@ fn settings_ok(
     if !mild {
         return answers::Verdict::Refused(answers::Refusal::Setting(0));
     }
-    let below = first_below_zero(d, xs);
-    if below < d {
-        return answers::Verdict::Refused(answers::Refusal::Setting(below));
+    let record = first_out_of_order(d, xs);
+    if record < d {
+        return answers::Verdict::Refused(answers::Refusal::Setting(record));
     }
     let far = first_too_far(set, s, xs);
     if far < d {

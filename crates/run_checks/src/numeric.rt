@@ -34,7 +34,7 @@ fn first_bad_number(
     crate::found::either(made, held, d)
 }
 
-// Refusals 6 and 7 of a run and a new part at zone z, which is finite or not, and an axis record not below zero or not.
+// Refusals 6 and 7 of a run and a new part at zone z, which is finite or not, and an axis record in order or not.
 pub fn numbers_found(
     r: runform::Run,
     z: usize,
@@ -57,8 +57,8 @@ pub fn numbers_found(
     let d = s.d;
     let first = first_bad_number(r, source, weights, chain, carries, sums);
     let number = crate::found::with_part(first, part, z, d);
-    let below = checks::settings::first_below_zero(d, xs);
-    let setting = crate::found::with_part(below, axis, z, d);
+    let record = checks::settings::first_out_of_order(d, xs);
+    let setting = crate::found::with_part(record, axis, z, d);
     let lone = checks::settings::lone_finite(set);
     let figure = numbers::is_finite(r.figure);
     let mild = checks::settings::lone_ok(set);
@@ -80,7 +80,7 @@ pub fn numbers_made(
 {
     let d = s.d;
     let number = crate::found::first_bad_made(s, xs, source, weights);
-    let setting = checks::settings::first_below_zero(d, xs);
+    let setting = checks::settings::first_out_of_order(d, xs);
     let lone = checks::settings::lone_finite(set);
     let mild = checks::settings::lone_ok(set);
     crate::found::numbers_ok(lone, number, mild, setting, d)

@@ -16,7 +16,7 @@ mostRank = 8
 abbrev pub mostLines : ℕ
 mostLines = 64
 
--- what follows: the most numbers of a core, of a chain, of a core's points at one left index, twice, of all carries, weights and partial sums
+-- what follows: the most numbers of a core, of a chain, of a core's points at one left index, three times, of all carries, weights and partial sums
 abbrev pub mostCore : ℕ
 mostCore = mostRank * mostPoints * mostRank
 
@@ -24,7 +24,7 @@ abbrev pub mostEntries : ℕ
 mostEntries = mostAxes * mostCore
 
 abbrev pub mostBlock : ℕ
-mostBlock = mostPoints * mostRank + mostPoints * mostRank
+mostBlock = 3 * (mostPoints * mostRank)
 
 abbrev pub mostCarries : ℕ
 mostCarries = mostAxes * (mostRank * mostRank)

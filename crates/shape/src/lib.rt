@@ -30,10 +30,10 @@ pub const SCRATCH_BESIDE: usize = 2048;
 // Scratch for a pair.
 pub const PAIR_SCRATCH: usize = 20480;
 
-// What follows: the most numbers of a core, of a core's points at one left index, twice, of all carries, weights and partial sums.
+// What follows: the most numbers of a core, of a core's points at one left index, three times, of all carries, weights and partial sums.
 pub const MOST_CORE: usize = MOST_RANK * MOST_POINTS * MOST_RANK;
 
-pub const MOST_BLOCK: usize = 2 * (MOST_POINTS * MOST_RANK);
+pub const MOST_BLOCK: usize = 3 * (MOST_POINTS * MOST_RANK);
 
 pub const MOST_CARRIES: usize = MOST_AXES * (MOST_RANK * MOST_RANK);
 

@@ -1,7 +1,7 @@
 -- Where the rows of a band start, and what it reads there. Assumes nothing.
 use mathlib.Core.Path.{_≡_, sym, ap, _∙_}
 use Prim.Native.Nat.{ℕ, suc, _+_, _-_, _*_, _^_, _<_, _≤_}
-use native.Mathlib.Nat.{le-of-lt, mul-le-mul-right}
+use native.Mathlib.Nat.{le-of-lt, mul-le-mul-right, add-mul}
 use native.Mathlib.Numerals.{add-one}
 use native.Mathlib.Omega.{arith}
 use mathlib.Core.List.{List, [], _∷_}
@@ -47,8 +47,9 @@ pub start-at : (n rr : ℕ) (z : ℤ) (m : ℕ) → m < 4 → natAt (startsOf n 
 unfolding startsOf
 start-at n rr z m l = getD-tab 4 (λ (i : ℕ). wrap n (z -ℤ pos 1 +ℤ pos i) * rr) m 0 l
 
-pub starts-room : (n rr : ℕ) (z : ℤ) → 1 ≤ n → StartRoom (startsOf n rr z) (n * rr) (n * rr + n * rr)
-starts-room n rr z h m l = omega (arith, start-at n rr z m l, mul-le-mul-right rr (le-of-lt (wrap-lt n (z -ℤ pos 1 +ℤ pos m) h)))
+-- n rows from any start lie within n rows more than a period
+pub starts-room : (p n rr : ℕ) (z : ℤ) → 1 ≤ p → StartRoom (startsOf p rr z) (n * rr) ((p + n) * rr)
+starts-room p n rr z h m l = omega (arith, start-at p rr z m l, mul-le-mul-right rr (le-of-lt (wrap-lt p (z -ℤ pos 1 +ℤ pos m) h)), add-mul p n rr)
 
 -- ---- what a band reads: number j of t from the start of each row
 module _ (starts : List ℕ) (m j l : ℕ) (r : StartRoom starts (suc j) l) (h : m < 4) where

@@ -1,3 +1,3 @@
 pub mod Starts
 -- what the inner functions cite
-pub mod Doubled
+pub mod Unrolled

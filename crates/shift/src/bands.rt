@@ -32,17 +32,17 @@ pub fn weights_of(ratio: f64) -> [f64; 4]
     cubic_band_weights(numbers::fraction(ratio))
 }
 
-// Where the rows of a band start: at the offsets s0 - 1 to s0 + 2, modulo n, for the floor s0 of the ratio.
-pub fn starts_of(ratio: f64, n: usize, rr: usize) -> [usize; 4]
-    requires { ⌜ (1 ≤ n) × (n ≤ mostPoints) × (n * rr < 2 ^ 64) × (inReach ratio ≡ true) ⌝ }
-    ensures { λ r. ⌜ r ≡ startsOf n rr (wholeOf ratio) ⌝ }
+// Where the rows of a band start, which come again after `period`: at the offsets s0 - 1 to s0 + 2, for the floor s0 of the ratio.
+pub fn starts_of(ratio: f64, period: usize, rr: usize) -> [usize; 4]
+    requires { ⌜ (1 ≤ period) × (period ≤ 2 * mostPoints) × (period * rr < 2 ^ 64) × (inReach ratio ≡ true) ⌝ }
+    ensures { λ r. ⌜ r ≡ startsOf period rr (wholeOf ratio) ⌝ }
 {
     let s0 = numbers::whole(ratio);
     [
-        numbers::stepped(n - 1, s0, n) * rr,
-        numbers::stepped(0, s0, n) * rr,
-        numbers::stepped(1, s0, n) * rr,
-        numbers::stepped(2, s0, n) * rr,
+        numbers::stepped(period - 1, s0, period) * rr,
+        numbers::stepped(0, s0, period) * rr,
+        numbers::stepped(1, s0, period) * rr,
+        numbers::stepped(2, s0, period) * rr,
     ]
 }
 
@@ -58,7 +58,7 @@ fn band(acc: f64, t: &[f64], j: usize, weights: &[f64; 4], starts: &[usize; 4]) 
     x
 }
 
-// Number j of a block, shifted; t is the block twice.
+// Number j of a block, shifted; t is the block, written on.
 pub fn entry_at(
     t: &[f64],
     j: usize,

@@ -1,10 +1,11 @@
 // The shift of one core along its axis, and the scaling of core 0.
 pub mod bands;
+pub mod blocks;
 
 ghost use mathlib.Core.Path.{_≡_};
 ghost use mathlib.Core.Bool.{true};
 ghost use Prim.Native.Nat.{_+_, _*_, _<_, _≤_};
-ghost use mathlib.Core.List.{_++_, map};
+ghost use mathlib.Core.List.{map};
 ghost use lib.ListN.{length};
 ghost use lib.Ieee.{Float};
 ghost use Rattle.numbers.specs.Arithmetic.{times};
@@ -14,7 +15,7 @@ ghost use Rattle.lists.specs.Lists.{tab};
 ghost use Rattle.shape.specs.Limits.{mostPoints};
 ghost use Rattle.shape.specs.Cores.{coreWith};
 ghost use Rattle.stepform.specs.Shifts.{distance, spacing, shiftOf, reaches, shifted, moveCore, scaled};
-ghost use Rattle.shift.specs.Doubled.{Lent, blocksOf};
+ghost use Rattle.shift.specs.Unrolled.{Lent, period, blocksOf};
 ghost use Rattle.shift.specs.Starts.{StartRoom, entryIn};
 use stepform::Shift;
 
@@ -50,7 +51,7 @@ pub fn shift_of(x: stepform::Axis, tau: f64, n: usize) -> Shift
     if h == 0.0 {
         return Shift::Stay;
     }
-    Shift::By(h / dx)
+    Shift::By(h / dx, x.boundary)
 }
 
 // Whether the shift is near enough to be made.
@@ -59,11 +60,11 @@ pub fn reaches(s: Shift) -> bool
 {
     match s {
         Shift::Stay => true,
-        Shift::By(ratio) => numbers::in_reach(ratio),
+        Shift::By(ratio, _) => numbers::in_reach(ratio),
     }
 }
 
-// A block, shifted; t is the block twice.
+// A block, shifted; t is the block, written on.
 fn shift_block(
     t: &[f64],
     forward: &[f64; 4],
@@ -84,21 +85,13 @@ fn shift_block(
     }
 }
 
-// s twice.
-fn twice(s: &[f64], d: &mut [f64])
-    requires { ⌜ length (now d) ≡ length (now s) + length (now s) ⌝ }
-    ensures { λ _. ⌜ now (d .exit) ≡ now (s .entry) ++ now (s .entry) ⌝ }
-{
-    let n = s.len();
-    lists::copy(s, &mut d[..n]);
-    lists::copy(s, &mut d[n..]);
-}
-
-// rl blocks of h numbers, each shifted; t has room for one of them twice.
+// rl blocks of n rows of rr numbers, each shifted; t has room for one of them, written on.
 fn shift_blocks(
     core: &[f64],
     rl: usize,
-    h: usize,
+    n: usize,
+    rr: usize,
+    boundary: usize,
     forward: &[f64; 4],
     ahead: &[usize; 4],
     backward: &[f64; 4],
@@ -106,48 +99,52 @@ fn shift_blocks(
     out: &mut [f64],
     t: &mut [f64],
 )
-    requires { ⌜ (length (now core) ≡ rl * h) × (length (now out) ≡ rl * h) × (length (now t) ≡ h + h) × StartRoom (now ahead) h (h + h)
-        × StartRoom (now behind) h (h + h) ⌝ }
+    requires { ⌜ (length (now core) ≡ rl * (n * rr)) × (length (now out) ≡ rl * (n * rr)) × (length (now t) ≡ (period boundary n + n) * rr)
+        × StartRoom (now ahead) (n * rr) (length (now t)) × StartRoom (now behind) (n * rr) (length (now t)) × (1 ≤ n) ⌝ }
     ensures { λ _. ⌜ now (out .exit)
-        ≡ blocksOf (now (core .entry)) rl h (now (forward .entry)) (now (ahead .entry)) (now (backward .entry)) (now (behind .entry)) ⌝ }
+        ≡ blocksOf boundary (now (core .entry)) rl n rr (now (forward .entry)) (now (ahead .entry)) (now (backward .entry)) (now (behind .entry)) ⌝ }
 {
+    let h = n * rr;
     for k in 0..rl {
         let b = k * h;
         let e = b + h;
-        twice(&core[b..e], t);
+        blocks::unroll(&core[b..e], n, rr, boundary, t);
         shift_block(t, forward, ahead, backward, behind, &mut out[b..e]);
     }
 }
 
-// A core of rl blocks of n rows of rr numbers, shifted along its rows; block has room for one of its blocks twice.
+// A core of rl blocks of n rows of rr numbers, shifted along its rows; block has room for one of its blocks three times.
 pub fn shift_core(
     core: &[f64],
     rl: usize,
     n: usize,
     rr: usize,
     ratio: f64,
+    boundary: usize,
     out: &mut [f64],
     block: &mut [f64],
 )
     requires { ⌜ Lent (now core) rl n rr (now out) (now block) × (inReach ratio ≡ true) ⌝ }
-    ensures { λ _. ⌜ now (out .exit) ≡ shifted (coreWith rl n rr (now (core .entry))) ratio ⌝ }
+    ensures { λ _. ⌜ now (out .exit) ≡ shifted (coreWith rl n rr (now (core .entry))) ratio boundary ⌝ }
 {
     let forward = bands::weights_of(ratio);
     let backward = bands::weights_of(-ratio);
-    let ahead = bands::starts_of(ratio, n, rr);
-    let behind = bands::starts_of(-ratio, n, rr);
-    let h = n * rr;
-    let both = h + h;
+    let period = blocks::period(boundary, n);
+    let ahead = bands::starts_of(ratio, period, rr);
+    let behind = bands::starts_of(-ratio, period, rr);
+    let room = (period + n) * rr;
     shift_blocks(
         core,
         rl,
-        h,
+        n,
+        rr,
+        boundary,
         &forward,
         &ahead,
         &backward,
         &behind,
         out,
-        &mut block[..both],
+        &mut block[..room],
     );
 }
 
@@ -170,8 +167,8 @@ pub fn move_core(
             lists::copy(core, out);
             answers::Verdict::Fits
         }
-        Shift::By(ratio) => {
-            shift_core(core, rl, n, rr, ratio, out, block);
+        Shift::By(ratio, boundary) => {
+            shift_core(core, rl, n, rr, ratio, boundary, out, block);
             answers::stored_in(lists::stored(out), answers::Part::Entry, k)
         }
     }

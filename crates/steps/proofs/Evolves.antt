@@ -147,5 +147,5 @@ ready-on set s xs a b c a' b' c' R e f g = record {
   ok = R .ok;
   reach = R .reach;
   carried = omega (arith, R .carried);
-  rooms = record { core = omega (arith, R .rooms .core); twice = omega (arith, R .rooms .twice) };
+  rooms = record { core = omega (arith, R .rooms .core); thrice = omega (arith, R .rooms .thrice) };
 }

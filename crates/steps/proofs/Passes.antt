@@ -36,7 +36,7 @@ pub stands-on : (s t : Shape) (w v : List Float) → Stands s t w → length v �
 stands-on s t w v S e = record { inside = S .inside; within = S .within; long = omega (arith, S .long) }
 
 pub rooms-on : (room block room' block' : List Float) → Rooms room block → length room' ≡ length room → length block' ≡ length block → Rooms room' block'
-rooms-on room block room' block' R e f = record { core = omega (arith, R .core); twice = omega (arith, R .twice) }
+rooms-on room block room' block' R e f = record { core = omega (arith, R .core); thrice = omega (arith, R .thrice) }
 
 pub reach-of : (set : Settings) (s : Shape) (xs : List Axis) (k : ℕ) (x : Axis)
     → x ≡ axisAt xs k → axisReaches set s xs k ≡ true → reaches (shiftOf x (set .tau) (pointsOf s k)) ≡ true

@@ -22,7 +22,7 @@ use Rattle.shape.proofs.Insides.{inside-size}
 use Rattle.stepform.specs.declared.Axis.{Axis}
 use Rattle.stepform.specs.declared.Shift.{Shift}
 use Rattle.stepform.specs.Shifts.{shiftOf, reaches, moveCore, scaled}
-use Rattle.shift.specs.Doubled.{Lent}
+use Rattle.shift.specs.Unrolled.{Lent}
 use Rattle.stepform.specs.declared.Settings.{Settings}
 use Rattle.stepform.specs.Zones.{zone, rules}
 use Rattle.stepform.specs.Steps.{holding, shiftZone, scaleZone}
@@ -70,7 +70,7 @@ module _ (s t : Shape) (w : List Float) (S : Stands s t w) (k : ℕ) (l : k < s 
         let p = S .inside .sizes .axes .points k stands-below in
         let m = mul-le-mul (p .1) (S .inside .sizes .right k stands-below .1) in
         let long = part-length at size w stand-end ∙ z in
-        record { some = p .0; few = p .1; whole = ap length stand-held ∙ long; long = long; room = omega (arith, m, R .twice) }
+        record { some = p .0; few = p .1; whole = ap length stand-held ∙ long; long = long; room = omega (arith, m, R .thrice) }
 
     pub stand-reaches : (set : Settings) (y : Axis) (far : Shift) → far ≡ shiftOf y (set .tau) (pointsOf t k) → reaches (shiftOf y (set .tau) (pointsOf s k)) ≡ true → reaches far ≡ true
     stand-reaches set y far f h = ap reaches f ∙ ap (λ (n : ℕ). reaches (shiftOf y (set .tau) n)) (ap (λ (x : List ℕ). getD x k 0) (S .inside .points)) ∙ h

@@ -116,7 +116,7 @@ module _ (set : Settings) (t : Shape) where
   moved-length : (k : ℕ) (far : Shift) (c : Core) (l : List Float) → length (c .entries) ≡ volume c → moveCore k far c ≡ done l → length l ≡ volume c
   unfolding shifted
   moved-length k Stay c l f e = ap length (sym (done-inj e)) ∙ f
-  moved-length k (By ratio) c l f e = ap length (sym (making-stored Entry k (shifted c ratio) l e .0)) ∙ block-length (c .rl) (c .n) (c .rr) _
+  moved-length k (By ratio boundary) c l f e = ap length (sym (making-stored Entry k (shifted c ratio boundary) l e .0)) ∙ block-length (c .rl) (c .n) (c .rr) _
 
   shift-found : (k : ℕ) (z : Zone) (c : Core) → Found t k (z .core) → shiftZone rules set k z ≡ done c → Found t k c
   unfolding shiftZone rules

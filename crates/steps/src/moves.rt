@@ -9,7 +9,7 @@ ghost use Rattle.lists.specs.Walks.{every};
 ghost use Rattle.shape.specs.Shapes.{pointsOf};
 ghost use Rattle.shape.specs.Cores.{coreWith, standing};
 ghost use Rattle.stepform.specs.Shifts.{shiftOf, reaches, moveCore, scaled};
-ghost use Rattle.shift.specs.Doubled.{Lent};
+ghost use Rattle.shift.specs.Unrolled.{Lent};
 ghost use Rattle.stepform.specs.Zones.{zone, rules};
 ghost use Rattle.stepform.specs.Steps.{shiftZone, scaleZone};
 ghost use Rattle.checks.specs.Over.{Onward, Elsewhere, standFrom, Stands, Rooms};

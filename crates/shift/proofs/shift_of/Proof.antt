@@ -21,7 +21,7 @@ module _ (x : Axis) (tau : Float) (n : ℕ) (h dx : Float) (hs : h ≡ distance 
   unfolding shiftOf pick
   stays-still d e = let y : le (spacing x n) zero64 ≡ false = rw ds at d in let z : eq (distance x tau) zero64 ≡ true = rw hs at e in rw (y, z)
 
-  goes : le dx zero64 ≡ false → eq h zero64 ≡ false → By (over h dx) ≡ shiftOf x tau n
+  goes : le dx zero64 ≡ false → eq h zero64 ≡ false → By (over h dx) (x .boundary) ≡ shiftOf x tau n
   unfolding shiftOf pick
   goes d e = let y : le (spacing x n) zero64 ≡ false = rw ds at d in let z : eq (distance x tau) zero64 ≡ false = rw hs at e in rw (y, z, hs, ds)
 

@@ -8,7 +8,7 @@ use Rattle.steps.proofs.stepped.Tie as tie
 steps-in-requires : tie.Need-steps-in-requires
 steps-in-requires c κs =
     let at-10 = c .before .before .before .before .before .before .before .before .before .before in (
-      record { ok = at-10 .pre .0 .0; reach = at-10 .pre .0 .1; carried = search needs; rooms = record { core = search needs; twice = search needs } },
+      record { ok = at-10 .pre .0 .0; reach = at-10 .pre .0 .1; carried = search needs; rooms = record { core = search needs; thrice = search needs } },
       placed-own _ _ _ _ (at-10 .pre .0 .0) (c .before .before .before .before .before .before .copy .ensures) (at-10 .pre .1 .0) (search needs) (search needs),
     )
 

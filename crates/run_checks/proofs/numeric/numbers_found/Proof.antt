@@ -19,8 +19,8 @@ first-bad-number-requires c κs =
 with-part-requires : tie.Need-with-part-requires
 with-part-requires c κs = c .before .before .before .before .before .before .before .before .before .pre .0 .0
 
-first-below-zero-requires : tie.Need-first-below-zero-requires
-first-below-zero-requires c κs = shaped _ _ (c .before .before .before .before .before .before .before .before .before .before .pre .0 .1) .most
+first-out-of-order-requires : tie.Need-first-out-of-order-requires
+first-out-of-order-requires c κs = shaped _ _ (c .before .before .before .before .before .before .before .before .before .before .pre .0 .1) .most
 
 with-part-requires-2 : tie.Need-with-part-requires-2
 with-part-requires-2 c κs = c .before .before .before .before .before .before .before .before .before .before .before .pre .0 .0
@@ -34,13 +34,13 @@ returns c =
     (c .numbers-ok .ensures _ _
     (c .before .before .before .before .before .before .with-part .ensures _
     (c .before .before .before .before .before .before .before .first-bad-number .ensures))
-    (c .before .before .before .before .with-part2 .ensures _ (c .before .before .before .before .before .first-below-zero .ensures)))
+    (c .before .before .before .before .with-part2 .ensures _ (c .before .before .before .before .before .first-out-of-order .ensures)))
 
 pub numbers-found-spec : {M : Type 1} → statement M
 numbers-found-spec = tie.close (tie.spec
     first-bad-number-requires
     with-part-requires
-    first-below-zero-requires
+    first-out-of-order-requires
     with-part-requires-2
     (λ c κs. search needs)
     (λ c κs. search needs)

@@ -9,7 +9,7 @@ returns c =
     let i = c .before .before .before .before .before .before .before in
     made-are (record { shape = i .args .s; axes = i .args .xs; set = i .args .set; source = i .args .source .now; weights = i .args .weights .now }) _ _ _
     (c .before .before .lone-finite .ensures) (c .before .lone-ok .ensures)
-    (c .numbers-ok .ensures _ _ (c .before .before .before .before .first-bad-made .ensures) (c .before .before .before .first-below-zero .ensures))
+    (c .numbers-ok .ensures _ _ (c .before .before .before .before .first-bad-made .ensures) (c .before .before .before .first-out-of-order .ensures))
 
 pub numbers-made-spec : {M : Type 1} → statement M
 numbers-made-spec = tie.close (tie.spec

@@ -7,7 +7,7 @@ use Rattle.run_work.proofs.again.step_again.Tie as tie
 step-from-requires : tie.Need-step-from-requires
 step-from-requires c κs =
     step-asks _ _ _ _ _ _ (c .before .before .before .before .before .before .before .pre) (search needs) (search needs) (search (needs, mapped-long)) _ _
-    (record { core = search needs; twice = search needs })
+    (record { core = search needs; thrice = search needs })
 
 returns : tie.Need-returns
 returns c = let g = c .before .before .before .before .before .before .before .before .before .before .before .before .before .before .good .1 .0 in
