@@ -3,10 +3,11 @@ ghost use mathlib.Core.Path.{_≡_};
 ghost use Prim.Native.Nat.{_<_};
 ghost use lib.ListN.{set};
 ghost use Rattle.shape.specs.Limits.{mostAxes};
+ghost use Rattle.stepform.specs.Boundaries.{boundaryOk};
 ghost use Rattle.stepform.specs.Axes.{axisFinite, axisOk, axisAt, blanks, gathered};
 use stepform::Axis;
 
-// Whether all four numbers are finite.
+// Whether all four floats are finite.
 pub fn axis_finite(x: Axis) -> bool
     ensures { λ r. ⌜ r ≡ axisFinite x ⌝ }
 {
@@ -17,11 +18,21 @@ pub fn axis_finite(x: Axis) -> bool
     a & (b & (low & high))
 }
 
-// Whether a is not below zero.
+// Whether a boundary is known.
+fn boundary_ok(boundary: usize) -> bool
+    ensures { λ r. ⌜ r ≡ boundaryOk boundary ⌝ }
+{
+    let periodic = boundary == stepform::PERIODIC;
+    let reflecting = boundary == stepform::REFLECTING;
+    periodic | reflecting
+}
+
+// Whether a is not below zero, and the boundary known.
 pub fn axis_ok(x: Axis) -> bool
     ensures { λ r. ⌜ r ≡ axisOk x ⌝ }
 {
-    !(x.a < 0.0)
+    let known = boundary_ok(x.boundary);
+    !(x.a < 0.0) & known
 }
 
 // What stands where a list has no record.
@@ -30,6 +41,7 @@ pub const BLANK: Axis = Axis {
     b: 0.0,
     xmin: 0.0,
     xmax: 0.0,
+    boundary: stepform::PERIODIC,
 };
 
 // Record k of a lent list, or a blank past its end.

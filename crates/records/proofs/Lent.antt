@@ -15,7 +15,7 @@ use Rattle.records.specs.declared.given.CAxis.{CAxis}
 use Rattle.records.specs.Given.{axisIn, lentOf}
 
 abbrev cblank : CAxis
-cblank = record { a = zero64; b = zero64; xmin = zero64; xmax = zero64 }
+cblank = record { a = zero64; b = zero64; xmin = zero64; xmax = zero64; boundary = 0 }
 
 pub lent-at : (n : ℕ) (xs : List CAxis) (k : ℕ) (o : CAxis) (y : Axis) → k < n → k < length xs → y ≡ axisIn (getD xs k o) → y ≡ axisAt (lentOf n xs) k
 lent-at n xs k o y l m e =

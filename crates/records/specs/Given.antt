@@ -20,7 +20,7 @@ abbrev pub shapeIn : CShape → Shape
 shapeIn s = record { d = s .d; left = s .left; n = s .n; right = s .right }
 
 abbrev pub axisIn : CAxis → Axis
-axisIn x = record { a = x .a; b = x .b; xmin = x .xmin; xmax = x .xmax }
+axisIn x = record { a = x .a; b = x .b; xmin = x .xmin; xmax = x .xmax; boundary = x .boundary }
 
 -- the first n records as a list that was lent; there is no record past the array, and a list of more is longer than any chain has axes
 abbrev pub lentOf : ℕ → List CAxis → List Axis

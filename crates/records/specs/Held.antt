@@ -28,7 +28,7 @@ runIn r = record {
 }
 
 abbrev pub axisOut : Axis → CAxis
-axisOut x = record { a = x .a; b = x .b; xmin = x .xmin; xmax = x .xmax }
+axisOut x = record { a = x .a; b = x .b; xmin = x .xmin; xmax = x .xmax; boundary = x .boundary }
 
 abbrev pub cuttingOut : Cutting → CCutting
 cuttingOut x = record { eps = x .eps }

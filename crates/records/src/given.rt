@@ -22,6 +22,7 @@ pub struct CAxis {
     pub b: f64,
     pub xmin: f64,
     pub xmax: f64,
+    pub boundary: usize,
 }
 
 // Room for the records of as many axes as a chain can have.
@@ -83,6 +84,7 @@ pub fn axis_in(x: CAxis) -> stepform::Axis
         b: x.b,
         xmin: x.xmin,
         xmax: x.xmax,
+        boundary: x.boundary,
     }
 }
 
@@ -93,6 +95,7 @@ fn no_axes() -> [stepform::Axis; shape::MOST_AXES] {
         b: 0.0,
         xmin: 0.0,
         xmax: 0.0,
+        boundary: stepform::PERIODIC,
     }; shape::MOST_AXES]
 }
 
@@ -122,6 +125,7 @@ fn axis_lent(xs: [CAxis; shape::MOST_AXES], count: usize, k: usize) -> stepform:
         b: 0.0,
         xmin: 0.0,
         xmax: 0.0,
+        boundary: stepform::PERIODIC,
     }
 }
 

@@ -79,6 +79,7 @@ fn axis_out(x: stepform::Axis) -> given::CAxis
         b: x.b,
         xmin: x.xmin,
         xmax: x.xmax,
+        boundary: x.boundary,
     }
 }
 
@@ -89,6 +90,7 @@ fn no_axes() -> [given::CAxis; shape::MOST_AXES] {
         b: 0.0,
         xmin: 0.0,
         xmax: 0.0,
+        boundary: stepform::PERIODIC,
     }; shape::MOST_AXES]
 }
 
