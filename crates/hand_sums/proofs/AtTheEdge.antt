@@ -7,6 +7,7 @@ use Rattle.lists.specs.Lists.{pick, listed, flat}
 use Rattle.lists.specs.Slots.{offset, slot}
 use Rattle.shape.specs.Cores.{place, entry, coreAt, pointsAt}
 use Rattle.shape.specs.Shapes.{sizeOk, bondOk, shapeOk, coreSize, pointSize}
+use Rattle.stepform.specs.Boundaries.{boundaryOk}
 use Rattle.stepform.specs.Axes.{axisFinite, axisOk}
 use Rattle.pairform.specs.Slabs.{plusProduct, slabEntry, slab}
 use Rattle.sumform.specs.Start.{startSized, startLent, startFinite, startOk, startCall}
@@ -18,7 +19,7 @@ use Rattle.hand_sums.specs.Edges.{edges}
 
 pub at-the-edge : AllRight edges
 unfolding edges add mul lt eq ofBits toBits demand demandEach allFinite pick listed flat offset slot place entry coreAt pointsAt sizeOk bondOk shapeOk
-    coreSize pointSize axisFinite axisOk plusProduct slabEntry slab startSized startLent startFinite startOk startCall lengthsOk coreFinite notBelowZero cuttingFinite cuttingOk
+    coreSize pointSize boundaryOk axisFinite axisOk plusProduct slabEntry slab startSized startLent startFinite startOk startCall lengthsOk coreFinite notBelowZero cuttingFinite cuttingOk
     endedAs loneFinite loneOk courseFinite courseOk zonesFinite settingsOk stepOk stepOver evolveOver
 at-the-edge =
-    (refl, (refl, (refl, (refl, (refl, (refl, (refl, (refl, (refl, (refl, (refl, (refl, (refl, (refl, (refl, (refl, (refl, (refl, (refl, (refl, tt))))))))))))))))))))
+    (refl, (refl, (refl, (refl, (refl, (refl, (refl, (refl, (refl, (refl, (refl, (refl, (refl, (refl, (refl, (refl, (refl, (refl, (refl, (refl, (refl, (refl, (refl, (refl, (refl, (refl, tt))))))))))))))))))))))))))

@@ -12,6 +12,7 @@ use Rattle.lists.specs.Slots.{offset, slot, fit}
 use Rattle.lists.specs.Walks.{along, every, walk}
 use Rattle.shape.specs.Cores.{place, entry, block, coreAt, coresOf, pointsAt, reshaped}
 use Rattle.shape.specs.Shapes.{sizeOk, bondOk, shapeOk, coreSize, pointSize}
+use Rattle.stepform.specs.Boundaries.{boundaryOk, reflected, wrapped}
 use Rattle.stepform.specs.Axes.{axisFinite, axisOk}
 use Rattle.stepform.specs.Shifts.{distance, spacing, shiftOf, shifted, scaled}
 use Rattle.stepform.specs.Weights.{cubicBandWeights, bandOn, shiftedAt}
@@ -32,11 +33,12 @@ use Rattle.stepform.specs.Zones.{zonesOf, rules}
 use Rattle.hand_sums.specs.Cases.{cases, AllRight}
 use Rattle.hand_sums.specs.Overflows.{overflows}
 use Rattle.hand_sums.specs.Dropped.{dropping}
+use Rattle.hand_sums.specs.Mirrored.{mirrored}
 
-all : AllRight cases × (AllRight overflows × AllRight dropping)
-unfolding cases overflows dropping add sub mul div neg lt le eq ofInt ofBits toBits demand demandEach floorOf wrap rootIn wholeRoot rootOfUnits rootOf wholeOf fractionOf
+all : AllRight cases × AllRight overflows × AllRight dropping × AllRight mirrored
+unfolding cases overflows dropping mirrored add sub mul div neg lt le eq ofInt ofBits toBits demand demandEach floorOf wrap rootIn wholeRoot rootOfUnits rootOf wholeOf fractionOf
     sumOn sumTo sumRows allFinite firstNotFinite stored pick listed flat first count pairs folded offset slot fit along every walk place entry block coreAt
-    coresOf pointsAt reshaped sizeOk bondOk shapeOk coreSize pointSize axisFinite axisOk distance spacing shiftOf shifted scaled cubicBandWeights bandOn
+    coresOf pointsAt reshaped sizeOk bondOk shapeOk coreSize pointSize boundaryOk reflected wrapped axisFinite axisOk distance spacing shiftOf shifted scaled cubicBandWeights bandOn
     shiftedAt gram divided leftFactor carryOf cutBond absorb tangentOf slopeOf cosineOf turnedAt eye turnColumns turnRows cleared turned skipped rotate
     sweep offSum settled sweepsFrom diagonalized singularOf singulars placeIn indexAt order sorted thresholdOf keptRank droppedFrom lengthsOk coreFinite notBelowZero cuttingFinite cuttingOk
     roundFinite roundOk scratchAfter endedAs roundCall roundCore rounding innerLent innerFinite innerOk weighed innerCall contract contractAt sumAxis sums
@@ -44,10 +46,9 @@ unfolding cases overflows dropping add sub mul div neg lt le eq ofInt ofBits toB
     greater furtherBond further stepsFrom stepsOf settingsFor evolveOver
 all = (
   (refl, (refl, (refl, (refl, (refl, (refl, (refl, (refl, (refl, (refl, (refl, tt))))))))))),
-  (
-    (refl, (refl, (refl, (refl, (refl, (refl, (refl, (refl, (refl, (refl, (refl, (refl, tt)))))))))))),
-    (refl, (refl, (refl, (refl, (refl, (refl, (refl, (refl, (refl, tt))))))))),
-  ),
+  (refl, (refl, (refl, (refl, (refl, (refl, (refl, (refl, (refl, (refl, (refl, (refl, tt)))))))))))),
+  (refl, (refl, (refl, (refl, (refl, (refl, (refl, (refl, (refl, tt))))))))),
+  (refl, (refl, (refl, (refl, (refl, (refl, (refl, tt))))))),
 )
 
 -- the sums of the scope
@@ -56,8 +57,12 @@ by-hand = all .0
 
 -- which part overflowed
 pub by-part : AllRight overflows
-by-part = all .1 .0
+by-part = all .1
 
 -- what was dropped
 pub by-drop : AllRight dropping
-by-drop = all .1 .1
+by-drop = all .2
+
+-- axes that reflect
+pub by-mirror : AllRight mirrored
+by-mirror = all .3

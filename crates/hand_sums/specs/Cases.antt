@@ -18,6 +18,7 @@ use Rattle.lists.specs.Floats.{zeros}
 use Rattle.shape.specs.declared.Shape.{Shape}
 use Rattle.shape.specs.Limits.{scratchFor}
 use Rattle.stepform.specs.declared.Axis.{Axis}
+use Rattle.stepform.specs.Boundaries.{periodic}
 use Rattle.cutform.specs.declared.Rounded.{Rounded}
 use Rattle.cutform.specs.declared.Bond.{Bond}
 use Rattle.cutform.specs.Call.{Ended, roundCall}
@@ -60,7 +61,7 @@ abbrev ended : ℕ → Rounded → List Float → Verdict → List ℕ
 ended n r l Fits = take n (r .shape .right) ++ (take n (map (λ (b : Bond). b .sweeps) (r .bonds)) ++ bits l)
 ended n r l (Refused e) = toldOf (Refused e)
 
-abbrev endedBits : ℕ → Ended → List ℕ
+abbrev pub endedBits : ℕ → Ended → List ℕ
 endedBits n e = ended n (e .result) (e .chain) (e .result .verdict)
 
 abbrev rounded : Shape → Float → List Float → List ℕ
@@ -92,13 +93,16 @@ case n g w = record { number = n; got = g; want = w }
 abbrev P5-ratio : Float
 P5-ratio = fin true 1 (negsuc 59)
 
-abbrev P7-shape : Shape
+abbrev pub P7-shape : Shape
 P7-shape = record { d = 1; left = 1 ∷ replicate 15 0; n = 4 ∷ replicate 15 0; right = 1 ∷ replicate 15 0 }
 
-abbrev P7-axis : Axis
-P7-axis = record { a = quarter64; b = zero64; xmin = zero64; xmax = whole 3 }
+abbrev pub P7-core : List Float
+P7-core = power 1 (pos 2) ∷ power 1 (pos 3) ∷ power 1 (pos 4) ∷ zero64 ∷ []
 
-abbrev P7-settings : Settings
+abbrev P7-axis : Axis
+P7-axis = record { a = quarter64; b = zero64; xmin = zero64; xmax = whole 3; boundary = periodic }
+
+abbrev pub P7-settings : Settings
 P7-settings = record { tau = one64; c = zero64; cutting = record { eps = zero64 } }
 
 abbrev weights : List Float
@@ -112,9 +116,7 @@ cases =
     -- the floor, the integer s0 that the shift takes for it, and t
     ∷ case 5 (bits (floorOf P5-ratio ∷ []) ++ (integer (wholeParts P5-ratio) ++ bits (fractionOf P5-ratio ∷ [])))
     (bits (fin true 1 (pos 0) ∷ []) ++ (1 ∷ 1 ∷ bits (one64 ∷ [])))
-    ∷ case 7 (endedBits 1 (stepCall P7-settings P7-shape (P7-axis ∷ [])
-    (power 1 (pos 2) ∷ power 1 (pos 3) ∷ power 1 (pos 4) ∷ zero64 ∷ [])
-    (zeros (scratchFor 4))))
+    ∷ case 7 (endedBits 1 (stepCall P7-settings P7-shape (P7-axis ∷ []) P7-core (zeros (scratchFor 4))))
     (1 ∷ 0 ∷ bits (power 1 (pos 2) ∷ whole 9 ∷ power 5 (pos 1) ∷ whole 5 ∷ []))
     ∷ case 8 (rounded D-shape zero64 D) (2 ∷ 1 ∷ 0 ∷ 0 ∷ bits (zero64 ∷ one64 ∷ one64 ∷ zero64 ∷ power 1 (pos 2) ∷ whole 3 ∷ []))
     -- the shape stays, of rank 2

@@ -11,6 +11,7 @@ use Rattle.lists.specs.Floats.{zeros}
 use Rattle.shape.specs.declared.Shape.{Shape}
 use Rattle.shape.specs.Limits.{scratchFor}
 use Rattle.stepform.specs.declared.Axis.{Axis}
+use Rattle.stepform.specs.Boundaries.{periodic}
 use Rattle.cutform.specs.declared.Rounded.{Rounded}
 use Rattle.cutform.specs.declared.Bond.{Bond}
 use Rattle.cutform.specs.Call.{roundCall}
@@ -37,7 +38,7 @@ D-between =
     said (roundCall s (record { eps = three-quarters }) l (zeros (scratchFor 14)) .result)
 
 abbrev still : Axis
-still = record { a = zero64; b = zero64; xmin = zero64; xmax = one64 }
+still = record { a = zero64; b = zero64; xmin = zero64; xmax = one64; boundary = periodic }
 
 abbrev stepped : List ℕ
 stepped =
@@ -46,7 +47,7 @@ stepped =
 
 -- ---- steps that move core 0 by one of its four points either way: a column of one number stays; of two signs, with one neighbour of each, it is halved
 abbrev moving : Axis
-moving = record { a = quarter64; b = zero64; xmin = zero64; xmax = whole 3 }
+moving = record { a = quarter64; b = zero64; xmin = zero64; xmax = whole 3; boundary = periodic }
 
 -- rounded by eps 0.5
 abbrev evolved : ℕ → ℕ → Float → List Float → List ℕ

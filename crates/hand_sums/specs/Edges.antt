@@ -14,6 +14,7 @@ use Rattle.shape.specs.Limits.{scratchFor}
 use Rattle.shape.specs.Shapes.{chainOk}
 use Rattle.shape.specs.Cores.{coreWith}
 use Rattle.stepform.specs.declared.Axis.{Axis}
+use Rattle.stepform.specs.Boundaries.{periodic}
 use Rattle.pairform.specs.Slabs.{slab}
 use Rattle.sumform.specs.Start.{startCall}
 use Rattle.stepform.specs.Call.{stepCall, evolveCall}
@@ -33,7 +34,11 @@ three-cores l0 r0 l1 r1 l2 r2 =
 
 -- ---- D with another last number, and with these settings
 abbrev axis : Float → Float → Axis
-axis a b = record { a = a; b = b; xmin = zero64; xmax = one64 }
+axis a b = record { a = a; b = b; xmin = zero64; xmax = one64; boundary = periodic }
+
+-- of another boundary
+abbrev edged : ℕ → Float → Axis
+edged boundary b = record { a = zero64; b = b; xmin = zero64; xmax = one64; boundary = boundary }
 
 abbrev still : Axis
 still = axis zero64 zero64
@@ -76,6 +81,13 @@ edges =
     -- 7: a lone setting before an axis; before 8
     ∷ case 7 (stepped one64 zero64 minus-one still (axis minus-one zero64) one64) (7 ∷ 0 ∷ 0 ∷ [])
     ∷ case 7 (stepped one64 zero64 zero64 (axis zero64 (fin false 1 (pos 40))) (axis minus-one zero64) one64) (7 ∷ 1 ∷ 0 ∷ [])
+    -- a boundary that isn't known is 7 at its axis, beside an a below zero at the other, lowest first; behind 6, and before 8
+    ∷ case 7 (stepped one64 zero64 zero64 still (edged 2 zero64) one64) (7 ∷ 1 ∷ 0 ∷ [])
+    ∷ case 7 (stepped one64 zero64 zero64 (edged 2 zero64) (axis minus-one zero64) one64) (7 ∷ 0 ∷ 0 ∷ [])
+    ∷ case 7 (stepped one64 zero64 zero64 (axis minus-one zero64) (edged 2 zero64) one64) (7 ∷ 0 ∷ 0 ∷ [])
+    ∷ case 7 (stepped one64 zero64 minus-one still (edged 2 zero64) one64) (7 ∷ 0 ∷ 0 ∷ [])
+    ∷ case 6 (stepped one64 zero64 zero64 (edged 2 zero64) still nan) (6 ∷ 1 ∷ 0 ∷ [])
+    ∷ case 7 (stepped one64 zero64 zero64 (axis zero64 (fin false 1 (pos 40))) (edged 2 (fin false 1 (pos 40))) one64) (7 ∷ 1 ∷ 0 ∷ [])
     -- 5: a start's vectors are slice 0, its chain slice 1
     ∷ case 5 (started (zeros 2) (zeros 3)) (5 ∷ 0 ∷ 0 ∷ [])
     ∷ case 5 (started (zeros 3) (zeros 2)) (5 ∷ 1 ∷ 0 ∷ [])

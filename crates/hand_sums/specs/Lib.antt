@@ -2,3 +2,4 @@ pub mod Cases
 pub mod Edges
 pub mod Overflows
 pub mod Dropped
+pub mod Mirrored

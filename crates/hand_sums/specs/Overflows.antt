@@ -11,6 +11,7 @@ use Rattle.lists.specs.Floats.{zeros}
 use Rattle.shape.specs.declared.Shape.{Shape}
 use Rattle.shape.specs.Limits.{scratchFor}
 use Rattle.stepform.specs.declared.Axis.{Axis}
+use Rattle.stepform.specs.Boundaries.{periodic}
 use Rattle.cutform.specs.Call.{roundCall}
 use Rattle.sumform.specs.Call.{innerCall}
 use Rattle.stepform.specs.declared.Settings.{Settings}
@@ -29,7 +30,7 @@ rounded s l = toldOf (roundCall s (record { eps = zero64 }) l (zeros (scratchFor
 
 -- an axis of nine points a unit apart, moved by b
 abbrev moved : Float → Axis
-moved b = record { a = zero64; b = b; xmin = zero64; xmax = power 1 (pos 3) }
+moved b = record { a = zero64; b = b; xmin = zero64; xmax = power 1 (pos 3); boundary = periodic }
 
 -- two cores, of which the second moves by b; core 0 is multiplied by 1 + c
 abbrev stepped : Shape → Float → Float → List Float → List ℕ

@@ -11,6 +11,7 @@ use Rattle.lists.specs.Slots.{offset, slot, put, fit, laid, write}
 use Rattle.lists.specs.Walks.{along, every, walk}
 use Rattle.shape.specs.Cores.{place, entry, block, coreAt, pointsAt}
 use Rattle.shape.specs.Shapes.{sizeOk, bondOk, shapeOk, coreSize, pointSize}
+use Rattle.stepform.specs.Boundaries.{boundaryOk, reflected, wrapped}
 use Rattle.stepform.specs.Axes.{axisFinite, axisOk}
 use Rattle.stepform.specs.Shifts.{distance, spacing, shiftOf, shifted, scaled}
 use Rattle.stepform.specs.Weights.{cubicBandWeights, bandOn, shiftedAt}
@@ -35,26 +36,28 @@ use Rattle.runform.specs.Checks.{rankOk, lentFrom, scratchLent, madeFini
 use Rattle.runform.specs.Requests.{foundOk, foundNumbers, numbersOk, replaceOk, replace}
 use Rattle.runform.specs.Call.{roomLent, runEnd, freshBy, replaceBy}
 use Rattle.runform.specs.Cases.{cases, AllRight}
-use Rattle.runform.specs.Edges.{freshEdges, replacedEdges, RefusedFresh}
+use Rattle.runform.specs.Edges.{freshEdges, replacedEdges, boundaryEdges, RefusedFresh}
 
 pub record Computed : Type 0 where
   pub right : AllRight cases
   pub fresh-edges : AllRight freshEdges
   pub replaced-edges : AllRight replacedEdges
+  pub boundary-edges : AllRight boundaryEdges
   pub refused-fresh : RefusedFresh
 
 pub computed : Computed
-unfolding cases freshEdges replacedEdges add sub mul div neg lt le eq ofInt ofBits toBits demand demandEach wrap wholeOf fractionOf rootIn wholeRoot
+unfolding cases freshEdges replacedEdges boundaryEdges add sub mul div neg lt le eq ofInt ofBits toBits demand demandEach wrap wholeOf fractionOf rootIn wholeRoot
     rootOfUnits rootOf sumOn sumTo sumRows allFinite firstNotFinite stored pick listed flat first count pairs folded offset slot put fit laid write along
-    every walk place entry block coreAt pointsAt sizeOk bondOk shapeOk coreSize pointSize axisFinite axisOk distance spacing shiftOf shifted
+    every walk place entry block coreAt pointsAt sizeOk bondOk shapeOk coreSize pointSize boundaryOk reflected wrapped axisFinite axisOk distance spacing shiftOf shifted
     cubicBandWeights bandOn shiftedAt scaled gram divided leftFactor carryOf cutBond absorb eye offSum settled sweepsFrom diagonalized singularOf singulars
     placeIn indexAt order sorted thresholdOf keptRank droppedFrom coreFinite notBelowZero cuttingFinite cuttingOk scratchAfter roundCore contract contractAt reachesAt shiftZone scaleZone
     roundZone stepFrom rules bondSize carrySize sumSize bare blank zoneAt heldCore carryAt sumsAt weighedAt keepStep keepSums sumZone restep resum sumFrom
     workFrom rankOk lentFrom scratchLent loneFinite madeFinite coreHeld carryHeld sumsHeld droppedHeld heldFinite loneOk madeOk freshOk freshRun foundOk foundNumbers
     numbersOk replaceOk replace roomLent runEnd freshBy replaceBy
 computed = record {
-  right = (refl, (refl, (refl, (refl, (refl, (refl, (refl, (refl, (refl, (refl, (refl, (refl, (refl, (refl, (refl, (refl, (refl, (refl, (refl, tt)))))))))))))))))));
+  right = (refl, (refl, (refl, (refl, (refl, (refl, (refl, (refl, (refl, (refl, (refl, (refl, (refl, (refl, (refl, (refl, (refl, (refl, (refl, (refl, (refl, tt)))))))))))))))))))));
   fresh-edges = (refl, (refl, (refl, (refl, (refl, (refl, (refl, (refl, (refl, (refl, (refl, tt)))))))))));
   replaced-edges = (refl, (refl, (refl, (refl, (refl, (refl, (refl, (refl, (refl, (refl, (refl, (refl, (refl, (refl, (refl, (refl, (refl, (refl, (refl, (refl, (refl, (refl, (refl, (refl, (refl, (refl, (refl, (refl, tt))))))))))))))))))))))))))));
+  boundary-edges = (refl, (refl, (refl, (refl, (refl, (refl, tt))))));
   refused-fresh = (refl, refl);
 }

@@ -27,12 +27,12 @@ use Rattle.runform.proofs.Sound.{Sound, Sized}
 module _ (k : ℕ) (c : Core) (l : List Float) where
   move-fine : (x : Shift) → allFinite (c .entries) ≡ true → moveCore k x c ≡ done l → allFinite l ≡ true
   move-fine stay f h = ap allFinite (sym (done-inj h)) ∙ f
-  move-fine (by r) f h = making-stored Entry k (shifted c r) l h .1
+  move-fine (by r b) f h = making-stored Entry k (shifted c r b) l h .1
 
   move-long : (x : Shift) → length (c .entries) ≡ volume c → moveCore k x c ≡ done l → length l ≡ volume c
   unfolding shifted
   move-long stay f h = ap length (sym (done-inj h)) ∙ f
-  move-long (by r) f h = ap length (sym (making-stored Entry k (shifted c r) l h .0)) ∙ block-length (c .rl) (c .n) (c .rr) _
+  move-long (by r b) f h = ap length (sym (making-stored Entry k (shifted c r b) l h .0)) ∙ block-length (c .rl) (c .n) (c .rr) _
 
 scale-made : (tau c : Float) (l m : List Float) → scaled tau c l ≡ done m → (length m ≡ length l) × (allFinite m ≡ true)
 unfolding scaled

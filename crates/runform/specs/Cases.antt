@@ -15,6 +15,7 @@ use Rattle.lists.specs.Floats.{zeros}
 use Rattle.shape.specs.declared.Shape.{Shape}
 use Rattle.shape.specs.Limits.{scratchFor}
 use Rattle.stepform.specs.declared.Axis.{Axis}
+use Rattle.stepform.specs.Boundaries.{periodic, reflecting}
 use Rattle.cutform.specs.declared.Bond.{Bond}
 use Rattle.cutform.specs.Bonds.{noBond}
 use Rattle.cutform.specs.Keeping.{rankAt, droppedAmong}
@@ -38,7 +39,11 @@ abbrev pub shapeOf : ℕ → ℕ → Shape
 shapeOf d n = record { d = d; left = 1 ∷ 2 ∷ replicate 14 0; n = 2 ∷ n ∷ replicate 14 0; right = 2 ∷ 1 ∷ replicate 14 0 }
 
 abbrev pub axisOf : Float → Float → Axis
-axisOf a b = record { a = a; b = b; xmin = zero64; xmax = one64 }
+axisOf a b = record { a = a; b = b; xmin = zero64; xmax = one64; boundary = periodic }
+
+-- of another boundary
+abbrev pub edgedOf : ℕ → Float → Axis
+edgedOf boundary b = record { a = zero64; b = b; xmin = zero64; xmax = one64; boundary = boundary }
 
 abbrev pub axes : List Axis
 axes = replicate 16 (axisOf zero64 zero64)
@@ -131,6 +136,8 @@ cases =
     -- core 1 is carried over by 0, 4, 3, 0; the record b = 1 moves it by one of its two points, so that 1, 3 and 5, 7 become 2, 2 and 6, 6
     ∷ case (shown wide Fits) (widely (number 20 0) (number 28 0) (number 3 0) (number 9 0) (number 173 0))
     ∷ case (moved (axisOf zero64 one64)) (widely (number 24 0) (number 24 0) (number 6 0) (number 6 0) (number 162 0))
+    -- where its axis reflects, they become 1.5, 2.5 and 5.5, 6.5
+    ∷ case (moved (edgedOf reflecting one64)) (widely (number 22 0) (number 26 0) (fin false 9 (negsuc 0)) (fin false 15 (negsuc 0)) (fin false 335 (negsuc 0)))
     -- each refusal
     ∷ case (told (freshly (shapeOf 0 1))) (1 ∷ 0 ∷ 0 ∷ [])
     ∷ case (told (freshly (shapeOf 2 65))) (2 ∷ 1 ∷ 0 ∷ [])
@@ -139,6 +146,7 @@ cases =
     ∷ case (after kept (newCore 1 (two64 ∷ []))) (5 ∷ 5 ∷ 0 ∷ [])
     ∷ case (after kept (newWeights 1 (nan ∷ []))) (6 ∷ 1 ∷ 0 ∷ [])
     ∷ case (after kept (newAxis 1 (axisOf (fin true 1 (pos 0)) zero64))) (7 ∷ 1 ∷ 0 ∷ [])
+    ∷ case (after kept (newAxis 1 (edgedOf 2 zero64))) (7 ∷ 1 ∷ 0 ∷ [])
     ∷ case (after kept (newAxis 0 (axisOf zero64 (number 1 40)))) (8 ∷ 0 ∷ 0 ∷ [])
     -- a wild forecast: its own Gram matrix, or the core that takes in what is handed on, which is 4, 3; and a wild weight
     ∷ case (after kept (newCore 0 (one64 ∷ one64 ∷ one64 ∷ number 1 600 ∷ []))) (12 ∷ 0 ∷ 3 ∷ [])

@@ -23,7 +23,7 @@ use Rattle.runform.specs.Slices.{slices}
 use Rattle.runform.specs.Kept.{Kept}
 use Rattle.runform.specs.Requests.{Request, newCore, newAxis, newWeights}
 use Rattle.runform.specs.Call.{RunEnd, freshCall, replaceBy}
-use Rattle.runform.specs.Cases.{bond, number, bits, shapeOf, axisOf, axes, D, weights, settings, told, after, new, Case, case}
+use Rattle.runform.specs.Cases.{bond, number, bits, shapeOf, axisOf, edgedOf, axes, D, weights, settings, told, after, new, Case, case}
 
 abbrev minus-one : Float
 minus-one = fin true 1 (pos 0)
@@ -174,6 +174,20 @@ replacedEdges =
     -- new weights make no shift: never 8, which a new core of the same zone gives
     ∷ case (after (spoilt (axesOf far far) set weights) (newCore 0 (zeros 4))) (8 ∷ 0 ∷ 0 ∷ [])
     ∷ case (after (spoilt (axesOf far far) set weights) (newWeights 1 (one64 ∷ []))) (rankOne (number 5 0) minus-nought)
+    ∷ []
+
+-- ---- what runs give of a boundary that isn't known
+unfoldable pub boundaryEdges : List Case
+boundaryEdges =
+    -- a fresh run: beside an a below zero, at the lowest
+    case (freshly (axesOf still (edgedOf 2 zero64)) set D weights) (7 ∷ 1 ∷ 0 ∷ [])
+    ∷ case (freshly (axesOf (edgedOf 2 zero64) (axisOf minus-one zero64)) set D weights) (7 ∷ 0 ∷ 0 ∷ [])
+    -- a held record, also one that is to be replaced
+    ∷ case (each (spoilt (axesOf (edgedOf 2 zero64) still) set weights)) (thrice 7 0)
+    ∷ case (each (spoilt (axesOf still (edgedOf 2 zero64)) set weights)) (thrice 7 1)
+    -- a new record: behind 6, and before 8
+    ∷ case (after (spoilt axes set (one64 ∷ two64 ∷ nan ∷ [])) (newAxis 0 (edgedOf 2 zero64))) (6 ∷ 1 ∷ 0 ∷ [])
+    ∷ case (after (spoilt (axesOf far still) set weights) (newAxis 1 (edgedOf 2 (number 1 40)))) (7 ∷ 1 ∷ 0 ∷ [])
     ∷ []
 
 -- ---- a refused fresh run: the record has what was given and zeros, the slices are as they were
