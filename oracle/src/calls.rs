@@ -1,9 +1,10 @@
 //! The Rust's calls, stage by stage, so that what the port refuses is seen. The end is held to the Rust's whole call.
 use crate::counted::{gram_ev, norms, same, sweep_all};
+use crate::rules::Rule;
 use crate::stored::{demand_finite, Flaw, Made, Watch};
-use crate::tt_chernoff::{self, TtChernoff, TtState};
+use crate::tt_chernoff::{self, TtState};
 use crate::tt_core::{self, TtCore};
-use crate::{tt_coupled_pair, tt_dense_expm};
+use crate::{reflect, tt_coupled_pair, tt_dense_expm};
 
 /// Why the port refuses.
 #[derive(Clone, Copy, Debug)]
@@ -124,16 +125,17 @@ pub fn inner(state: &TtState<f64>, weights: &[Vec<f64>]) -> Result<f64, Refused>
 }
 
 /// h and dx of axis j
-fn distances(rule: &TtChernoff<f64>, tau: f64, n: usize, j: usize) -> (f64, f64) {
+fn distances(rule: &Rule, tau: f64, n: usize, j: usize) -> (f64, f64) {
+    let rust = &rule.rust;
     (
-        2.0 * (rule.a[j] * tau).sqrt() + rule.b[j] * tau,
-        rule.dx(j, n),
+        2.0 * (rust.a[j] * tau).sqrt() + rust.b[j] * tau,
+        rust.dx(j, n),
     )
 }
 
 /// The first axis from z on whose core doesn't stay and whose shift is too far.
 pub fn demand_reach(
-    rule: &TtChernoff<f64>,
+    rule: &Rule,
     tau: f64,
     cores: &[TtCore<f64>],
     z: usize,
@@ -150,45 +152,41 @@ pub fn demand_reach(
 }
 
 /// Core j moved along its axis.
-pub fn shift(
-    rule: &TtChernoff<f64>,
-    tau: f64,
-    core: &mut TtCore<f64>,
-    j: usize,
-) -> Result<(), Refused> {
-    let n = core.n;
-    let (h, dx) = distances(rule, tau, n, j);
-    tt_chernoff::apply_per_axis_shift(core, h, dx, n);
+pub fn shift(rule: &Rule, tau: f64, core: &mut TtCore<f64>, j: usize) -> Result<(), Refused> {
+    let (h, dx) = distances(rule, tau, core.n, j);
+    reflect::shift(core, h, dx, rule.boundaries[j]);
     Ok(demand_finite(Made::Shift, j, &core.data)?)
 }
 
 /// Core 0 times 1 + tau*c.
-pub fn scale(rule: &TtChernoff<f64>, tau: f64, core: &mut TtCore<f64>) -> Result<(), Refused> {
-    let reaction = 1.0 + tau * rule.c;
+pub fn scale(rule: &Rule, tau: f64, core: &mut TtCore<f64>) -> Result<(), Refused> {
+    let reaction = 1.0 + tau * rule.rust.c;
     core.data.iter_mut().for_each(|v| *v *= reaction);
     Ok(demand_finite(Made::Scaling, 0, &core.data)?)
 }
 
-/// `step`: all shifts, then the scaling, then the bonds.
-pub fn step(rule: &TtChernoff<f64>, tau: f64, state: &mut TtState<f64>) -> Result<Bonds, Refused> {
+/// `step`: all shifts, then the scaling, then the bonds. The Rust has such a call for periodic axes alone.
+pub fn step(rule: &Rule, tau: f64, state: &mut TtState<f64>) -> Result<Bonds, Refused> {
     demand_reach(rule, tau, &state.cores, 0)?;
     let mut rust = state.clone();
     for (j, core) in state.cores.iter_mut().enumerate() {
         shift(rule, tau, core, j)?;
     }
     scale(rule, tau, &mut state.cores[0])?;
-    let bonds = round(&mut state.cores, rule.eps_round)?;
-    rule.step(tau, &mut rust);
-    assert!(
-        same_chain(&state.cores, &rust.cores),
-        "step is not the Rust's"
-    );
+    let bonds = round(&mut state.cores, rule.rust.eps_round)?;
+    if rule.is_periodic() {
+        rule.rust.step(tau, &mut rust);
+        assert!(
+            same_chain(&state.cores, &rust.cores),
+            "step is not the Rust's"
+        );
+    }
     Ok(bonds)
 }
 
 /// `evolve`, with the last step's counts, and of each bond the greatest value that a step dropped
 pub fn evolve(
-    rule: &TtChernoff<f64>,
+    rule: &Rule,
     t_final: f64,
     steps: usize,
     state: &mut TtState<f64>,
@@ -205,11 +203,13 @@ pub fn evolve(
         }
     }
     bonds.dropped = greatest;
-    rule.evolve(t_final, steps, &mut rust);
-    assert!(
-        same_chain(&state.cores, &rust.cores),
-        "evolve is not the Rust's"
-    );
+    if rule.is_periodic() {
+        rule.rust.evolve(t_final, steps, &mut rust);
+        assert!(
+            same_chain(&state.cores, &rust.cores),
+            "evolve is not the Rust's"
+        );
+    }
     Ok(bonds)
 }
 

@@ -1,5 +1,6 @@
 //! What cases are made of: sizes, cores of several manners, chains, settings and axis records.
 use crate::random::{ten_to, Random};
+use crate::reflect::{BOUNDARIES, PERIODIC};
 use crate::tt_core::TtCore;
 
 /// The most that a case may have of each.
@@ -223,11 +224,13 @@ pub fn reaction(r: &mut Random) -> f64 {
     r.of(&[0.0, 0.0, 0.0, -0.0, any, any, 1.0, -1.0, 100.0, 1e300])
 }
 
-/// One axis: a, b and the domain.
+/// One axis: a, b, the domain and the boundary.
+#[derive(Clone, Copy, Debug)]
 pub struct Axis {
     pub a: f64,
     pub b: f64,
     pub domain: (f64, f64),
+    pub boundary: usize,
 }
 
 /// dx: usual ones, whole ones, small ones for shifts far beyond n, and those that are zero, negative or infinite.
@@ -276,9 +279,11 @@ fn edge(r: &mut Random, n: usize) -> Axis {
         a,
         b,
         domain: (0.0, n as f64 - 1.0),
+        boundary: PERIODIC,
     }
 }
 
+/// A periodic axis; `bound` makes others of it.
 pub fn axis(r: &mut Random, tau: f64, n: usize) -> Axis {
     if r.one_in(24) {
         return edge(r, n);
@@ -288,6 +293,16 @@ pub fn axis(r: &mut Random, tau: f64, n: usize) -> Axis {
         a,
         b,
         domain: domain(r, n),
+        boundary: PERIODIC,
+    }
+}
+
+/// Gives axes their boundaries: all the same, so that at times the Rust's whole call can be asked, or each its own.
+pub fn bound(r: &mut Random, axes: &mut [Axis]) {
+    let one = r.of(&BOUNDARIES);
+    let each = r.one_in(2);
+    for axis in axes {
+        axis.boundary = if each { r.of(&BOUNDARIES) } else { one };
     }
 }
 

@@ -1,6 +1,9 @@
 //! Cases that are given by hand, as lines without an answer; the Rust's own is put behind each.
+use crate::draw::Axis;
 use crate::kinds;
 use crate::line::Line;
+use crate::rules::Rule;
+use crate::tt_chernoff::TtState;
 use crate::tt_core::TtCore;
 
 /// The words of a line behind a name.
@@ -50,14 +53,34 @@ fn weights(words: &[&str], cores: &[TtCore<f64>]) -> Vec<Vec<f64>> {
         .collect()
 }
 
+/// Five words an axis.
+fn axes(words: &[&str]) -> Vec<Axis> {
+    let list = behind(words, "axes");
+    list[1..=count(list[0])]
+        .chunks(5)
+        .map(|axis| Axis {
+            a: float(axis[0]),
+            b: float(axis[1]),
+            domain: (float(axis[2]), float(axis[3])),
+            boundary: count(axis[4]),
+        })
+        .collect()
+}
+
 pub fn answered(text: &str) -> Line {
     let words: Vec<&str> = text.split_whitespace().collect();
     let cores = cores(&words);
-    let eps = || float(behind(&words, "eps")[0]);
+    let lone = |name: &str| float(behind(&words, name)[0]);
+    let rule = || Rule::of(&axes(&words), lone("c"), lone("eps"));
     let mut line = Line::of_text(text);
     match words[0] {
-        "round" => kinds::rounded(&mut line, cores, eps()),
-        "pair" => kinds::split(&mut line, cores, eps()),
+        "round" => kinds::rounded(&mut line, cores, lone("eps")),
+        "pair" => kinds::split(&mut line, cores, lone("eps")),
+        "step" => kinds::stepped(&mut line, &rule(), lone("tau"), TtState { cores }),
+        "evolve" => {
+            let (t_final, steps) = (lone("t_final"), count(behind(&words, "steps")[0]));
+            kinds::evolved(&mut line, &rule(), t_final, steps, TtState { cores });
+        }
         "inner" => {
             let weights = weights(&words, &cores);
             kinds::summed(&mut line, cores, &weights);

@@ -3,9 +3,10 @@ use crate::calls::{self, Bonds, Refused};
 use crate::draw::{self, Most};
 use crate::line::Line;
 use crate::random::Random;
-use crate::tt_chernoff::{cubic_band_weights, TtChernoff, TtState};
+use crate::rules::{self, Rule};
+use crate::spill;
+use crate::tt_chernoff::{cubic_band_weights, TtState};
 use crate::tt_core::TtCore;
-use crate::{rules, spill};
 
 /// A kind's name, and the function that draws a case of it.
 pub type Kind = (&'static str, fn(&mut Random, &Most, &mut Line));
@@ -143,57 +144,56 @@ fn entry(r: &mut Random, most: &Most, line: &mut Line) {
 }
 
 /// What a step is given but for tau.
-fn ruled(line: &mut Line, rule: &TtChernoff<f64>, cores: &[TtCore<f64>]) {
-    let record = |j: usize| [rule.a[j], rule.b[j], rule.domain[j].0, rule.domain[j].1];
+fn ruled(line: &mut Line, rule: &Rule, cores: &[TtCore<f64>]) {
     line.shape(cores)
-        .floats(
-            "axes",
-            &(0..cores.len()).flat_map(record).collect::<Vec<f64>>(),
-        )
-        .float("c", rule.c)
-        .float("eps", rule.eps_round)
+        .axes(&rule.axes())
+        .float("c", rule.rust.c)
+        .float("eps", rule.rust.eps_round)
         .chain(cores);
 }
 
-fn stepped(line: &mut Line, rule: &TtChernoff<f64>, tau: f64, mut state: TtState<f64>) {
-    ruled(line, rule, &state.cores);
-    line.float("tau", tau).answer();
+/// What the Rust makes of a chain in one step.
+pub fn stepped(line: &mut Line, rule: &Rule, tau: f64, mut state: TtState<f64>) {
+    line.answer();
     let end = calls::step(rule, tau, &mut state);
     ended(line, &state.cores, end);
+}
+
+fn one_step(line: &mut Line, rule: &Rule, tau: f64, state: TtState<f64>) {
+    ruled(line, rule, &state.cores);
+    line.float("tau", tau);
+    stepped(line, rule, tau, state);
 }
 
 fn step(r: &mut Random, most: &Most, line: &mut Line) {
     let cores = draw::chain(r, most);
     let tau = draw::tau(r);
     let rule = rules::any(r, tau, &cores);
-    stepped(line, &rule, tau, TtState { cores });
+    one_step(line, &rule, tau, TtState { cores });
 }
 
 fn edge(r: &mut Random, most: &Most, line: &mut Line) {
     let (rule, tau, state) = rules::at_the_edge(r, most, line.index());
-    stepped(line, &rule, tau, state);
+    one_step(line, &rule, tau, state);
 }
 
 fn spilt_step(r: &mut Random, most: &Most, line: &mut Line) {
     let (rule, tau, state) = spill::step(r, most);
-    stepped(line, &rule, tau, state);
+    one_step(line, &rule, tau, state);
 }
 
-fn evolved(
-    line: &mut Line,
-    rule: &TtChernoff<f64>,
-    tau: f64,
-    steps: usize,
-    mut state: TtState<f64>,
-) {
-    let t_final = tau * steps as f64;
-    ruled(line, rule, &state.cores);
-    line.float("t_final", t_final)
-        .word("steps")
-        .word(steps)
-        .answer();
+/// What the Rust makes of a chain in several steps.
+pub fn evolved(line: &mut Line, rule: &Rule, t_final: f64, steps: usize, mut state: TtState<f64>) {
+    line.answer();
     let end = calls::evolve(rule, t_final, steps, &mut state);
     ended(line, &state.cores, end);
+}
+
+fn many_steps(line: &mut Line, rule: &Rule, tau: f64, steps: usize, state: TtState<f64>) {
+    let t_final = tau * steps as f64;
+    ruled(line, rule, &state.cores);
+    line.float("t_final", t_final).word("steps").word(steps);
+    evolved(line, rule, t_final, steps, state);
 }
 
 fn evolve(r: &mut Random, most: &Most, line: &mut Line) {
@@ -201,13 +201,13 @@ fn evolve(r: &mut Random, most: &Most, line: &mut Line) {
     let steps = draw::count(r, most.steps);
     let tau = draw::tau(r);
     let rule = rules::any(r, tau, &cores);
-    evolved(line, &rule, tau, steps, TtState { cores });
+    many_steps(line, &rule, tau, steps, TtState { cores });
 }
 
 fn spilt_evolve(r: &mut Random, most: &Most, line: &mut Line) {
     let (rule, tau, state) = spill::evolve(r, most);
     let steps = draw::count(r, most.steps);
-    evolved(line, &rule, tau, steps, state);
+    many_steps(line, &rule, tau, steps, state);
 }
 
 /// What the Rust makes of two neighbours.

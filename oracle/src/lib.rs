@@ -8,6 +8,7 @@ pub mod given;
 pub mod kinds;
 pub mod line;
 pub mod random;
+pub mod reflect;
 pub mod rules;
 pub mod spill;
 pub mod stored;

@@ -1,4 +1,5 @@
 //! One case as a line of words: names, counts in decimal, and floats as the 16 hex digits of their bits.
+use crate::draw::Axis;
 use crate::tt_core::TtCore;
 use std::fmt::{Display, Write};
 
@@ -51,6 +52,18 @@ impl Line {
         self.word(name).word(xs.len());
         for x in xs {
             self.word(x);
+        }
+        self
+    }
+
+    /// five words an axis: a, b, xmin, xmax, boundary
+    pub fn axes(&mut self, axes: &[Axis]) -> &mut Line {
+        self.word("axes").word(5 * axes.len());
+        for x in axes {
+            for number in [x.a, x.b, x.domain.0, x.domain.1] {
+                self.bits(number);
+            }
+            self.word(x.boundary);
         }
         self
     }

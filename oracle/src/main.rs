@@ -11,7 +11,7 @@ const USAGE: &str =
   KIND is round, inner, start, entry, step, edge, evolve, pair, root, floor or weights
   spill asks for cases that overflow, of round, inner, step, evolve or pair
   CORES SIZE RANK STEPS are the most of each that a case has: 16 64 8 200 if not given
-  LINES are cases of round, inner and pair without an answer";
+  LINES are cases of round, inner, step, evolve and pair without an answer";
 
 fn main() {
     let words: Vec<String> = std::env::args().skip(1).collect();

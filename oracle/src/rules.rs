@@ -1,23 +1,52 @@
 //! The rule of a step: axis records, reaction and eps, drawn for a chain or taken from the edges of the scope's rules.
 use crate::draw::{self, Axis, Most};
 use crate::random::Random;
+use crate::reflect::{PERIODIC, REFLECTING};
 use crate::tt_chernoff::{TtChernoff, TtState};
 use crate::tt_core::TtCore;
 
-pub fn any(r: &mut Random, tau: f64, cores: &[TtCore<f64>]) -> TtChernoff<f64> {
-    let axes: Vec<Axis> = cores.iter().map(|c| draw::axis(r, tau, c.n)).collect();
-    let (c, eps) = (draw::reaction(r), draw::eps(r));
-    of(&axes, c, eps)
+/// The Rust's rule, and the boundary of each axis, for which the Rust has no place.
+pub struct Rule {
+    pub rust: TtChernoff<f64>,
+    pub boundaries: Vec<usize>,
 }
 
-pub fn of(axes: &[Axis], c: f64, eps: f64) -> TtChernoff<f64> {
-    TtChernoff::new(
-        axes.iter().map(|x| x.a).collect(),
-        axes.iter().map(|x| x.b).collect(),
-        c,
-        axes.iter().map(|x| x.domain).collect(),
-        eps,
-    )
+impl Rule {
+    pub fn of(axes: &[Axis], c: f64, eps: f64) -> Rule {
+        let rust = TtChernoff::new(
+            axes.iter().map(|x| x.a).collect(),
+            axes.iter().map(|x| x.b).collect(),
+            c,
+            axes.iter().map(|x| x.domain).collect(),
+            eps,
+        );
+        Rule {
+            rust,
+            boundaries: axes.iter().map(|x| x.boundary).collect(),
+        }
+    }
+
+    pub fn axes(&self) -> Vec<Axis> {
+        let axis = |j: usize| Axis {
+            a: self.rust.a[j],
+            b: self.rust.b[j],
+            domain: self.rust.domain[j],
+            boundary: self.boundaries[j],
+        };
+        (0..self.boundaries.len()).map(axis).collect()
+    }
+
+    /// Every axis is periodic: the Rust has a whole call for it.
+    pub fn is_periodic(&self) -> bool {
+        self.boundaries.iter().all(|&boundary| boundary == PERIODIC)
+    }
+}
+
+pub fn any(r: &mut Random, tau: f64, cores: &[TtCore<f64>]) -> Rule {
+    let mut axes: Vec<Axis> = cores.iter().map(|c| draw::axis(r, tau, c.n)).collect();
+    let (c, eps) = (draw::reaction(r), draw::eps(r));
+    draw::bound(r, &mut axes);
+    Rule::of(&axes, c, eps)
 }
 
 /// Settings at the edges of the rules: a, b, xmin, xmax, tau. Whole ratios, offsets far beyond n, the limit of 2^31 and the next f64
@@ -41,14 +70,21 @@ const EDGES: [[f64; 5]; 16] = [
     [1e308, -1e308, 0.0, 2.0, 1e308],
 ];
 
-/// One core of 1 to 4 points, or two cores of rank two, with the next settings of the list; rule, tau and chain.
-pub fn at_the_edge(
-    r: &mut Random,
-    most: &Most,
-    index: usize,
-) -> (TtChernoff<f64>, f64, TtState<f64>) {
+/// The boundaries of one core, or of two.
+const BOUNDS: [&[usize]; 6] = [
+    &[PERIODIC],
+    &[PERIODIC, PERIODIC],
+    &[REFLECTING],
+    &[REFLECTING, REFLECTING],
+    &[PERIODIC, REFLECTING],
+    &[REFLECTING, PERIODIC],
+];
+
+/// One core of 1 to 4 points, or two cores of rank two, with the next settings and boundaries of the lists; rule, tau and chain.
+pub fn at_the_edge(r: &mut Random, most: &Most, index: usize) -> (Rule, f64, TtState<f64>) {
     let [a, b, xmin, xmax, tau] = EDGES[index % EDGES.len()];
     let n = 1 + index / EDGES.len() % 4;
+    let bounds = BOUNDS[index / EDGES.len() / 4 % BOUNDS.len()];
     let core = |rl: usize, rr: usize, r: &mut Random| TtCore {
         r_left: rl,
         n,
@@ -57,12 +93,17 @@ pub fn at_the_edge(
             .map(|_| draw::eps(r).min(most.size as f64) - 0.75)
             .collect(),
     };
-    let cores = if index < 4 * EDGES.len() {
+    let cores = if bounds.len() == 1 {
         vec![core(1, 1, r)]
     } else {
         vec![core(1, 2, r), core(2, 1, r)]
     };
-    let d = cores.len();
-    let rule = TtChernoff::new(vec![a; d], vec![b; d], 0.5, vec![(xmin, xmax); d], 0.0);
-    (rule, tau, TtState { cores })
+    let axis = |&boundary: &usize| Axis {
+        a,
+        b,
+        domain: (xmin, xmax),
+        boundary,
+    };
+    let axes: Vec<Axis> = bounds.iter().map(axis).collect();
+    (Rule::of(&axes, 0.5, 0.0), tau, TtState { cores })
 }

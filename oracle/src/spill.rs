@@ -2,8 +2,9 @@
 //! store what it makes. Where there are two flaws, the order of the work decides which is met.
 use crate::draw::{self, Axis, Manner, Most};
 use crate::random::{ten_to, Random};
-use crate::rules;
-use crate::tt_chernoff::{TtChernoff, TtState};
+use crate::reflect::{point, PERIODIC};
+use crate::rules::Rule;
+use crate::tt_chernoff::TtState;
 use crate::tt_core::TtCore;
 
 /// 10^lo to 10^hi, of either sign
@@ -138,30 +139,32 @@ fn at_the_end(r: &mut Random, core: &mut TtCore<f64>) {
 }
 
 /// Numbers along one fibre, almost the largest f64, with the signs that the weights of a move by `points` and a half have about a point.
-fn fibre(r: &mut Random, core: &mut TtCore<f64>, points: usize) {
+fn fibre(r: &mut Random, core: &mut TtCore<f64>, points: isize, boundary: usize) {
     let (il, im, ir) = (r.below(core.r_left), r.below(core.n), r.below(core.r_right));
     let way = r.of(&[1.0, -1.0]);
+    let alike = [0, points, points + 1, -points, -points - 1]
+        .map(|away| point(boundary, im as isize + away, core.n));
     for i in 0..core.n {
-        let away = i.abs_diff(im).min(core.n - i.abs_diff(im));
-        let agrees = [0, points, points + 1].contains(&away);
-        let sign = if agrees { way } else { -way };
+        let sign = if alike.contains(&i) { way } else { -way };
         core.set(il, i, ir, sign * almost_largest(r));
     }
 }
 
-/// A core whose entries overflow where they are moved, and its axis; half a circle or more would bring both neighbours together.
-fn shift(r: &mut Random, tau: f64, core: &mut TtCore<f64>) -> Axis {
+/// A core whose entries overflow where they are moved, and its axis; half a circle or more would bring both neighbours together, and two
+/// circles bring every point back to its place, also where the axis reflects.
+fn shift(r: &mut Random, tau: f64, core: &mut TtCore<f64>, boundary: usize) -> Axis {
     let points = r.below(((core.n - 1) / 2).max(1));
     if r.one_in(4) {
         at_the_end(r, core);
     } else {
-        fibre(r, core, points);
+        fibre(r, core, points as isize, boundary);
     }
-    let rounds = core.n * r.below(3);
+    let rounds = 2 * core.n * r.below(3);
     Axis {
         a: 0.0,
         b: r.of(&[1.0, -1.0]) * ((points + rounds) as f64 + 0.5) / tau,
         domain: (0.0, core.n as f64 - 1.0),
+        boundary,
     }
 }
 
@@ -183,13 +186,15 @@ fn still(core: &TtCore<f64>) -> Axis {
         a: 0.0,
         b: 0.0,
         domain: (0.0, core.n as f64),
+        boundary: PERIODIC,
     }
 }
 
 /// Rule, tau and chain of a step. What is planted last is met first.
-pub fn step(r: &mut Random, most: &Most) -> (TtChernoff<f64>, f64, TtState<f64>) {
+pub fn step(r: &mut Random, most: &Most) -> (Rule, f64, TtState<f64>) {
     let mut cores = calm(r, most);
     let mut axes: Vec<Axis> = cores.iter().map(still).collect();
+    draw::bound(r, &mut axes);
     let (mut c, tau) = (0.0, r.of(&[0.25, 0.5, 1.0, 16.0]));
     let [bonded, scaled, moved] = r.of(&[
         [true, false, false],
@@ -208,20 +213,21 @@ pub fn step(r: &mut Random, most: &Most) -> (TtChernoff<f64>, f64, TtState<f64>)
     }
     if moved {
         let j = r.below(cores.len());
-        axes[j] = shift(r, tau, &mut cores[j]);
+        axes[j] = shift(r, tau, &mut cores[j], axes[j].boundary);
     }
-    (rules::of(&axes, c, eps(r)), tau, TtState { cores })
+    (Rule::of(&axes, c, eps(r)), tau, TtState { cores })
 }
 
 /// The same of an evolve: a flaw that its first step meets, or a chain that every step makes larger until one is met.
-pub fn evolve(r: &mut Random, most: &Most) -> (TtChernoff<f64>, f64, TtState<f64>) {
+pub fn evolve(r: &mut Random, most: &Most) -> (Rule, f64, TtState<f64>) {
     if r.one_in(2) {
         return step(r, most);
     }
     let cores = calm(r, most);
-    let axes: Vec<Axis> = cores.iter().map(still).collect();
+    let mut axes: Vec<Axis> = cores.iter().map(still).collect();
+    draw::bound(r, &mut axes);
     let c = large(r, 20, 120);
-    (rules::of(&axes, c, eps(r)), 1.0, TtState { cores })
+    (Rule::of(&axes, c, eps(r)), 1.0, TtState { cores })
 }
 
 // ---- an inner product
