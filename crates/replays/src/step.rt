@@ -8,7 +8,14 @@ fn record() -> stepform::Axis {
     let b = crate::cases::number();
     let xmin = crate::cases::number();
     let xmax = crate::cases::number();
-    stepform::Axis { a, b, xmin, xmax }
+    let boundary = crate::cases::word();
+    stepform::Axis {
+        a,
+        b,
+        xmin,
+        xmax,
+        boundary,
+    }
 }
 
 // The axis records that follow; one too many is refused by its count, wherever it stands.
@@ -50,7 +57,7 @@ pub fn agrees() -> bool {
     let mut b = crate::cases::room();
     let kind = crate::cases::word();
     let s = crate::cases::shape();
-    let count = crate::cases::word() / 4 % MOST_RECORDS;
+    let count = crate::cases::word() / 5 % MOST_RECORDS;
     let xs = records(count);
     let c = crate::cases::number();
     let eps = crate::cases::number();
