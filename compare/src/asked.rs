@@ -28,8 +28,7 @@ fn inputs(found: &mut Found, run: &Run) {
     table::points_finite(found, s, &run.weights);
     for k in 0..s.d {
         found.finite(k, part(&run.source, |k| core_size(s, k), k));
-        found.finite(k, &lone.axes[k]);
-        found.below_zero(k, lone.axes[k][0]);
+        found.axis(k, &lone.axes[k]);
     }
 }
 
@@ -61,10 +60,7 @@ fn kept(found: &mut Found, run: &Run) {
 fn new_part(found: &mut Found, zone: usize, new: &Part) {
     match new {
         Part::Core(xs) | Part::Weights(xs) => found.finite(zone, xs),
-        Part::Axis(record) => {
-            found.finite(zone, record);
-            found.below_zero(zone, record[0]);
-        }
+        Part::Axis(axis) => found.axis(zone, axis),
     }
 }
 

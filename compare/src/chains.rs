@@ -1,8 +1,9 @@
-//! Chains as the port has them, flat with a shape, and as the Rust has them, core by core.
-use crate::port::Shape;
+//! Chains as the port has them, flat with a shape, and as the Rust has them, core by core; and the rules of their axes.
+use crate::port::{Axis, Shape};
 use crate::table;
 use oracle::draw::{self, Most};
 use oracle::random::Random;
+use oracle::rules::Rule;
 use oracle::tt_core::TtCore;
 
 /// A chain, mostly a small one; one in twelve is of any size, one in a hundred about as large as there may be.
@@ -53,6 +54,29 @@ pub fn lists_of(s: &Shape, xs: &[f64]) -> Vec<Vec<f64>> {
     (0..s.d)
         .map(|k| table::part(xs, |k| s.n[k], k).to_vec())
         .collect()
+}
+
+/// An axis as the port has it.
+pub fn record_of(axis: draw::Axis) -> Axis {
+    let (xmin, xmax) = axis.domain;
+    Axis {
+        a: axis.a,
+        b: axis.b,
+        xmin,
+        xmax,
+        boundary: axis.boundary,
+    }
+}
+
+/// The rule of a step over axes that aren't refused.
+pub fn rule_of(axes: &[Axis], c: f64, eps: f64) -> Rule {
+    let axis = |x: &Axis| draw::Axis {
+        a: x.a,
+        b: x.b,
+        domain: (x.xmin, x.xmax),
+        boundary: x.boundary,
+    };
+    Rule::of(&axes.iter().map(axis).collect::<Vec<_>>(), c, eps)
 }
 
 /// The scratch that a call over this chain asks for.

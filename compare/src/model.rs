@@ -1,10 +1,11 @@
 //! A kept run as the Rust's own functions make it: the work from a zone on, over whatever the run holds left of it.
-use crate::chains::{cores_of, lists_of};
-use crate::port::{Bond, Record, Shape};
+use crate::chains::{cores_of, lists_of, rule_of};
+use crate::port::{Axis, Bond, Record, Shape};
 use crate::table::{self, part};
 use oracle::calls::{self, Bonds, Refused};
 use oracle::counted::same;
-use oracle::tt_chernoff::{TtChernoff, TtState};
+use oracle::rules::Rule;
+use oracle::tt_chernoff::TtState;
 use oracle::tt_core::TtCore;
 
 /// The record and the five slices.
@@ -23,7 +24,7 @@ pub struct Run {
 pub enum Part {
     Core(Vec<f64>),
     Weights(Vec<f64>),
-    Axis([f64; 4]),
+    Axis(Axis),
 }
 
 /// How many places zone k has for its carry, and for its sums.
@@ -94,15 +95,9 @@ impl Run {
         &part(&self.sums, |k| sum_size(self.shape(), k), k)[..self.right_rank(k)]
     }
 
-    pub fn rule(&self) -> TtChernoff<f64> {
-        let axes = &self.record.axes[..self.shape().d];
-        TtChernoff::new(
-            axes.iter().map(|x| x[0]).collect(),
-            axes.iter().map(|x| x[1]).collect(),
-            self.record.c,
-            axes.iter().map(|x| (x[2], x[3])).collect(),
-            self.record.eps,
-        )
+    pub fn rule(&self) -> Rule {
+        let lone = &self.record;
+        rule_of(&lone.axes[..self.shape().d], lone.c, lone.eps)
     }
 
     /// The source with the new part in.
@@ -112,7 +107,7 @@ impl Run {
         match new {
             Part::Core(xs) => put(&mut run.source, |k| table::core_size(s, k), zone, xs),
             Part::Weights(xs) => put(&mut run.weights, |k| s.n[k], zone, xs),
-            Part::Axis(record) => run.record.axes[zone] = *record,
+            Part::Axis(axis) => run.record.axes[zone] = *axis,
         }
         run
     }
@@ -136,7 +131,7 @@ fn step_from(run: &mut Run, z: usize) -> Result<(), Refused> {
         }
         if k + 1 < s.d {
             let mut bond = Bonds::default();
-            calls::cut(core, k, rule.eps_round, &mut bond)?;
+            calls::cut(core, k, run.record.eps, &mut bond)?;
             made.record.bonds[k] = Bond {
                 rank: core.r_right,
                 sweeps: bond.sweeps[0],

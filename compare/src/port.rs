@@ -36,9 +36,34 @@ pub struct Shape {
     pub right: [usize; 16],
 }
 
-/// For each axis a, b, xmin and xmax.
+/// One axis record.
 #[repr(C)]
-pub struct Axes([[f64; 4]; 16]);
+#[derive(Clone, Copy, Debug)]
+pub struct Axis {
+    pub a: f64,
+    pub b: f64,
+    pub xmin: f64,
+    pub xmax: f64,
+    pub boundary: usize,
+}
+
+impl Axis {
+    pub fn numbers(&self) -> [f64; 4] {
+        [self.a, self.b, self.xmin, self.xmax]
+    }
+}
+
+/// By bits, as a bond.
+impl PartialEq for Axis {
+    fn eq(&self, other: &Axis) -> bool {
+        let all = |x: &Axis| (x.numbers().map(f64::to_bits), x.boundary);
+        all(self) == all(other)
+    }
+}
+
+/// The records of all axes, by value.
+#[repr(C)]
+pub struct Axes([Axis; 16]);
 
 /// How a cut is made: eps.
 #[repr(C)]
@@ -128,7 +153,7 @@ pub struct Seen {
 #[derive(Clone, Debug)]
 pub struct Record {
     pub shape: Shape,
-    pub axes: [[f64; 4]; 16],
+    pub axes: [Axis; 16],
     pub tau: f64,
     pub c: f64,
     pub eps: f64,
@@ -147,10 +172,6 @@ impl Ran {
         (self.refusal, self.run)
     }
 }
-
-/// One axis record, by value.
-#[repr(C)]
-pub struct Axis(pub [f64; 4]);
 
 type Read<T> = *const T;
 type Written<T> = *mut T;
@@ -222,15 +243,22 @@ pub fn tt_round(s: &Shape, eps: f64, chain: &mut [f64], scratch: &mut [f64]) -> 
     }
 }
 
+/// What stands where there is no record: nothing that would be accepted if it were looked at.
+const NONE: Axis = Axis {
+    a: f64::NAN,
+    b: f64::NAN,
+    xmin: f64::NAN,
+    xmax: f64::NAN,
+    boundary: usize::MAX,
+};
+
 /// The records that there is room for; how many there are is told beside them.
-fn listed(axes: &[[f64; 4]]) -> Axes {
-    Axes(std::array::from_fn(|j| {
-        *axes.get(j).unwrap_or(&[f64::NAN; 4])
-    }))
+fn listed(axes: &[Axis]) -> Axes {
+    Axes(std::array::from_fn(|j| *axes.get(j).unwrap_or(&NONE)))
 }
 
 #[rustfmt::skip]
-pub fn step(s: &Shape, set: [f64; 3], axes: &[[f64; 4]], chain: &mut [f64], scratch: &mut [f64]) -> Rounded {
+pub fn step(s: &Shape, set: [f64; 3], axes: &[Axis], chain: &mut [f64], scratch: &mut [f64]) -> Rounded {
     unsafe {
         uyavsker_step(s.clone(), Settings(set), listed(axes), axes.len(),
             chain.as_mut_ptr(), chain.len(), scratch.as_mut_ptr(), scratch.len())
@@ -238,7 +266,7 @@ pub fn step(s: &Shape, set: [f64; 3], axes: &[[f64; 4]], chain: &mut [f64], scra
 }
 
 #[rustfmt::skip]
-pub fn evolve(s: &Shape, course: Course, axes: &[[f64; 4]], chain: &mut [f64], scratch: &mut [f64]) -> Rounded {
+pub fn evolve(s: &Shape, course: Course, axes: &[Axis], chain: &mut [f64], scratch: &mut [f64]) -> Rounded {
     unsafe {
         uyavsker_evolve(s.clone(), course, listed(axes), axes.len(),
             chain.as_mut_ptr(), chain.len(), scratch.as_mut_ptr(), scratch.len())
@@ -308,9 +336,9 @@ pub fn replace_weights(run: &Record, z: usize, [source, weights, chain, carries,
 }
 
 #[rustfmt::skip]
-pub fn replace_axis(run: &Record, z: usize, axis: [f64; 4], [source, weights, chain, carries, sums]: Slices, scratch: &mut [f64]) -> (Told, Record) {
+pub fn replace_axis(run: &Record, z: usize, axis: Axis, [source, weights, chain, carries, sums]: Slices, scratch: &mut [f64]) -> (Told, Record) {
     unsafe {
-        uyavsker_replace_axis(run.clone(), z, Axis(axis),
+        uyavsker_replace_axis(run.clone(), z, axis,
             source.as_ptr(), source.len(), weights.as_ptr(), weights.len(), chain.as_mut_ptr(), chain.len(),
             carries.as_mut_ptr(), carries.len(), sums.as_mut_ptr(), sums.len(), scratch.as_mut_ptr(), scratch.len())
     }.told()

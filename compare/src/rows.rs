@@ -2,10 +2,11 @@
 use crate::chains::{flat, scratch_for, shape_of};
 use crate::clock::Clock;
 use crate::model::{self, Run};
-use crate::port::{self, Bond, Course, Record, Shape};
+use crate::port::{self, Axis, Bond, Course, Record, Shape};
 use crate::{files, table};
 use oracle::draw::{self, Manner};
 use oracle::random::{ten_to, Random};
+use oracle::reflect::{PERIODIC, REFLECTING};
 use oracle::tt_chernoff::{TtChernoff, TtState};
 use oracle::tt_core::{self, TtCore};
 use oracle::tt_coupled_pair;
@@ -31,14 +32,38 @@ fn weights(cores: &[TtCore<f64>]) -> Vec<Vec<f64>> {
 
 const TAU: f64 = 0.1;
 const EPS: f64 = 1e-12;
-const AXIS: [f64; 4] = [0.3, 0.1, 0.0, 4.0];
+const AXIS: Axis = Axis {
+    a: 0.3,
+    b: 0.1,
+    xmin: 0.0,
+    xmax: 4.0,
+    boundary: PERIODIC,
+};
 
-/// With a tau of 1 a distance of all 64 points, which brings every number back to its place; and one of none.
-pub const ROUND_TRIP: [f64; 4] = [0.0, 64.0, 0.0, 63.0];
-pub const NO_TRIP: [f64; 4] = [0.0, 0.0, 0.0, 63.0];
+/// With a tau of 1 a distance of none; and one of all 64 points, which brings every number back to its place.
+pub const NO_TRIP: Axis = Axis {
+    a: 0.0,
+    b: 0.0,
+    xmin: 0.0,
+    xmax: 63.0,
+    boundary: PERIODIC,
+};
+pub const ROUND_TRIP: Axis = Axis { b: 64.0, ..NO_TRIP };
 
-fn rule(d: usize, [a, b, low, high]: [f64; 4]) -> TtChernoff<f64> {
-    TtChernoff::new(vec![a; d], vec![b; d], 0.05, vec![(low, high); d], EPS)
+/// A distance of twice all points, which does so whether the axis is periodic or reflects: the bonds have the same work.
+fn twice_round(n: usize, boundary: usize) -> Axis {
+    Axis {
+        b: 2.0 * n as f64,
+        xmax: n as f64 - 1.0,
+        boundary,
+        ..NO_TRIP
+    }
+}
+
+/// The Rust's rule, which is of periodic axes.
+fn rule(d: usize, axis: Axis) -> TtChernoff<f64> {
+    let domain = vec![(axis.xmin, axis.xmax); d];
+    TtChernoff::new(vec![axis.a; d], vec![axis.b; d], 0.05, domain, EPS)
 }
 
 fn round_port<const D: usize, const N: usize, const R: usize>(clock: &mut Clock) {
@@ -84,7 +109,15 @@ fn step_rust<const D: usize, const N: usize, const R: usize>(clock: &mut Clock) 
     moved_rust(clock, &chain::<D, N, R>(), TAU, AXIS);
 }
 
-pub fn moved_port(clock: &mut Clock, cores: &[TtCore<f64>], tau: f64, axis: [f64; 4]) {
+fn twice_port<const D: usize, const N: usize, const R: usize>(clock: &mut Clock, boundary: usize) {
+    moved_port(clock, &chain::<D, N, R>(), 1.0, twice_round(N, boundary));
+}
+
+fn twice_rust<const D: usize, const N: usize, const R: usize>(clock: &mut Clock) {
+    moved_rust(clock, &chain::<D, N, R>(), 1.0, twice_round(N, PERIODIC));
+}
+
+pub fn moved_port(clock: &mut Clock, cores: &[TtCore<f64>], tau: f64, axis: Axis) {
     let (s, given) = (shape(cores), flat(cores));
     let mut scratch = vec![0.0; scratch_for(&given)];
     let (set, axes) = ([tau, 0.05, EPS], vec![axis; s.d]);
@@ -94,7 +127,7 @@ pub fn moved_port(clock: &mut Clock, cores: &[TtCore<f64>], tau: f64, axis: [f64
     );
 }
 
-pub fn moved_rust(clock: &mut Clock, cores: &[TtCore<f64>], tau: f64, axis: [f64; 4]) {
+pub fn moved_rust(clock: &mut Clock, cores: &[TtCore<f64>], tau: f64, axis: Axis) {
     let rule = rule(cores.len(), axis);
     clock.run(
         || TtState {
@@ -367,9 +400,13 @@ const fn alone(name: &'static str, port: Work) -> Row {
 }
 
 #[rustfmt::skip]
-pub const ROWS: [Row; 21] = [
+pub const ROWS: [Row; 25] = [
     beside("step, d 8, n 32, rank 4", step_port::<8, 32, 4>, step_rust::<8, 32, 4>),
     beside("step, d 11, n 64, rank 8", step_port::<11, 64, 8>, step_rust::<11, 64, 8>),
+    beside("step by 2n points, d 8, n 32, rank 4", |c| twice_port::<8, 32, 4>(c, PERIODIC), twice_rust::<8, 32, 4>),
+    alone("step by 2n points, d 8, n 32, rank 4, all axes reflect", |c| twice_port::<8, 32, 4>(c, REFLECTING)),
+    beside("step by 2n points, d 11, n 64, rank 8", |c| twice_port::<11, 64, 8>(c, PERIODIC), twice_rust::<11, 64, 8>),
+    alone("step by 2n points, d 11, n 64, rank 8, all axes reflect", |c| twice_port::<11, 64, 8>(c, REFLECTING)),
     beside("evolve of 10 steps, d 6, n 16, rank 2", evolve_port::<6, 16, 2>, evolve_rust::<6, 16, 2>),
     beside("tt_round, d 16, n 64, rank 8", round_port::<16, 64, 8>, round_rust::<16, 64, 8>),
     beside("tt_round, d 8, n 32, rank 4", round_port::<8, 32, 4>, round_rust::<8, 32, 4>),

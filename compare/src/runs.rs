@@ -1,10 +1,10 @@
 //! Kept runs: a fresh one, then replacements one after another, at times on a run that others wrote to. As long as nobody else wrote,
 //! the run must also be, bit for bit, the port's own fresh run on the present inputs.
 use crate::case::{demand, spilt, told, Agreed, Refusal};
-use crate::chains::{flat, scratch_for, shape_of};
+use crate::chains::{flat, record_of, scratch_for, shape_of};
 use crate::lent::{self, Lent, Word};
 use crate::model::{self, carry_size, sum_size, Part, Run};
-use crate::port::{self, Bond, Record, Told};
+use crate::port::{self, Axis, Bond, Record, Told};
 use crate::rounds::scratch_ends;
 use crate::{asked, spoil, steps, table};
 use oracle::draw::{self, Most};
@@ -22,24 +22,32 @@ fn weights(r: &mut Random, cores: &[TtCore<f64>]) -> Vec<f64> {
     draw(r, cores).concat()
 }
 
+/// What may stand behind the last axis, where it means nothing.
+fn any_axis(r: &mut Random) -> Axis {
+    let mut any = || f64::from_bits(r.next());
+    let (a, b, xmin, xmax) = (any(), any(), any(), any());
+    Axis {
+        a,
+        b,
+        xmin,
+        xmax,
+        boundary: r.next() as usize,
+    }
+}
+
 /// Inputs, with room for what is kept.
 fn inputs(r: &mut Random, most: &Most) -> Run {
     let step = if spilt(r) { spill::step } else { steps::drawn };
     let (rule, tau, state) = step(r, most);
     let cores = state.cores;
-    let mut axes = [[0.0; 4]; 16];
-    for (j, record) in axes.iter_mut().enumerate() {
-        *record = match cores.get(j) {
-            Some(_) => [rule.a[j], rule.b[j], rule.domain[j].0, rule.domain[j].1],
-            None => [0; 4].map(|_: u64| f64::from_bits(r.next())),
-        };
-    }
+    let mut drawn = rule.axes().into_iter().map(record_of);
+    let axes = std::array::from_fn(|_| drawn.next().unwrap_or_else(|| any_axis(r)));
     let record = Record {
         shape: shape_of(r, &cores),
         axes,
         tau,
-        c: rule.c,
-        eps: rule.eps_round,
+        c: rule.rust.c,
+        eps: rule.rust.eps_round,
         bonds: [Bond::default(); 16],
         figure: 0.0,
     };
@@ -55,7 +63,6 @@ fn inputs(r: &mut Random, most: &Most) -> Run {
 
 /// Spoils what a run is made from, or a length.
 fn spoil_inputs(r: &mut Random, run: &mut Run) {
-    let k = r.below(16);
     match r.below(12) {
         0 => spoil::shape(r, &mut run.record.shape),
         1 => spoil::length(r, &mut run.source),
@@ -65,7 +72,7 @@ fn spoil_inputs(r: &mut Random, run: &mut Run) {
         5 => spoil::length(r, &mut run.sums),
         6 => spoil::number(r, &mut run.source),
         7 => spoil::number(r, &mut run.weights),
-        8 => spoil::number(r, &mut run.record.axes[k]),
+        8 => spoil::axis(r, &mut run.record.axes),
         9 => run.record.tau = spoil::setting(r),
         10 => run.record.c = spoil::setting(r),
         _ => run.record.eps = spoil::setting(r),
@@ -126,11 +133,12 @@ fn request(r: &mut Random, run: &Run) -> (usize, Part) {
     if spilt(r) {
         spill::replace(r, &mut core);
     }
-    let axis = draw::axis(r, run.record.tau, n);
+    let mut axis = [draw::axis(r, run.record.tau, n)];
+    draw::bound(r, &mut axis);
     let part = match r.below(3) {
         0 => Part::Core(core.data),
         1 => Part::Weights(weights(r, &[core])),
-        _ => Part::Axis([axis.a, axis.b, axis.domain.0, axis.domain.1]),
+        _ => Part::Axis(record_of(axis[0])),
     };
     (zone, part)
 }
@@ -140,9 +148,9 @@ fn spoil_request(r: &mut Random, zone: &mut usize, new: &mut Part) {
         (0, _) => *zone = r.of(&[zone.wrapping_add(1), 16, 17, usize::MAX]),
         (1, Part::Core(xs) | Part::Weights(xs)) => spoil::length(r, xs),
         (_, Part::Core(xs) | Part::Weights(xs)) => spoil::number(r, xs),
-        (_, Part::Axis(record)) => match r.below(3) {
-            0 => record[0] = -record[0],
-            _ => spoil::number(r, record),
+        (_, Part::Axis(axis)) => match r.below(3) {
+            0 => axis.a = -axis.a,
+            _ => spoil::axis(r, std::slice::from_mut(axis)),
         },
     }
 }
@@ -155,7 +163,7 @@ fn same_bits(xs: &[f64], ys: &[f64]) -> bool {
 fn same_record(x: &Record, y: &Record) -> bool {
     let lone = |x: &Record| [x.tau, x.c, x.eps];
     x.shape == y.shape
-        && same_bits(x.axes.as_flattened(), y.axes.as_flattened())
+        && x.axes == y.axes
         && same_bits(&lone(x), &lone(y))
         && x.bonds == y.bonds
         && x.figure.same(y.figure)
@@ -313,8 +321,8 @@ fn replace(
         Part::Weights(xs) => {
             port::replace_weights(&run.record, zone, slices.parts(), xs, scratch.part())
         }
-        Part::Axis(record) => {
-            port::replace_axis(&run.record, zone, *record, slices.parts(), scratch.part())
+        Part::Axis(axis) => {
+            port::replace_axis(&run.record, zone, *axis, slices.parts(), scratch.part())
         }
     };
     held(&run.record, &got, &slices, &scratch, &want)?;

@@ -1,5 +1,5 @@
-//! What makes a case one that may be refused: sizes at and past their limits, lengths one off, numbers that aren't finite.
-use crate::port::Shape;
+//! What makes a case one that may be refused: sizes at and past their limits, lengths one off, numbers that aren't finite, other boundaries.
+use crate::port::{Axis, Shape};
 use oracle::random::Random;
 
 /// Sizes about every limit.
@@ -61,6 +61,36 @@ pub fn number(r: &mut Random, xs: &mut [f64]) {
     if !xs.is_empty() {
         let at = r.below(xs.len());
         xs[at] = r.of(&NUMBERS);
+    }
+}
+
+/// The two that are known, and others; some are known ones in their lowest byte or in their lower half.
+const BOUNDARIES: [usize; 10] = [
+    0,
+    1,
+    2,
+    3,
+    256,
+    257,
+    1 << 32,
+    (1 << 32) + 1,
+    1 << 63,
+    usize::MAX,
+];
+
+/// One field of any record of the list.
+pub fn axis(r: &mut Random, axes: &mut [Axis]) {
+    if axes.is_empty() {
+        return;
+    }
+    let at = r.below(axes.len());
+    let number = r.of(&NUMBERS);
+    match r.below(6) {
+        0 => axes[at].a = number,
+        1 => axes[at].b = number,
+        2 => axes[at].xmin = number,
+        3 => axes[at].xmax = number,
+        _ => axes[at].boundary = r.of(&BOUNDARIES),
     }
 }
 

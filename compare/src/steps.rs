@@ -1,20 +1,21 @@
 //! Steps, steps at the edges of the rules, and evolves.
 use crate::case::{spilt, Case, Refusal};
-use crate::chains::{cores_of, flat, scratch_for, shape_of};
+use crate::chains::{cores_of, flat, record_of, rule_of, scratch_for, shape_of};
 use crate::lent::{self, Lent};
-use crate::port::{self, Course, Shape};
+use crate::port::{self, Axis, Course, Shape};
 use crate::rounds::{ended, Ended};
 use crate::{chains, spoil, table};
 use oracle::draw::{self, Most};
 use oracle::random::Random;
-use oracle::tt_chernoff::{TtChernoff, TtState};
-use oracle::{calls, rules, spill};
+use oracle::rules::{self, Rule};
+use oracle::tt_chernoff::TtState;
+use oracle::{calls, spill};
 
 /// A chain and its rule: what a step and an evolve are both given.
 #[derive(Debug)]
 struct Moving {
     shape: Shape,
-    axes: Vec<[f64; 4]>,
+    axes: Vec<Axis>,
     c: f64,
     eps: f64,
     chain: Vec<f64>,
@@ -22,14 +23,13 @@ struct Moving {
 }
 
 impl Moving {
-    fn of(r: &mut Random, rule: &TtChernoff<f64>, state: &TtState<f64>) -> Moving {
-        let record = |j: usize| [rule.a[j], rule.b[j], rule.domain[j].0, rule.domain[j].1];
+    fn of(r: &mut Random, rule: &Rule, state: &TtState<f64>) -> Moving {
         let chain = flat(&state.cores);
         Moving {
             shape: shape_of(r, &state.cores),
-            axes: (0..state.cores.len()).map(record).collect(),
-            c: rule.c,
-            eps: rule.eps_round,
+            axes: rule.axes().into_iter().map(record_of).collect(),
+            c: rule.rust.c,
+            eps: rule.rust.eps_round,
             scratch: scratch_for(&chain),
             chain,
         }
@@ -42,7 +42,7 @@ impl Moving {
             2 => spoil::length(r, &mut self.chain),
             3 => spoil::room(r, &mut self.scratch),
             4 => spoil::number(r, &mut self.chain),
-            5 => spoil::number(r, self.axes.as_flattened_mut()),
+            5 => spoil::axis(r, &mut self.axes),
             6 => self.c = spoil::setting(r),
             _ => self.eps = spoil::setting(r),
         }
@@ -60,14 +60,8 @@ impl Moving {
         })
     }
 
-    fn rule(&self) -> TtChernoff<f64> {
-        TtChernoff::new(
-            self.axes.iter().map(|x| x[0]).collect(),
-            self.axes.iter().map(|x| x[1]).collect(),
-            self.c,
-            self.axes.iter().map(|x| (x[2], x[3])).collect(),
-            self.eps,
-        )
+    fn rule(&self) -> Rule {
+        rule_of(&self.axes, self.c, self.eps)
     }
 
     fn state(&self) -> TtState<f64> {
@@ -78,7 +72,7 @@ impl Moving {
 }
 
 /// Rule, tau and chain.
-pub fn drawn(r: &mut Random, most: &Most) -> (TtChernoff<f64>, f64, TtState<f64>) {
+pub fn drawn(r: &mut Random, most: &Most) -> (Rule, f64, TtState<f64>) {
     let cores = chains::draw(r, most);
     let tau = draw::tau(r);
     (rules::any(r, tau, &cores), tau, TtState { cores })

@@ -1,7 +1,7 @@
 //! The scope's table of refusals, 1 to 7, for each call that works in memory: every refusal that holds is found, and the lowest
 //! number wins, then the lowest place. Written from the table's text, beside the port.
 use crate::case::Refusal;
-use crate::port::Shape;
+use crate::port::{Axis, Shape};
 
 /// Number and place of the refusals that hold, of which the lowest is given.
 #[derive(Default)]
@@ -36,6 +36,13 @@ impl Found {
     /// 7 at a place, for a number that must not be below zero.
     pub fn below_zero(&mut self, place: usize, x: f64) {
         self.when(x < 0.0, 7, place);
+    }
+
+    /// 6 and 7 of an axis record: its numbers are finite, a is not below zero, and the boundary is one of two.
+    pub fn axis(&mut self, place: usize, axis: &Axis) {
+        self.finite(place, &axis.numbers());
+        self.below_zero(place, axis.a);
+        self.when(axis.boundary > 1, 7, place);
     }
 }
 
@@ -153,7 +160,7 @@ pub fn start(s: &Shape, vectors: &[f64], chain: usize) -> Option<Refusal> {
 /// below zero.
 pub struct Moved<'a> {
     pub shape: &'a Shape,
-    pub axes: &'a [[f64; 4]],
+    pub axes: &'a [Axis],
     pub chain: &'a [f64],
     pub scratch: usize,
     pub lone: &'a [f64],
@@ -172,9 +179,8 @@ impl Moved<'_> {
         if found.none() {
             found.finite(0, self.lone);
             chain_finite(&mut found, s, self.chain);
-            for (j, record) in self.axes.iter().enumerate() {
-                found.finite(j, record);
-                found.below_zero(j, record[0]);
+            for (j, axis) in self.axes.iter().enumerate() {
+                found.axis(j, axis);
             }
             self.not_below_zero
                 .iter()
