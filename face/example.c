@@ -1,5 +1,6 @@
-/* A plan of two zones: its figure, its file and two roundings, of which one drops a value; of one zone: a step, and a run with new
- * weights; of two zones again: a run that refuses a wild forecast and a wild weight. */
+/* A plan of two zones: its figure, its file and two roundings, of which one drops a value; of one zone: a step around its axis, one
+ * that reflects and one that is refused, and a run with new weights; of two zones again: a run that refuses a wild forecast and a wild
+ * weight. */
 #include "uyavsker.h"
 
 #include <stdio.h>
@@ -77,12 +78,15 @@ static const uyavsker_shape one_zone = {.d = 1, .left = {1}, .n = {4}, .right = 
 static const uyavsker_settings settings = {.tau = 1, .c = 0, .cutting = {.eps = 0}};
 static const uyavsker_axes axes = {.axis = {{.a = 0.25, .b = 0, .xmin = 0, .xmax = 3}}};
 
-static void print_step(void)
+/* Half of each number stays, and a quarter goes one point up and one down: from an end to the other end, or back to where it was. */
+static void print_step(const char *name, size_t boundary)
 {
     double chain[] = {4, 8, 16, 0};
     double scratch[UYAVSKER_SCRATCH(4)];
-    if (!refused(uyavsker_step(one_zone, settings, axes, 1, chain, 4, scratch, UYAVSKER_SCRATCH(4)).refusal))
-        print_numbers("stepped", chain, 4);
+    uyavsker_axes bounded = axes;
+    bounded.axis[0].boundary = boundary;
+    if (!refused(uyavsker_step(one_zone, settings, bounded, 1, chain, 4, scratch, UYAVSKER_SCRATCH(4)).refusal))
+        print_numbers(name, chain, 4);
 }
 
 static void print_run(void)
@@ -134,7 +138,9 @@ int main(void)
     print_file(shape, chain);
     print_rounding(shape, 0);
     print_rounding(shape, 0.75);
-    print_step();
+    print_step("periodic", UYAVSKER_PERIODIC);
+    print_step("reflecting", UYAVSKER_REFLECTING);
+    print_step("unknown", 2);
     print_run();
     print_wild(shape);
     return 0;

@@ -69,7 +69,7 @@ static bool same_bonds(const uyavsker_bond *a, const uyavsker_bond *b)
 
 static bool same_axis(const uyavsker_axis *a, const uyavsker_axis *b)
 {
-    return a->a == b->a && a->b == b->b && a->xmin == b->xmin && a->xmax == b->xmax;
+    return a->a == b->a && a->b == b->b && a->xmin == b->xmin && a->xmax == b->xmax && a->boundary == b->boundary;
 }
 
 /* ---- what is lent: the slices of a run, of which other calls take some ---- */
@@ -290,10 +290,10 @@ static uyavsker_refusal new_weights(const size_t *n)
     return ran.refusal;
 }
 
-/* Moves the last zone by two points, and any other once around. */
+/* Moves the last zone by two points around its axis, where it had been by one and back from its ends; any other as before. */
 static uyavsker_axis new_record(void)
 {
-    return ladder_axis(zone, zone == LAST ? 2 : (double)(9 + zone));
+    return zone == LAST ? ladder_axis(LAST, UYAVSKER_PERIODIC, 2) : ladder_axes().axis[zone];
 }
 
 static uyavsker_refusal new_axis(const size_t *n)
@@ -405,11 +405,11 @@ static void give_written_run(void)
 }
 
 /* The last zone of these entries moved, and what the carry left of it makes of that. */
-static void want_last(double entry(size_t, size_t), size_t by)
+static void want_last(double entry(size_t, size_t), size_t boundary, size_t by)
 {
     double *core = wanted.chain + NUMBERS - LAST_NUMBERS;
     for (size_t im = 0; im < LAST_POINTS; im++) {
-        double first = moved(entry, 0, im, by), second = moved(entry, 1, im, by);
+        double first = moved(entry, boundary, 0, im, by), second = moved(entry, boundary, 1, im, by);
         core[im] = 2 * first + 3 * second;
         core[LAST_POINTS + im] = 5 * first + 7 * second;
     }
@@ -444,7 +444,7 @@ static void replacements(void)
 
     give_written_run();
     memcpy(wanted.source + NUMBERS - LAST_NUMBERS, lent.part, LAST_NUMBERS * sizeof(double));
-    want_last(part_entry, 1);
+    want_last(part_entry, UYAVSKER_REFLECTING, 1);
     want_figure();
     expect_lengths(new_core, with_core, 7, "replace_core");
     expect_replaced("answer of replace_core");
@@ -456,7 +456,7 @@ static void replacements(void)
     expect_replaced("answer of replace_weights");
 
     give_written_run();
-    want_last(last_entry, 2);
+    want_last(last_entry, UYAVSKER_PERIODIC, 2);
     want_figure();
     expect_lengths(new_axis, without_part, 6, "replace_axis");
     given.axes[LAST] = new_record();
@@ -566,7 +566,7 @@ static void refused_roundings(void)
     put_cores(lent.chain, &source, &source, source_entry);
     for (size_t im = 5; im <= 7; im++)
         *entry_at(lent.chain, 3, 1, im, 2) = DBL_MAX;
-    axes.axis[3] = ladder_axis(3, 0.5);
+    axes.axis[3] = ladder_axis(3, ladder_boundary(3), 0.5);
     expect_unrounded(step_ladder(lengths), UYAVSKER_ENTRY, 3, (1 * 12 + 6) * 4 + 2, "step refused");
     axes = ladder_axes();
 
@@ -621,12 +621,15 @@ static void refused_cores(void)
     expect_record("record of replace_axis refused");
 }
 
-/* The scope's chain D for a run, in which nothing moves. */
+/* The scope's chain D for a run, in which nothing moves. Behind its two axes stand boundaries that nobody asks for, and they stay. */
 static void give_d(double eps)
 {
     give_ladder();
     given = (uyavsker_run){.shape = two_zones(2, 2, 1), .settings = {.cutting = {.eps = eps}}};
-    memset(&axes, 0, sizeof axes);
+    given.axes[1].boundary = UYAVSKER_REFLECTING;
+    for (size_t k = 2; k < ZONES; k++)
+        given.axes[k].boundary = 100 + k;
+    memcpy(axes.axis, given.axes, sizeof given.axes);
     memcpy(lent.source, (double[]){3, 0, 0, 4, 1, 1}, 6 * sizeof(double));
     memcpy(lent.weights, (double[]){1, 2, 1}, 3 * sizeof(double));
     wanted = lent;
@@ -682,6 +685,154 @@ static void cuts_in_a_run(void)
     given.bonds[0].dropped = 4;
     given.figure = 6;
     expect_record("record of a new core in D that is cut");
+}
+
+/* ---- boundaries: zones of four points, each of which moves by four ---- */
+
+enum { FOURS = 4 * ZONES };
+
+static const size_t four_lengths[] = {FOURS, FOURS, FOURS, LAST, ZONES, UYAVSKER_SCRATCH(FOURS)};
+static const size_t four_lengths_with_part[] = {FOURS, FOURS, FOURS, LAST, ZONES, 4, UYAVSKER_SCRATCH(FOURS)};
+
+/* Around its axis a number comes back to where it was. Where the axis reflects, it meets the one that stands as far from the other
+ * end, and both become their mean, 1/2. Either way four numbers of length 1 are left, which rounding leaves. */
+static double four_entry(size_t k, size_t boundary, size_t im)
+{
+    if (boundary == UYAVSKER_REFLECTING)
+        return 0.5 + ((double)im - 1.5) * (double)(k + 1) / 32;
+    return im == k % 4 ? -0.5 : 0.5;
+}
+
+static uyavsker_axis four_axis(size_t boundary)
+{
+    return (uyavsker_axis){.b = 4, .xmax = 3, .boundary = boundary};
+}
+
+/* The zones that have this bit in their number reflect, so that no two zones do so for the same bits. */
+static size_t four_boundary(size_t bit, size_t k)
+{
+    return k >> bit & 1 ? UYAVSKER_REFLECTING : UYAVSKER_PERIODIC;
+}
+
+static void give_fours(size_t bit)
+{
+    give_ladder();
+    given = (uyavsker_run){.shape = {.d = ZONES}, .settings = {.tau = 1}};
+    for (size_t k = 0; k < ZONES; k++) {
+        size_t boundary = four_boundary(bit, k);
+        given.shape.left[k] = given.shape.right[k] = 1;
+        given.shape.n[k] = 4;
+        given.axes[k] = four_axis(boundary);
+        for (size_t im = 0; im < 4; im++) {
+            double entry = four_entry(k, boundary, im);
+            lent.source[4 * k + im] = lent.chain[4 * k + im] = entry;
+            wanted.chain[4 * k + im] = boundary == UYAVSKER_REFLECTING ? 0.5 : entry;
+        }
+    }
+    memcpy(axes.axis, given.axes, sizeof given.axes);
+}
+
+static uyavsker_refusal step_fours(void)
+{
+    return uyavsker_step(given.shape, given.settings, axes, ZONES, lent.chain, FOURS, lent.scratch, UYAVSKER_SCRATCH(FOURS)).refusal;
+}
+
+/* A second step leaves what the first has made. */
+static uyavsker_refusal evolve_fours(void)
+{
+    const uyavsker_course course = {.t_final = 2, .steps = 2};
+    return uyavsker_evolve(given.shape, course, axes, ZONES, lent.chain, FOURS, lent.scratch, UYAVSKER_SCRATCH(FOURS)).refusal;
+}
+
+static uyavsker_refusal replace_four_axis(uyavsker_axis axis)
+{
+    ran = uyavsker_replace_axis(given, zone, axis, lent.source, FOURS, lent.weights, FOURS, lent.chain, FOURS, lent.carries, LAST,
+                                lent.sums, ZONES, lent.scratch, UYAVSKER_SCRATCH(FOURS));
+    return ran.refusal;
+}
+
+static void expect_fours(uyavsker_refusal told, const char *what)
+{
+    expect_refusal(told, UYAVSKER_NONE, 0, what);
+    expect(same(lent.chain, wanted.chain, FOURS), what);
+}
+
+static void boundaries_in_steps(void)
+{
+    for (size_t bit = 0; bit < 4; bit++) {
+        give_fours(bit);
+        expect_fours(step_fours(), "boundaries in step");
+        give_fours(bit);
+        expect_fours(evolve_fours(), "boundaries in evolve");
+        give_fours(bit);
+        expect_fours(fresh(four_lengths), "boundaries in fresh_run");
+    }
+}
+
+/* A run in which one zone has the other boundary, and is then given its own. */
+static void replaced_boundaries(void)
+{
+    for (zone = 0; zone < ZONES; zone++) {
+        size_t boundary = four_boundary(0, zone);
+        give_fours(0);
+        axes.axis[zone] = four_axis(boundary == UYAVSKER_PERIODIC ? UYAVSKER_REFLECTING : UYAVSKER_PERIODIC);
+        expect_refusal(fresh(four_lengths), UYAVSKER_NONE, 0, "a run with another boundary");
+        expect(!same(lent.chain, wanted.chain, FOURS), "chain with another boundary");
+        given = ran.run;
+        expect_fours(replace_four_axis(four_axis(boundary)), "a replaced boundary");
+        for (size_t k = 0; k < ZONES; k++)
+            expect(ran.run.axes[k].boundary == four_boundary(0, k), "record with a replaced boundary");
+    }
+}
+
+/* A fresh run with a boundary that isn't known at axis k, then a kept one that others wrote it to, and a new record that has it. */
+static void expect_unknown(size_t k, size_t boundary)
+{
+    give_fours(0);
+    axes.axis[k].boundary = given.axes[k].boundary = boundary;
+    expect_refusal(step_fours(), UYAVSKER_SETTING, k, "an unknown boundary in step");
+    expect_refusal(evolve_fours(), UYAVSKER_SETTING, k, "an unknown boundary in evolve");
+    expect_refusal(fresh(four_lengths), UYAVSKER_SETTING, k, "an unknown boundary in fresh_run");
+    expect_record("record with an unknown boundary");
+
+    give_fours(0);
+    expect_refusal(fresh(four_lengths), UYAVSKER_NONE, 0, "a run without it");
+    given = ran.run;
+    wanted = lent;
+    zone = k;
+    expect_refusal(replace_four_axis(four_axis(boundary)), UYAVSKER_SETTING, k, "an unknown boundary in a new record");
+    expect_record("record without it");
+    given.axes[k].boundary = boundary;
+    zone = (k + 5) % ZONES;
+    expect_refusal(new_core(four_lengths_with_part), UYAVSKER_SETTING, k, "an unknown boundary in replace_core");
+    expect_refusal(new_weights(four_lengths_with_part), UYAVSKER_SETTING, k, "an unknown boundary in replace_weights");
+    expect_refusal(new_axis(four_lengths), UYAVSKER_SETTING, k, "an unknown boundary in replace_axis");
+    expect_record("record of a run with an unknown boundary");
+    expect(as_wanted(), "slices of a run with an unknown boundary");
+}
+
+/* Who reads fewer of their bits takes each for a known one. */
+static void unknown_boundaries(void)
+{
+    const size_t unknown[] = {2, 3, 0x100, 0x10001, 0x100000000, 0x8000000000000001, SIZE_MAX - 1};
+    for (size_t k = 0; k < ZONES; k++)
+        for (size_t i = 0; i < sizeof unknown / sizeof *unknown; i++)
+            expect_unknown(k, unknown[i]);
+}
+
+/* It is looked at with a, after the numbers that aren't finite and before shifts that are too far. */
+static void unknown_boundaries_beside_others(void)
+{
+    give_fours(0);
+    axes.axis[9].boundary = 2;
+    axes.axis[3].b = DBL_MAX;
+    expect_refusal(fresh(four_lengths), UYAVSKER_SETTING, 9, "an unknown boundary behind a shift that is too far");
+    axes.axis[12].a = -1;
+    expect_refusal(fresh(four_lengths), UYAVSKER_SETTING, 9, "an unknown boundary before an a below zero");
+    axes.axis[6].a = -1;
+    expect_refusal(fresh(four_lengths), UYAVSKER_SETTING, 6, "an unknown boundary behind an a below zero");
+    axes.axis[14].xmin = NAN;
+    expect_refusal(fresh(four_lengths), UYAVSKER_NUMBER, 14, "an unknown boundary before a number that isn't finite");
 }
 
 /* ---- pairs ---- */
@@ -832,6 +983,10 @@ int main(void)
     refused_cores();
     slices_of_one_length();
     cuts_in_a_run();
+    boundaries_in_steps();
+    replaced_boundaries();
+    unknown_boundaries();
+    unknown_boundaries_beside_others();
     pairs();
     refused_pairs();
     pairs_of_one_length();

@@ -38,9 +38,19 @@ double last_entry(size_t il, size_t im)
     return 1 + 1000 * (double)il + (double)(im * im);
 }
 
-double moved(double entry(size_t, size_t), size_t il, size_t im, size_t by)
+/* Where the shift finds point i of the last zone. */
+static size_t point_found(size_t boundary, size_t i)
 {
-    return 0.5 * entry(il, im) + 0.25 * entry(il, (im + by) % LAST_POINTS) + 0.25 * entry(il, (im + LAST_POINTS - by) % LAST_POINTS);
+    size_t there = i % (2 * LAST_POINTS);
+    if (boundary == UYAVSKER_REFLECTING && there >= LAST_POINTS)
+        return 2 * LAST_POINTS - 1 - there;
+    return there % LAST_POINTS;
+}
+
+double moved(double entry(size_t, size_t), size_t boundary, size_t il, size_t im, size_t by)
+{
+    size_t ahead = point_found(boundary, im + by), behind = point_found(boundary, im + 2 * LAST_POINTS - by);
+    return 0.5 * entry(il, im) + 0.25 * entry(il, ahead) + 0.25 * entry(il, behind);
 }
 
 double source_entry(size_t k, size_t il, size_t im, size_t ir)
@@ -57,7 +67,7 @@ double source_entry(size_t k, size_t il, size_t im, size_t ir)
 
 static double moved_once(size_t il, size_t im)
 {
-    return moved(last_entry, il, im, 1);
+    return moved(last_entry, ladder_boundary(LAST), il, im, 1);
 }
 
 double stepped_entry(size_t k, size_t il, size_t im, size_t ir)
@@ -70,23 +80,30 @@ double stepped_entry(size_t k, size_t il, size_t im, size_t ir)
 
 double evolved_entry(size_t k, size_t il, size_t im, size_t ir)
 {
-    return k == LAST ? moved(moved_once, il, im, 1) : source_entry(k, il, im, ir);
+    return k == LAST ? moved(moved_once, ladder_boundary(LAST), il, im, 1) : source_entry(k, il, im, ir);
 }
 
 const uyavsker_settings ladder_settings = {.tau = 4, .c = -0.5, .cutting = {.eps = 0x1p-5}};
 
 /* The points stand one apart, and 2*sqrt(4*a) + 4*b is `by`. */
-uyavsker_axis ladder_axis(size_t k, double by)
+uyavsker_axis ladder_axis(size_t k, size_t boundary, double by)
 {
     double root = (double)(k + 1) / 8, xmin = 0.5 - 2 * (double)k;
-    return (uyavsker_axis){.a = root * root, .b = by / 4 - root, .xmin = xmin, .xmax = xmin + 8 + (double)k};
+    return (uyavsker_axis){.a = root * root, .b = by / 4 - root, .xmin = xmin, .xmax = xmin + 8 + (double)k, .boundary = boundary};
+}
+
+size_t ladder_boundary(size_t k)
+{
+    return k % 3 == 0 ? UYAVSKER_REFLECTING : UYAVSKER_PERIODIC;
 }
 
 uyavsker_axes ladder_axes(void)
 {
     uyavsker_axes axes;
-    for (size_t k = 0; k < ZONES; k++)
-        axes.axis[k] = ladder_axis(k, k == LAST ? 1 : (double)(9 + k));
+    for (size_t k = 0; k < ZONES; k++) {
+        size_t boundary = ladder_boundary(k), back = boundary == UYAVSKER_REFLECTING ? 2 * (9 + k) : 9 + k;
+        axes.axis[k] = ladder_axis(k, boundary, k == LAST ? 1 : (double)back);
+    }
     return axes;
 }
 

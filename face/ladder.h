@@ -27,18 +27,22 @@ double stepped_entry(size_t k, size_t il, size_t im, size_t ir);
 double evolved_entry(size_t k, size_t il, size_t im, size_t ir);
 
 /* Entry (il, im) of the last zone, and what a shift by so many points makes of a last zone's: 0.5 of the entry itself and 0.25 of
- * each that stands so far away, around the axis. */
+ * each that stands so far away, around the axis or back from its ends. */
 double last_entry(size_t il, size_t im);
-double moved(double entry(size_t, size_t), size_t il, size_t im, size_t by);
+double moved(double entry(size_t, size_t), size_t boundary, size_t il, size_t im, size_t by);
 
 /* Whether a rounding of the ladder makes all 50 sweeps at bond k. */
 bool sweeps_all(size_t k);
 
 /* Settings with 1 + tau*c = -1, and an axis record that moves zone k by so many points. */
 extern const uyavsker_settings ladder_settings;
-uyavsker_axis ladder_axis(size_t k, double by);
+uyavsker_axis ladder_axis(size_t k, size_t boundary, double by);
 
-/* Every zone once around, which leaves its core; the last by one point. */
+/* The boundary of zone k: every third zone reflects, and so does the last. */
+size_t ladder_boundary(size_t k);
+
+/* Every zone by as many points as it has, which leaves its core, or twice as many where it reflects, which does too; the last by
+ * one point. */
 uyavsker_axes ladder_axes(void);
 
 /* Weights that differ from their neighbours. */

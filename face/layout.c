@@ -16,13 +16,14 @@ AT(uyavsker_shape, left, 8);
 AT(uyavsker_shape, n, 136);
 AT(uyavsker_shape, right, 264);
 
-SIZE(uyavsker_axis, 32);
+SIZE(uyavsker_axis, 40);
 AT(uyavsker_axis, a, 0);
 AT(uyavsker_axis, b, 8);
 AT(uyavsker_axis, xmin, 16);
 AT(uyavsker_axis, xmax, 24);
+AT(uyavsker_axis, boundary, 32);
 
-SIZE(uyavsker_axes, 512);
+SIZE(uyavsker_axes, 640);
 
 SIZE(uyavsker_cutting, 8);
 AT(uyavsker_cutting, eps, 0);
@@ -71,13 +72,13 @@ SIZE(uyavsker_seen, 16);
 AT(uyavsker_seen, inside, 0);
 AT(uyavsker_seen, value, 8);
 
-SIZE(uyavsker_run, 1448);
+SIZE(uyavsker_run, 1576);
 AT(uyavsker_run, shape, 0);
 AT(uyavsker_run, axes, 392);
-AT(uyavsker_run, settings, 904);
-AT(uyavsker_run, bonds, 928);
-AT(uyavsker_run, figure, 1440);
+AT(uyavsker_run, settings, 1032);
+AT(uyavsker_run, bonds, 1056);
+AT(uyavsker_run, figure, 1568);
 
-SIZE(uyavsker_ran, 1472);
+SIZE(uyavsker_ran, 1600);
 AT(uyavsker_ran, refusal, 0);
 AT(uyavsker_ran, run, 24);

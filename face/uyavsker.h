@@ -39,7 +39,8 @@ enum {
     UYAVSKER_ZONE = 4,      /* a zone number of d or more: 0 */
     UYAVSKER_LENGTH = 5,    /* a lent length is wrong: the slice, from 0, in the call's order */
     UYAVSKER_NUMBER = 6,    /* a number isn't finite: its core, axis or zone; a bond's: its left core; a lone setting 0 */
-    UYAVSKER_SETTING = 7,   /* a setting is below zero, or steps are outside limits: the axis for a, else 0 */
+    UYAVSKER_SETTING = 7,   /* a setting is below zero, a boundary isn't known, or steps are outside limits: the axis for a
+                             * and for a boundary, else 0 */
     UYAVSKER_REACH = 8,     /* a shift is too far: the first such axis */
     UYAVSKER_ENTRY = 9,     /* a shifted entry: its axis; a scaled one: 0; index as in its core.
                              * An entry of a pair's slab: 0; index row after row */
@@ -77,7 +78,7 @@ static inline const char *uyavsker_words(uint8_t number)
     case UYAVSKER_ZONE: return "there is no such zone";
     case UYAVSKER_LENGTH: return "a lent length is wrong";
     case UYAVSKER_NUMBER: return "an input number isn't finite";
-    case UYAVSKER_SETTING: return "a setting is below zero, or steps are outside their limits";
+    case UYAVSKER_SETTING: return "a setting is below zero, a boundary isn't known, or steps are outside their limits";
     case UYAVSKER_REACH: return "a shift is too far";
     case UYAVSKER_ENTRY: return "a shifted or scaled entry, or an entry of a pair's slab, isn't finite";
     case UYAVSKER_RANK: return "a pair's kept rank is above 8";
@@ -99,15 +100,23 @@ typedef struct {
     size_t right[UYAVSKER_MOST_AXES];
 } uyavsker_shape;
 
-/* The settings of one axis. */
+/* What lies beyond the ends of an axis of n points. The shift takes an index i modulo n where it is periodic; where it is
+ * reflecting modulo 2n, and then 2n - 1 - i in place of an i of n or more. */
+enum {
+    UYAVSKER_PERIODIC = 0,  /* the other end: what leaves at one comes back in at the other */
+    UYAVSKER_REFLECTING = 1 /* a mirror: what leaves at an end comes back in there */
+};
+
+/* The settings of one axis. Of the boundary there are the two above: any other is refused with 7 at the axis. */
 typedef struct {
     double a;
     double b;
     double xmin;
     double xmax;
+    size_t boundary;
 } uyavsker_axis;
 
-/* Room for the records of as many axes as a chain can have. */
+/* Room for the records of as many axes as a chain can have. What stands behind the d axes of a chain is never looked at. */
 typedef struct {
     uyavsker_axis axis[UYAVSKER_MOST_AXES];
 } uyavsker_axes;

@@ -1,6 +1,7 @@
-//! A plan of two zones: its figure, its file and two roundings, of which one drops a value; of one zone: a step, and a run
-//! with new weights; of two zones again: a run that refuses a wild forecast and a wild weight.
-use uyavsker::{text_of, Axis, Chain, Cutting, Refusal, Run, Settings, Shape};
+//! A plan of two zones: its figure, its file and two roundings, of which one drops a value; of one zone: a step around its
+//! axis, one that reflects and one that is refused, and a run with new weights; of two zones again: a run that refuses a wild
+//! forecast and a wild weight.
+use uyavsker::{text_of, Axis, Boundary, Chain, Cutting, Refusal, Run, Settings, Shape};
 
 fn print_numbers(name: &str, numbers: &[f64]) {
     let words: Vec<String> = numbers.iter().map(f64::to_string).collect();
@@ -39,12 +40,32 @@ const AXIS: Axis = Axis {
     b: 0.0,
     xmin: 0.0,
     xmax: 3.0,
+    boundary: Boundary::Periodic,
 };
 
-fn print_step(shape: Shape, numbers: &[f64]) -> Result<(), Refusal> {
-    let mut chain = Chain::new(shape, numbers.to_vec())?;
-    chain.step(&SETTINGS, &[AXIS])?;
-    print_numbers("stepped", chain.numbers());
+const REFLECTING: Axis = Axis {
+    boundary: Boundary::Reflecting,
+    ..AXIS
+};
+
+// A number may be out of order where a boundary can't: there is none that isn't known. C's program has that refused, with the
+// same number.
+const BELOW_ZERO: Axis = Axis { a: -0.25, ..AXIS };
+
+// Half of each number stays, and a quarter goes one point up and one down: from an end to the other end, or back to where it was.
+fn print_steps(shape: Shape, numbers: &[f64]) -> Result<(), Refusal> {
+    let named = [
+        ("periodic", AXIS),
+        ("reflecting", REFLECTING),
+        ("below zero", BELOW_ZERO),
+    ];
+    for (name, axis) in named {
+        let mut chain = Chain::new(shape, numbers.to_vec())?;
+        match chain.step(&SETTINGS, &[axis]) {
+            Ok(_) => print_numbers(name, chain.numbers()),
+            Err(refusal) => println!("{refusal}"),
+        }
+    }
     Ok(())
 }
 
@@ -88,7 +109,7 @@ fn main() -> Result<(), Refusal> {
     print_rounding(chain.clone(), &weights, 0.0)?;
     print_rounding(chain, &weights, 0.75)?;
     let (one_zone, numbers) = (Shape::new(&[(1, 4, 1)])?, [4.0, 8.0, 16.0, 0.0]);
-    print_step(one_zone, &numbers)?;
+    print_steps(one_zone, &numbers)?;
     print_run(one_zone, &numbers)?;
     print_wild(shape, &two_zones, &weights)
 }

@@ -1,5 +1,5 @@
 //! The records as C has them, with the layout that face/layout.c states too.
-use crate::records::{Axis, Bond, Course, Cutting, Settings};
+use crate::records::{Bond, Course, Cutting, Settings};
 use std::mem::{offset_of, size_of};
 
 pub const MOST_AXES: usize = 16;
@@ -21,6 +21,20 @@ pub struct Shape {
     pub n: [usize; MOST_AXES],
     pub right: [usize; MOST_AXES],
 }
+
+/// The boundary is a number here: C can have any in it, and one that an enum hasn't must never be read as that enum.
+#[repr(C)]
+#[derive(Clone, Copy, Debug)]
+pub struct Axis {
+    pub a: f64,
+    pub b: f64,
+    pub xmin: f64,
+    pub xmax: f64,
+    pub boundary: usize,
+}
+
+pub const PERIODIC: usize = 0;
+pub const REFLECTING: usize = 1;
 
 #[repr(C)]
 #[derive(Clone, Copy)]
@@ -95,9 +109,10 @@ const _: () = {
     assert!(offset_of!(Refusal, place) == 8 && offset_of!(Refusal, index) == 16);
     assert!(size_of::<Shape>() == 392 && offset_of!(Shape, left) == 8);
     assert!(offset_of!(Shape, n) == 136 && offset_of!(Shape, right) == 264);
-    assert!(size_of::<Axis>() == 32 && offset_of!(Axis, b) == 8);
-    assert!(offset_of!(Axis, xmin) == 16 && offset_of!(Axis, xmax) == 24);
-    assert!(size_of::<Axes>() == 512);
+    assert!(size_of::<Axis>() == 40 && offset_of!(Axis, a) == 0);
+    assert!(offset_of!(Axis, b) == 8 && offset_of!(Axis, xmin) == 16);
+    assert!(offset_of!(Axis, xmax) == 24 && offset_of!(Axis, boundary) == 32);
+    assert!(size_of::<Axes>() == 640);
     assert!(size_of::<Settings>() == 24 && offset_of!(Settings, c) == 8);
     assert!(offset_of!(Settings, cutting) == 16 && size_of::<Cutting>() == 8);
     assert!(size_of::<Course>() == 32 && offset_of!(Course, steps) == 8);
@@ -114,8 +129,8 @@ const _: () = {
     assert!(size_of::<Paired>() == 40 && offset_of!(Paired, rank) == 24);
     assert!(offset_of!(Paired, passes) == 32);
     assert!(size_of::<Seen>() == 16 && offset_of!(Seen, value) == 8);
-    assert!(size_of::<Run>() == 1448 && offset_of!(Run, axes) == 392);
-    assert!(offset_of!(Run, settings) == 904 && offset_of!(Run, bonds) == 928);
-    assert!(offset_of!(Run, figure) == 1440);
-    assert!(size_of::<Ran>() == 1472 && offset_of!(Ran, run) == 24);
+    assert!(size_of::<Run>() == 1576 && offset_of!(Run, axes) == 392);
+    assert!(offset_of!(Run, settings) == 1032 && offset_of!(Run, bonds) == 1056);
+    assert!(offset_of!(Run, figure) == 1568);
+    assert!(size_of::<Ran>() == 1600 && offset_of!(Ran, run) == 24);
 };

@@ -4,14 +4,54 @@ use crate::refusal::Refusal;
 use crate::shape::Shape;
 use crate::MOST_AXES;
 
+/// What lies beyond the ends of an axis of n points.
+#[derive(Clone, Copy, Debug, Default, PartialEq, Eq)]
+pub enum Boundary {
+    /// The other end: what leaves at one comes back in at the other. The shift takes an index i modulo n.
+    #[default]
+    Periodic,
+    /// A mirror: what leaves at an end comes back in there. The shift takes an index i modulo 2n, and then 2n - 1 - i in
+    /// place of an i of n or more.
+    Reflecting,
+}
+
 /// The settings of one axis.
-#[repr(C)]
 #[derive(Clone, Copy, Debug, Default, PartialEq)]
 pub struct Axis {
     pub a: f64,
     pub b: f64,
     pub xmin: f64,
     pub xmax: f64,
+    pub boundary: Boundary,
+}
+
+impl Axis {
+    pub(crate) fn raw(&self) -> layout::Axis {
+        layout::Axis {
+            a: self.a,
+            b: self.b,
+            xmin: self.xmin,
+            xmax: self.xmax,
+            boundary: match self.boundary {
+                Boundary::Periodic => layout::PERIODIC,
+                Boundary::Reflecting => layout::REFLECTING,
+            },
+        }
+    }
+
+    // A call answers the boundaries that it was given, and Rust gives none but these two: no number that means neither comes here.
+    pub(crate) fn of(told: layout::Axis) -> Axis {
+        Axis {
+            a: told.a,
+            b: told.b,
+            xmin: told.xmin,
+            xmax: told.xmax,
+            boundary: match told.boundary {
+                layout::REFLECTING => Boundary::Reflecting,
+                _ => Boundary::Periodic,
+            },
+        }
+    }
 }
 
 /// How a cut is made: kept is what lies above eps times the largest value.
@@ -89,9 +129,9 @@ pub struct Paired {
 
 // The records with blanks behind them; a call that gets another count than its own refuses it.
 pub(crate) fn listed(axes: &[Axis]) -> layout::Axes {
-    let mut axis = [Axis::default(); MOST_AXES];
+    let mut axis = [Axis::default().raw(); MOST_AXES];
     for (place, given) in axis.iter_mut().zip(axes) {
-        *place = *given;
+        *place = given.raw();
     }
     layout::Axes { axis }
 }

@@ -4,6 +4,7 @@ use crate::raw;
 use crate::records::{listed, Axis, Bond, Settings};
 use crate::refusal::Refusal;
 use crate::shape::Shape;
+use crate::MOST_AXES;
 
 #[cfg(test)]
 mod tests;
@@ -41,6 +42,8 @@ impl Slices {
 #[derive(Clone, Debug)]
 pub struct Run {
     record: layout::Run,
+    // The record's own axes, whose boundaries are numbers there.
+    axes: [Axis; MOST_AXES],
     source: Vec<f64>,
     weights: Vec<f64>,
     kept: Slices,
@@ -67,6 +70,7 @@ impl Run {
         let told = raw::fresh_run(shape.raw, axes, *settings, &source, &weights, kept.lent());
         let run = Run {
             record: told.run,
+            axes: told.run.axes.map(Axis::of),
             source,
             weights,
             kept,
@@ -94,12 +98,13 @@ impl Run {
     pub fn replace_axis(&mut self, zone: usize, axis: &Axis) -> Result<f64, Refusal> {
         let room = self.kept.lent();
         let (source, weights) = (&self.source, &self.weights);
-        let told = raw::replace_axis(self.record, zone, *axis, source, weights, room);
+        let told = raw::replace_axis(self.record, zone, axis.raw(), source, weights, room);
         self.answered(told)
     }
 
     fn answered(&mut self, told: layout::Ran) -> Result<f64, Refusal> {
         self.record = told.run;
+        self.axes = told.run.axes.map(Axis::of);
         Refusal::or(told.refusal, told.run.figure)
     }
 
@@ -119,7 +124,7 @@ impl Run {
     }
 
     pub fn axes(&self) -> &[Axis] {
-        let axes = &self.record.axes;
+        let axes = &self.axes;
         axes.get(..self.record.shape.d).unwrap_or(axes)
     }
 

@@ -128,6 +128,7 @@ const AXIS: Axis = Axis {
     b: 0.0,
     xmin: 0.0,
     xmax: 3.0,
+    boundary: Boundary::Periodic,
 };
 
 #[test]
@@ -145,6 +146,75 @@ fn a_step() {
     let two = step(&shape, &settings, &[AXIS; 2], &mut chain, &mut scratch);
     let many = step(&shape, &settings, &[AXIS; 17], &mut chain, &mut scratch);
     assert_eq!((two, many), (Err(refusal(5, 0)), Err(refusal(5, 0))));
+}
+
+// The numbers of one zone moved by so many of its points, which stand one apart.
+fn moved_by(points: f64, boundary: Boundary, numbers: &[f64]) -> Vec<f64> {
+    let axis = Axis {
+        b: points,
+        xmax: numbers.len() as f64 - 1.0,
+        boundary,
+        ..Axis::default()
+    };
+    let settings = Settings {
+        tau: 1.0,
+        c: 0.0,
+        cutting: Cutting { eps: 0.0 },
+    };
+    let shape = Shape::new(&[(1, numbers.len(), 1)]).unwrap();
+    let mut chain = Chain::new(shape, numbers.to_vec()).unwrap();
+    chain.step(&settings, &[axis]).unwrap();
+    chain.numbers().to_vec()
+}
+
+#[test]
+fn an_axis_that_reflects() {
+    let numbers = [4.0, 8.0, 16.0, 0.0];
+    let by_one = [5.0, 9.0, 10.0, 4.0];
+    // Half of each number, and a quarter of each that stands so far away on 4 8 16 0 0 16 8 4, which goes on like this both ways.
+    let table = [
+        (1.0, by_one),
+        (-1.0, by_one),
+        (2.0, [8.0, 5.0, 9.0, 6.0]),
+        (3.0, [6.0, 6.0, 13.0, 3.0]),
+        (4.0, [2.0, 12.0, 12.0, 2.0]),
+        (7.0, by_one),
+        (8.0, numbers),
+        (-9.0, by_one),
+    ];
+    for (points, wanted) in table {
+        assert_eq!(moved_by(points, Boundary::Reflecting, &numbers), wanted);
+    }
+}
+
+#[test]
+fn an_axis_reflects_only_at_its_ends() {
+    let numbers: Vec<f64> = (0..12).map(|i| (i * i % 7) as f64 + 0.1).collect();
+    let bits = |boundary| -> Vec<u64> {
+        let moved = moved_by(0.3, boundary, &numbers);
+        moved.into_iter().map(f64::to_bits).collect()
+    };
+    let (around, back) = (bits(Boundary::Periodic), bits(Boundary::Reflecting));
+    // Less than one point away, an entry is made of two on either side.
+    assert_eq!(around[2..10], back[2..10]);
+    for end in [0, 1, 10, 11] {
+        assert_ne!(around[end], back[end]);
+    }
+}
+
+#[test]
+fn an_axis_of_one_point_has_nothing_beyond_its_ends() {
+    for points in [0.3, -1.0, 2.5, 1e9] {
+        let [around, back] = [Boundary::Periodic, Boundary::Reflecting]
+            .map(|boundary| moved_by(points, boundary, &[0.7])[0].to_bits());
+        assert_eq!(around, back);
+    }
+}
+
+#[test]
+fn an_axis_is_periodic_unless_it_is_told_otherwise() {
+    assert_eq!(Axis::default().boundary, Boundary::Periodic);
+    assert_eq!(Boundary::default(), Boundary::Periodic);
 }
 
 #[test]

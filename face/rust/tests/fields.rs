@@ -239,9 +239,9 @@ impl Wanted {
     }
 
     // The last zone of these entries, moved; the carry left of it has 1 at (j, j).
-    fn put_last(&mut self, entry: impl Fn(usize, usize) -> f64, by: usize) {
+    fn put_last(&mut self, entry: impl Fn(usize, usize) -> f64, boundary: Boundary, by: usize) {
         for (at, number) in self.last_core().iter_mut().enumerate() {
-            *number = moved(&entry, at / LAST_POINTS, at % LAST_POINTS, by);
+            *number = moved(&entry, boundary, (at / LAST_POINTS, at % LAST_POINTS), by);
         }
     }
 
@@ -283,7 +283,11 @@ fn a_new_core() {
     let part = counting(2 * LAST_POINTS, 4e5);
     let start = wanted.source.len() - part.len();
     wanted.source[start..].copy_from_slice(&part);
-    wanted.put_last(|il, im| part[il * LAST_POINTS + im], 1);
+    wanted.put_last(
+        |il, im| part[il * LAST_POINTS + im],
+        Boundary::Reflecting,
+        1,
+    );
     wanted.sum_up();
     assert_eq!(run.replace_core(LAST, &part[1..]), refused(5, 5));
     assert_eq!(
@@ -308,17 +312,109 @@ fn new_weights() {
     wanted.assert_is(&run);
 }
 
+// By two points around the axis, where it had been by one and back from its ends.
 #[test]
 fn a_new_axis() {
     let (mut run, mut wanted) = (ladder_run(), Wanted::fresh());
-    wanted.axes[LAST] = axis(LAST, 2);
-    wanted.put_last(last_entry, 2);
+    wanted.axes[LAST] = axis(LAST, Boundary::Periodic, 2);
+    wanted.put_last(last_entry, Boundary::Periodic, 2);
     wanted.sum_up();
     assert_eq!(
-        run.replace_axis(LAST, &axis(LAST, 2)).as_ref().ok(),
+        run.replace_axis(LAST, &wanted.axes[LAST]).as_ref().ok(),
         wanted.sums.last()
     );
     wanted.assert_is(&run);
+}
+
+// The numbers of zone k of four, and what a shift by four points makes of them. Around its axis a number comes back to where it
+// was. Where the axis reflects, it meets the one that stands as far from the other end, and both become their mean, 1/2. Either
+// way the length is 1, and rounding leaves them.
+fn four(k: usize, boundary: Boundary) -> ([f64; 4], [f64; 4]) {
+    let slope = (k + 1) as f64 / 32.0;
+    let mut signs = [0.5; 4];
+    signs[k % 4] = -0.5;
+    match boundary {
+        Boundary::Periodic => (signs, signs),
+        Boundary::Reflecting => ([-1.5, -0.5, 0.5, 1.5].map(|x| 0.5 + x * slope), [0.5; 4]),
+    }
+}
+
+// The zones that have this bit in their number reflect, so that no two zones do so for the same bits.
+fn four_boundary(bit: usize, k: usize) -> Boundary {
+    match k >> bit & 1 {
+        0 => Boundary::Periodic,
+        _ => Boundary::Reflecting,
+    }
+}
+
+fn four_axis(boundary: Boundary) -> Axis {
+    Axis {
+        b: 4.0,
+        xmax: 3.0,
+        boundary,
+        ..Axis::default()
+    }
+}
+
+const FOUR_SETTINGS: Settings = Settings {
+    tau: 1.0,
+    c: 0.0,
+    cutting: Cutting { eps: 0.0 },
+};
+
+// Sixteen such zones: their axes, their numbers before a step and after it.
+fn fours(bit: usize) -> (Vec<Axis>, Vec<f64>, Vec<f64>) {
+    let boundaries: Vec<Boundary> = (0..ZONES).map(|k| four_boundary(bit, k)).collect();
+    let zones = boundaries.iter().enumerate().map(|(k, b)| four(k, *b));
+    let (before, after): (Vec<_>, Vec<_>) = zones.unzip();
+    let axes = boundaries.into_iter().map(four_axis).collect();
+    (axes, before.concat(), after.concat())
+}
+
+fn four_shape() -> Shape {
+    Shape::new(&[(1, 4, 1); ZONES]).unwrap()
+}
+
+#[test]
+fn boundaries_in_steps() {
+    for bit in 0..4 {
+        let (axes, before, after) = fours(bit);
+        let chain = Chain::new(four_shape(), before.clone()).unwrap();
+        let (mut stepped, mut evolved) = (chain.clone(), chain);
+        stepped.step(&FOUR_SETTINGS, &axes).unwrap();
+        assert_eq!(stepped.numbers(), after);
+        // A second step leaves what the first has made.
+        let course = Course {
+            t_final: 2.0,
+            steps: 2,
+            c: 0.0,
+            cutting: FOUR_SETTINGS.cutting,
+        };
+        evolved.evolve(&course, &axes).unwrap();
+        assert_eq!(evolved.numbers(), after);
+        let run = Run::fresh(&four_shape(), &axes, &FOUR_SETTINGS, before, vec![1.0; 64]).unwrap();
+        assert_eq!((run.stepped(), run.axes()), (&after[..], &axes[..]));
+    }
+}
+
+// A run in which one zone has the other boundary, and is then given its own.
+#[test]
+fn replaced_boundaries() {
+    let (axes, before, after) = fours(0);
+    for zone in 0..ZONES {
+        let mut other = axes.clone();
+        other[zone] = four_axis(match axes[zone].boundary {
+            Boundary::Periodic => Boundary::Reflecting,
+            Boundary::Reflecting => Boundary::Periodic,
+        });
+        let source = before.clone();
+        let mut run =
+            Run::fresh(&four_shape(), &other, &FOUR_SETTINGS, source, vec![1.0; 64]).unwrap();
+        assert_eq!(run.axes(), other);
+        assert_ne!(run.stepped(), after);
+        run.replace_axis(zone, &axes[zone]).unwrap();
+        assert_eq!((run.stepped(), run.axes()), (&after[..], &axes[..]));
+    }
 }
 
 // As in the figure and in the rounding above; a run has zone 0 with another sign, and point 6 of zone 2 is point 25 of all.

@@ -1,5 +1,5 @@
 //! Kept runs: what a replacement leaves is the fresh run on the present inputs.
-use uyavsker::{Axis, Bond, Cutting, Refusal, Run, Settings, Shape};
+use uyavsker::{Axis, Bond, Boundary, Cutting, Refusal, Run, Settings, Shape};
 
 const SETTINGS: Settings = Settings {
     tau: 0.5,
@@ -13,18 +13,21 @@ const AXES: [Axis; 3] = [
         b: 0.5,
         xmin: 0.0,
         xmax: 3.0,
+        boundary: Boundary::Periodic,
     },
     Axis {
         a: 1.0,
         b: -0.5,
         xmin: -1.0,
         xmax: 1.0,
+        boundary: Boundary::Reflecting,
     },
     Axis {
         a: 0.0,
         b: 0.75,
         xmin: 0.0,
         xmax: 2.0,
+        boundary: Boundary::Periodic,
     },
 ];
 
@@ -77,6 +80,7 @@ fn a_fresh_run_is_a_step_and_its_figure() {
         b: 0.0,
         xmin: 0.0,
         xmax: 3.0,
+        boundary: Boundary::Periodic,
     };
     let source = vec![4.0, 8.0, 16.0, 0.0];
     let run = Run::fresh(&shape, &[axis], &settings, source, vec![1.0, 2.0, 1.0, 1.0]).unwrap();
@@ -123,6 +127,7 @@ fn a_replaced_axis() {
             b: 0.125,
             xmin: -3.0,
             xmax: 1.5,
+            boundary: Boundary::Reflecting,
         };
         let figure = run.replace_axis(zone, &axis).unwrap();
         let mut axes = AXES;
@@ -130,6 +135,52 @@ fn a_replaced_axis() {
         let anew = fresh(&axes, first().source().to_vec(), first().weights().to_vec()).unwrap();
         assert_same(&run, &anew);
         assert_eq!(figure, anew.figure());
+    }
+}
+
+// A record that has the other boundary and is else as before.
+fn turned(axis: Axis) -> Axis {
+    let boundary = match axis.boundary {
+        Boundary::Periodic => Boundary::Reflecting,
+        Boundary::Reflecting => Boundary::Periodic,
+    };
+    Axis { boundary, ..axis }
+}
+
+#[test]
+fn a_replaced_boundary() {
+    for (zone, start) in [0, 8, 26].into_iter().enumerate() {
+        let mut run = first();
+        let mut axes = AXES;
+        axes[zone] = turned(axes[zone]);
+        let figure = run.replace_axis(zone, &axes[zone]).unwrap();
+        let anew = fresh(&axes, first().source().to_vec(), first().weights().to_vec()).unwrap();
+        assert_same(&run, &anew);
+        assert_eq!(figure, anew.figure());
+        // Every shift crosses an end, so what stands from the zone on is another, and what stands before it is as it was.
+        assert_ne!(figure, first().figure());
+        assert_eq!(run.stepped()[..start], first().stepped()[..start]);
+        assert_ne!(run.stepped()[start..], first().stepped()[start..]);
+        run.replace_axis(zone, &AXES[zone]).unwrap();
+        assert_same(&run, &first());
+    }
+}
+
+#[test]
+fn a_replaced_boundary_of_one_point() {
+    let shape = Shape::new(&[(1, 1, 2), (2, 1, 1)]).unwrap();
+    let (axes, source) = ([AXES[0], AXES[1]], vec![0.3, 0.7, 1.1, 1.3]);
+    let made = |axes: &[Axis]| {
+        Run::fresh(&shape, axes, &SETTINGS, source.clone(), vec![1.0, 2.0]).unwrap()
+    };
+    for zone in 0..2 {
+        let mut run = made(&axes);
+        let mut other = axes;
+        other[zone] = turned(axes[zone]);
+        let figure = run.replace_axis(zone, &other[zone]).unwrap();
+        assert_same(&run, &made(&other));
+        assert_eq!(run.stepped(), made(&axes).stepped());
+        assert_eq!(figure.to_bits(), made(&axes).figure().to_bits());
     }
 }
 

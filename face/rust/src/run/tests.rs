@@ -75,3 +75,25 @@ fn what_a_bond_dropped_is_a_finite_number_of_its_left_core() {
         }
     }
 }
+
+// A number that no boundary has; in a run that the package made there is none.
+#[test]
+fn a_boundary_that_is_not_known_is_refused_at_its_axis() {
+    let places = (0..MOST_AXES).flat_map(|k| REPLACEMENTS.map(|replace| (k, replace)));
+    for (k, replace) in places {
+        for unknown in [2, 1 << 32, usize::MAX] {
+            let mut run = cut_run();
+            run.record.axes[k].boundary = unknown;
+            let refused = Refusal {
+                number: 7,
+                place: k,
+                index: 0,
+            };
+            // Behind the three axes nobody asks for it.
+            let wanted = if k < 3 { Err(refused) } else { Ok(8.0) };
+            assert_eq!(replace(&mut run), wanted);
+            assert_eq!(run.record.axes[k].boundary, unknown);
+            assert_eq!(run.axes(), [Axis::default(); 3]);
+        }
+    }
+}

@@ -1,6 +1,6 @@
 //! A chain of 16 zones whose rounding and step can be done by hand, and in which no two zones, and no two places of a record, are
 //! alike; face/ladder.h has the same and says why.
-use uyavsker::{Axis, Cutting, Settings, Shape};
+use uyavsker::{Axis, Boundary, Cutting, Settings, Shape};
 
 pub const ZONES: usize = 16;
 pub const LAST: usize = ZONES - 1;
@@ -63,10 +63,24 @@ pub fn last_entry(il: usize, im: usize) -> f64 {
     (1 + 1000 * il + im * im) as f64
 }
 
+// Where the shift finds point i of the last zone.
+fn point_found(boundary: Boundary, i: usize) -> usize {
+    let there = i % (2 * LAST_POINTS);
+    match boundary {
+        Boundary::Reflecting if there >= LAST_POINTS => 2 * LAST_POINTS - 1 - there,
+        _ => there % LAST_POINTS,
+    }
+}
+
 /// What a shift by so many points makes of an entry of the last zone.
-pub fn moved(entry: impl Fn(usize, usize) -> f64, il: usize, im: usize, by: usize) -> f64 {
-    let away = |points: usize| 0.25 * entry(il, (im + points) % LAST_POINTS);
-    0.5 * entry(il, im) + away(by) + away(LAST_POINTS - by)
+pub fn moved(
+    entry: impl Fn(usize, usize) -> f64,
+    boundary: Boundary,
+    (il, im): (usize, usize),
+    by: usize,
+) -> f64 {
+    let away = |points: usize| 0.25 * entry(il, point_found(boundary, im + points));
+    0.5 * entry(il, im) + away(by) + away(2 * LAST_POINTS - by)
 }
 
 pub fn source_entry(k: usize, (il, im, ir): (usize, usize, usize)) -> f64 {
@@ -88,7 +102,7 @@ pub fn source_entry(k: usize, (il, im, ir): (usize, usize, usize)) -> f64 {
 }
 
 fn moved_once(il: usize, im: usize) -> f64 {
-    moved(last_entry, il, im, 1)
+    moved(last_entry, boundary(LAST), (il, im), 1)
 }
 
 pub fn stepped_entry(k: usize, at: (usize, usize, usize)) -> f64 {
@@ -101,13 +115,21 @@ pub fn stepped_entry(k: usize, at: (usize, usize, usize)) -> f64 {
 
 pub fn evolved_entry(k: usize, at: (usize, usize, usize)) -> f64 {
     match k {
-        LAST => moved(moved_once, at.0, at.1, 1),
+        LAST => moved(moved_once, boundary(LAST), (at.0, at.1), 1),
         _ => source_entry(k, at),
     }
 }
 
+/// Every third zone reflects, and so does the last.
+pub fn boundary(k: usize) -> Boundary {
+    match k % 3 {
+        0 => Boundary::Reflecting,
+        _ => Boundary::Periodic,
+    }
+}
+
 /// The record that moves zone k by so many points.
-pub fn axis(k: usize, by: usize) -> Axis {
+pub fn axis(k: usize, boundary: Boundary, by: usize) -> Axis {
     let root = (k + 1) as f64 / 8.0;
     let xmin = 0.5 - 2.0 * k as f64;
     Axis {
@@ -115,13 +137,19 @@ pub fn axis(k: usize, by: usize) -> Axis {
         b: by as f64 / 4.0 - root,
         xmin,
         xmax: xmin + 8.0 + k as f64,
+        boundary,
     }
 }
 
-/// Every zone once around, which leaves its core; the last by one point.
+/// Every zone by as many points as it has, which leaves its core, or twice as many where it reflects, which does too; the last by
+/// one point.
 pub fn axes() -> Vec<Axis> {
-    let by = |k: usize| if k == LAST { 1 } else { points(k) };
-    (0..ZONES).map(|k| axis(k, by(k))).collect()
+    let by = |k: usize| match boundary(k) {
+        _ if k == LAST => 1,
+        Boundary::Periodic => points(k),
+        Boundary::Reflecting => 2 * points(k),
+    };
+    (0..ZONES).map(|k| axis(k, boundary(k), by(k))).collect()
 }
 
 pub fn weights() -> Vec<f64> {
