@@ -22,8 +22,8 @@ fn expected_spoilt(q: asks::Ask, set: stepform::Settings, fresh: calls::Told) ->
     if q.zone < q.spot {
         lower = q.zone;
     }
-    let numbers = [6, 7, 6, 7, 6, 2, 6, 8];
-    let places = [0, 0, q.spot, q.spot, q.spot, q.spot, lower, q.spot];
+    let numbers = [6, 7, 6, 7, 7, 6, 2, 6, 8];
+    let places = [0, 0, q.spot, q.spot, q.spot, q.spot, q.spot, lower, q.spot];
     let k = drawing::chance::below(q.flaw, asks::KINDS_SPOILT);
     calls::checked(numbers[k], places[k])
 }
@@ -186,7 +186,7 @@ fn replace_spoilt(
 fn same_axis(a: stepform::Axis, b: stepform::Axis) -> bool {
     let shift = comparing::same_number(a.a, b.a) & comparing::same_number(a.b, b.b);
     let ends = comparing::same_number(a.xmin, b.xmin) & comparing::same_number(a.xmax, b.xmax);
-    shift & ends
+    shift & ends & (a.boundary == b.boundary)
 }
 
 // Whether two runs are made from shapes and records that are the same.

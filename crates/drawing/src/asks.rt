@@ -42,50 +42,54 @@ pub const FIGURE: usize = 6;
 // 6: in the new part
 pub const NOT_FINITE: usize = 7;
 
-// 7
+// 7: an a below zero, or a boundary that isn't known
 const BELOW_ZERO: usize = 8;
 
+const UNKNOWN: usize = 9;
+
 // 8, where anything is shifted
-const TOO_FAR: usize = 9;
+const TOO_FAR: usize = 10;
 
 // 9, 12, 13 or 14, nearly always
-const OVERFLOW: usize = 10;
+const OVERFLOW: usize = 11;
 
-const NONE: usize = 11;
+const NONE: usize = 12;
 
 // Of so many draws those from NONE on are in order, but the last few, which are LENT and then HELD: those have several lists.
-const DRAWS: usize = 36;
+const DRAWS: usize = 37;
 
-const MORE_LENT: usize = 30;
+const MORE_LENT: usize = 31;
 
-const MORE_HELD: usize = 32;
+const MORE_HELD: usize = 33;
 
 // ---- more flaws of a run that others wrote to, drawn for turns of their own, each by the refusal that it is to bring
-pub const SPOILT: usize = 40;
+pub const SPOILT: usize = 45;
 
 // 6, 7: a lone setting that isn't finite, or below zero
 pub const LONE_NOT_FINITE: usize = SPOILT;
 
-pub const LONE_BELOW_ZERO: usize = 41;
+pub const LONE_BELOW_ZERO: usize = 46;
 
-// 6, 7: an axis record that isn't finite, or with an a below zero
-pub const OLD_NOT_FINITE: usize = 42;
+// 6, 7, 7: an axis record that isn't finite, with an a below zero, or with a boundary that isn't known
+pub const OLD_NOT_FINITE: usize = 47;
 
-pub const OLD_BELOW_ZERO: usize = 43;
+pub const OLD_BELOW_ZERO: usize = 48;
+
+pub const OLD_UNKNOWN: usize = 49;
 
 // 6: a lone setting below zero, and an axis record that isn't finite
-pub const TWO_SETTINGS: usize = 44;
+pub const TWO_SETTINGS: usize = 50;
 
 // 2: a size of 0, and a zone number of d or more
-pub const SIZE_AND_ZONE: usize = 45;
+pub const SIZE_AND_ZONE: usize = 51;
 
 // 6, of the lower zone: in the new part, and in a list of the run or in what a bond dropped
-pub const TWO_NUMBERS: usize = 46;
+pub const TWO_NUMBERS: usize = 52;
 
 // 8, where that axis is shifted: an axis record whose shift is too far
-pub const OLD_TOO_FAR: usize = 47;
+pub const OLD_TOO_FAR: usize = 53;
 
-pub const KINDS_SPOILT: usize = 8;
+pub const KINDS_SPOILT: usize = 9;
 
 pub struct Ask {
     pub kind: usize,
@@ -123,7 +127,7 @@ fn flaw(x: usize, d: usize) -> usize {
 // The replacement that can have the flaw.
 fn kind(x: usize, flaw: usize) -> usize {
     let drawn = chance::below(x, 3);
-    if (flaw == BELOW_ZERO) | (flaw == TOO_FAR) {
+    if (flaw == BELOW_ZERO) | (flaw == UNKNOWN) | (flaw == TOO_FAR) {
         return AXIS;
     }
     if (flaw == PART) | (flaw == OVERFLOW) | (flaw == OLD_TOO_FAR) {
@@ -184,11 +188,12 @@ fn not_finite(x: usize) -> f64 {
     wrong[k]
 }
 
-// An axis record with one of three flaws, or as it was.
+// An axis record with one of four flaws, or as it was.
 fn flawed(
     x: stepform::Axis,
     not_finite: bool,
     below_zero: bool,
+    unknown: bool,
     too_far: bool,
     wrong: f64,
 ) -> stepform::Axis {
@@ -198,6 +203,9 @@ fn flawed(
     }
     if below_zero {
         a.a = -0.25;
+    }
+    if unknown {
+        a.boundary = 2;
     }
     if too_far {
         a.b = 1e12;
@@ -213,6 +221,7 @@ fn axis(x: usize, flaw: usize, wrong: f64) -> stepform::Axis {
         plans::axis(x),
         not_finite,
         flaw == BELOW_ZERO,
+        flaw == UNKNOWN,
         flaw == TOO_FAR,
         wrong,
     )
@@ -322,6 +331,7 @@ pub fn spoilt_axis(q: Ask, x: stepform::Axis) -> stepform::Axis {
         x,
         not_finite,
         q.flaw == OLD_BELOW_ZERO,
+        q.flaw == OLD_UNKNOWN,
         q.flaw == OLD_TOO_FAR,
         q.wrong,
     )

@@ -23,7 +23,7 @@ pub fn shape(seed: usize, d: usize, rank: usize, points: usize) -> shape::Shape 
     shape::Shape { d, left, n, right }
 }
 
-// A record whose a is not below zero. A domain of no width lets its core stay, and so does a shift of 0.
+// A record in order, of either boundary. A domain of no width lets its core stay, and so does a shift of 0.
 pub fn axis(x: usize) -> stepform::Axis {
     let y = chance::next(x);
     let xmin = chance::number(y);
@@ -32,6 +32,7 @@ pub fn axis(x: usize) -> stepform::Axis {
         b: chance::number(x / 16),
         xmin,
         xmax: xmin + chance::whole(y / 64, 24) / 8.0,
+        boundary: chance::below(y / 4096, 2),
     }
 }
 

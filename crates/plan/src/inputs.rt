@@ -16,7 +16,7 @@ pub const SCRATCH: usize = shape::SCRATCH_TIMES * ENTRIES + shape::SCRATCH_BESID
 // What the day's plan is rounded by.
 pub const MILLIONTH: f64 = 0.000001;
 
-// The zones of which an input is replaced.
+// The zones of which an input is replaced, and the one that reflects from the morning on.
 pub const HARBOUR: usize = 0;
 
 pub const OLD_TOWN: usize = 1;
@@ -24,6 +24,8 @@ pub const OLD_TOWN: usize = 1;
 pub const MILL: usize = 2;
 
 pub const STATION: usize = 3;
+
+pub const HOSPITAL: usize = 4;
 
 // Harbour has 8 numbers, Old Town 30, Mill 18, Station 24, Hospital 6.
 const CORES: [f64; ENTRIES] = [
@@ -140,17 +142,18 @@ const WEIGHTS: [f64; POINTS] = [
     0.75,
 ];
 
-// Loads from 0 to 6 megawatts; a says how far they spread.
-pub fn axis(a: f64) -> stepform::Axis {
+// Loads from 0 to 6 megawatts; a says how far they spread, and the boundary where those come to that spread beyond an end.
+pub fn axis(a: f64, boundary: usize) -> stepform::Axis {
     stepform::Axis {
         a,
         b: 0.1,
         xmin: 0.0,
         xmax: 6.0,
+        boundary,
     }
 }
 
-// Two kinds of weather between neighbours, mild and cold, and between Old Town and Mill also severe. A step of a quarter of an hour,
+// Hospital's axis reflects. Two kinds of weather between neighbours, mild and cold, and between Old Town and Mill also severe. A step of a quarter of an hour,
 // nothing added; what is not above eps times the largest is rounded off. The run keeps nothing yet.
 pub fn plan(eps: f64) -> crate::plans::Plan {
     let shape = shape::Shape {
@@ -160,9 +163,11 @@ pub fn plan(eps: f64) -> crate::plans::Plan {
         right: [2, 3, 2, 2, 1, 0, 0, 0, 0, 0, 0, 0, 0, 0, 0, 0],
     };
     let none = bond::no_bond();
+    let mut axes = [axis(0.04, stepform::PERIODIC); shape::MOST_AXES];
+    axes[HOSPITAL] = axis(0.04, stepform::REFLECTING);
     let run = runform::Run {
         shape,
-        axes: [axis(0.04); shape::MOST_AXES],
+        axes,
         set: stepform::Settings {
             tau: 0.25,
             c: 0.0,

@@ -65,7 +65,10 @@ fn morning() -> State {
         b"of that, until it is settled. A weight is 1 where a load is within the pipe's limit, and less where\n",
     );
     say(
-        b"it is not. The figure is the chance that every zone is within its limit, a quarter of an hour on.\n\n",
+        b"it is not. Loads that spread beyond an end of their axis come in again at the other end; Hospital's are\n",
+    );
+    say(
+        b"reflected. The figure is the chance that every zone is within its limit, a quarter of an hour on.\n\n",
     );
     say(b"The fresh run:\n");
     let a = plans::fresh(inputs::plan(inputs::MILLIONTH));
@@ -108,10 +111,30 @@ fn wild_weights(now: State) -> State {
     told(now.same, a, b"sums alone,", inputs::HARBOUR)
 }
 
-fn insulated(now: State, x: stepform::Axis) -> State {
+fn new_record(now: State, z: usize, x: stepform::Axis) -> State {
     let p = now.plan;
-    let a = plans::new_axis(p, inputs::MILL, x);
-    told(now.same, a, b"cores, carries and sums", inputs::MILL)
+    let a = plans::new_axis(p, z, x);
+    told(now.same, a, b"cores, carries and sums", z)
+}
+
+// Insulation, first with a slip of the pen.
+fn insulated(now: State) -> State {
+    say(b"A new axis record for zone 2, Mill, with a slip of the pen: a = -0.01.\n");
+    let slip = new_record(now, inputs::MILL, inputs::axis(-0.01, stepform::PERIODIC));
+    say(b"The same with a = 0.01: insulation, the loads spread less.\n");
+    new_record(slip, inputs::MILL, inputs::axis(0.01, stepform::PERIODIC))
+}
+
+// An axis that reflects, first with a boundary that there isn't.
+fn reflecting(now: State) -> State {
+    say(b"A new axis record for zone 3, Station, with a boundary that isn't known: 2.\n");
+    let slip = new_record(now, inputs::STATION, inputs::axis(0.04, 2));
+    say(b"The same with 1: its loads are reflected too.\n");
+    new_record(
+        slip,
+        inputs::STATION,
+        inputs::axis(0.04, stepform::REFLECTING),
+    )
 }
 
 fn show(now: State) {
@@ -146,14 +169,11 @@ fn main() {
     let b = wider_pipe(a);
     let c = wild_forecast(wild_weights(b));
     let d = new_forecast(c);
-    say(b"A new axis record for zone 2, Mill, with a slip of the pen: a = -0.01.\n");
-    let e = insulated(d, inputs::axis(-0.01));
-    say(b"The same with a = 0.01: insulation, the loads spread less.\n");
-    let f = insulated(e, inputs::axis(0.01));
+    let e = reflecting(insulated(d));
     say(b"At the end of the day:\n\n");
-    show(f);
+    show(e);
     three_eps();
     say(b"Every run had the bits of a fresh run: ");
-    print::yes(f.same);
+    print::yes(e.same);
     say(b"\n");
 }
