@@ -100,6 +100,11 @@ behind-long u d h m long e =
     let n : length (u ++ rest) - h ≡ m = omega (arith, length-append u rest) in
     rw (drop-at u rest h long, n) (length-take-le m rest (omega arith))
 
+-- ---- parts of two lists that are as long as each other
+pub even-parts : {A : Type 0} (s d : List A) (from a to b : ℕ) → a ≡ b → from + a ≤ length s → to + b ≤ length d → length (take a (drop from s)) ≡ length (take b (drop to d))
+even-parts s d from a to b e f g =
+    length-take-le a (drop from s) (omega (arith, length-drop from s)) ∙ e ∙ sym (length-take-le b (drop to d) (omega (arith, length-drop to d)))
+
 -- ---- the rows backwards: what is copied to row q
 pub row-back : (s : List Float) (n rr q : ℕ) → length s ≡ n * rr → q < n
     → take (length s - q * rr - (length s - (q * rr + rr))) (drop (length s - (q * rr + rr)) s) ≡ tab rr (λ (x : ℕ). at s ((n - suc q) * rr + x))

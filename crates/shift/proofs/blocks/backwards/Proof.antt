@@ -1,7 +1,7 @@
 -- `shift::blocks::backwards`: the invariant: the first q rows are the last ones of s, backwards (joins-more), each a copy of one row (row-back).
 use Prim.Native.Nat.{ℕ, suc, _+_, _*_, _≤_, _-_}
 use native.Mathlib.Omega.{arith}
-use mathlib.Core.Path.{_≡_, sym, ap, _∙_}
+use mathlib.Core.Path.{_≡_, _∙_}
 use lib.ListN.{length}
 use Rattle.lists.specs.Lists.{tab}
 use Rattle.lists.specs.Floats.{at}
@@ -10,8 +10,8 @@ use Rattle.lists.proofs.Turns.{turns}
 use Rattle.lists.proofs.Over.{joinOver, joins-none, joins-more, joins-done}
 use Rattle.lists.proofs.Tables.{length-tab}
 use Rattle.shift.specs.Unrolled.{backwardsOf}
-use Rattle.shift.proofs.Around.{at-least, part-long}
-use Rattle.shift.proofs.Unrolled.{row-back}
+use Rattle.shift.proofs.Around.{at-least}
+use Rattle.shift.proofs.Unrolled.{even-parts, row-back}
 use Rattle.shift.proofs.blocks.backwards.Statement.{statement}
 use Rattle.shift.proofs.blocks.backwards.Tie as tie
 
@@ -34,10 +34,9 @@ copy-requires c κs =
     let n = c .before .before in
     let i = n .before in
     let s = i .before .before .before in
-    let rr = s .args .rr in
-    ap length (row-back (s .args .s .now) (s .args .n) rr (i .loop .q) (s .pre .0) (n .loop-test .taken))
-    ∙ length-tab rr _
-    ∙ sym (part-long (i .loop .d) (i .loop .q) (s .args .n) rr (n .loop-test .taken) (i .loop .inv .1 ∙ s .pre .1))
+    let e = sub-from n in
+    let f = row-end (i .loop .q) (s .args .n) (s .args .rr) (length (i .loop .d)) (n .loop-test .taken) (at-least _ _ (i .loop .inv .1 ∙ s .pre .1)) in
+    search (turns, even-parts, e, f)
 
 loop-again : tie.Need-loop-again Inv-loop μ-loop
 loop-again c =
