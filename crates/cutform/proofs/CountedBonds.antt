@@ -27,12 +27,12 @@ use Rattle.cutform.proofs.Counted.{sweeps-counted, counted-once}
 
 -- ---- one bond
 -- a cut that answers one bond, whose sweeps are those of the iteration
-record CutCounted (k : ℕ) (s : Carry) (c : Core) (r : Carry × Cut) : Type 0 where
+record CutCounted (mode k : ℕ) (s : Carry) (c : Core) (r : Carry × Cut) : Type 0 where
   bond : Bond
   bonds : r .1 .bonds ≡ bond ∷ []
-  told : BondCounted k s c bond
+  told : BondCounted mode k s c bond
 
-cut-counted : (cutting : Cutting) (k : ℕ) (s : Carry) (c : Core) (r : Carry × Cut) → roundCore cutting true k s c ≡ done r → CutCounted k s c r
+cut-counted : (cutting : Cutting) (k : ℕ) (s : Carry) (c : Core) (r : Carry × Cut) → roundCore cutting true k s c ≡ done r → CutCounted (cutting .mode) k s c r
 unfolding roundCore
 cut-counted cutting k s c r h =
     let A = bind-done (takenIn k s c) (λ t. cutIf true k cutting t) r h in
@@ -43,7 +43,7 @@ cut-counted cutting k s c r h =
     record {
       bond = _;
       bonds = ap (λ (x : Carry × Cut). x .1 .bonds) (sym end) ∙ ap (λ (b : CutCore). b .bond ∷ []) (sym (S .end));
-      told = record { core = A .0; taken = A .1; end = w .eig; counted = sweeps-counted (A .0 .rr) (eig (gram (A .0)) (eye (A .0 .rr))) w (S .sweeping) };
+      told = record { core = A .0; taken = A .1; end = w .eig; counted = sweeps-counted (cutting .mode) (A .0 .rr) (eig (gram (A .0)) (eye (A .0 .rr))) w (S .sweeping) };
     }
 
 -- ---- every bond
@@ -61,7 +61,7 @@ module _ (cutting : Cutting) (cs : List Core) (cuts : List (Carry × Cut)) (ran 
       let n = walk-length turn 0 none cs cuts ran in
       subst (λ (j : ℕ). Ran j (stateAt none cuts k) (getD cuts k o)) (zero-add k) (from-at Ran 0 none cuts W k o (omega arith))
 
-  bond-counted : (k : ℕ) → suc k < length cs → CutCounted k (stateAt none cuts k) (coreIn cs k) (getD cuts k o)
+  bond-counted : (k : ℕ) → suc k < length cs → CutCounted (cutting .mode) k (stateAt none cuts k) (coreIn cs k) (getD cuts k o)
   bond-counted k lt =
       cut-counted cutting k (stateAt none cuts k) (coreIn cs k) (getD cuts k o)
       (ap (λ (b : Bool). roundCore cutting b k (stateAt none cuts k) (coreIn cs k)) (sym (ltb-yes (suc k) (length cs) lt)) ∙ turn-ran k (omega arith))
@@ -74,7 +74,7 @@ module _ (cutting : Cutting) (cs : List Core) (cuts : List (Carry × Cut)) (ran 
     ran = ran;
     bond = λ k lt.
         let C = bond-counted k lt in
-        subst (BondCounted k (stateAt none cuts k) (coreIn cs k)) (sym (f k (C .bond) lt (C .bonds))) (C .told);
+        subst (BondCounted (cutting .mode) k (stateAt none cuts k) (coreIn cs k)) (sym (f k (C .bond) lt (C .bonds))) (C .told);
   }
 
 -- ---- what a rounding answers: lists of one, one after another
@@ -98,15 +98,15 @@ rounding-counted cutting cs cuts ran =
     (λ k b lt e. flat-ones (λ (r : Carry × Cut). r .1 .bonds) o noBond cuts k (omega arith) (λ j m. let C = B j (omega arith) in (C .bond, C .bonds)) b e)
 
 -- ---- and no others are
-pub bond-once : {k : ℕ} {s : Carry} {c : Core} {a b : Bond} → BondCounted k s c a → BondCounted k s c b → (a .sweeps ≡ b .sweeps) × (a .settled ≡ b .settled)
-bond-once {b = b} P Q =
+pub bond-once : {mode k : ℕ} {s : Carry} {c : Core} {a b : Bond} → BondCounted mode k s c a → BondCounted mode k s c b → (a .sweeps ≡ b .sweeps) × (a .settled ≡ b .settled)
+bond-once {mode} {b = b} P Q =
     let e : Q .core ≡ P .core = done-inj (sym (Q .taken) ∙ P .taken) in
     let O = counted-once (P .counted)
-    (subst (λ (x : Core). Counted mostSweeps (x .rr) (eig (gram x) (eye (x .rr))) (b .sweeps) (b .settled) (Q .end)) e (Q .counted)) in
+    (subst (λ (x : Core). Counted mode mostSweeps (x .rr) (eig (gram x) (eye (x .rr))) (b .sweeps) (b .settled) (Q .end)) e (Q .counted)) in
     (O .0, O .1)
 
 pub round-once : {cutting : Cutting} {cs : List Core} {a b : List Bond} → RoundCounted cutting cs a → RoundCounted cutting cs b
     → (k : ℕ) → suc k < length cs → (getD a k noBond .sweeps ≡ getD b k noBond .sweeps) × (getD a k noBond .settled ≡ getD b k noBond .settled)
-round-once {cs = cs} {b = b} P Q k lt =
+round-once {cutting} {cs} {b = b} P Q k lt =
     let e : Q .cuts ≡ P .cuts = done-inj (sym (Q .ran) ∙ P .ran) in
-    bond-once (P .bond k lt) (subst (λ (x : List (Carry × Cut)). BondCounted k (stateAt none x k) (coreIn cs k) (getD b k noBond)) e (Q .bond k lt))
+    bond-once (P .bond k lt) (subst (λ (x : List (Carry × Cut)). BondCounted (cutting .mode) k (stateAt none x k) (coreIn cs k) (getD b k noBond)) e (Q .bond k lt))

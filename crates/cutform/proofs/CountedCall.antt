@@ -51,7 +51,7 @@ after-counted cutting cs cuts most ran =
     record {
       cuts = R .cuts;
       ran = R .ran;
-      bond = λ k lt. subst (BondCounted k (stateAt none (R .cuts) k) (coreIn cs k)) (sym (in-array noBond mostAxes (bondsIn cuts) k (omega arith))) (R .bond k lt);
+      bond = λ k lt. subst (BondCounted (cutting .mode) k (stateAt none (R .cuts) k) (coreIn cs k)) (sym (in-array noBond mostAxes (bondsIn cuts) k (omega arith))) (R .bond k lt);
     }
 
 module _ (s : Shape) (chain scratch : List Float) where

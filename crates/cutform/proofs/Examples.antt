@@ -17,11 +17,11 @@ use Rattle.lists.specs.Floats.{sumOn, sumTo, sumRows, allFinite, firstNotFinite
 use Rattle.shape.specs.Cores.{Core, coreWith, place, entry, block}
 use Rattle.cutform.specs.Rotation.{tangentOf, slopeOf, cosineOf, turnedAt, eye}
 use Rattle.cutform.specs.declared.Bond.{Bond}
-use Rattle.cutform.specs.declared.Cutting.{Cutting}
-use Rattle.cutform.specs.Sweeps.{turnColumns, turnRows, cleared, turned, skipped, rotate, sweep, offSum, settled, sweepsFrom, diagonalized}
+use Rattle.cutform.specs.Modes.{absoluteCut, offSum, settled, skipped, divided}
+use Rattle.cutform.specs.Sweeps.{turnColumns, turnRows, cleared, turned, rotate, sweep, sweepsFrom, diagonalized}
 use Rattle.cutform.specs.Values.{singularOf, singulars, placeIn, indexAt, order, sorted, thresholdOf, keptRank, droppedFrom}
 use Rattle.cutform.specs.Bonds.{gram, noBond, CutCore, cutBond, absorb}
-use Rattle.cutform.specs.Factors.{divided, leftFactor, carryOf}
+use Rattle.cutform.specs.Factors.{leftFactor, carryOf}
 use Rattle.cutform.specs.Rounding.{Carry, Cut, roundCore, rounding, coresIn}
 
 -- what a bond came to, each float by its bits
@@ -34,13 +34,9 @@ pub record Seen : Type 0 where
 abbrev bits : List Float → List ℕ
 bits l = map (toBits binary64) l
 
-abbrev seen : Answer CutCore → Seen
+abbrev pub seen : Answer CutCore → Seen
 seen (done b) = record { right = b .core .rr; bond = b .bond; left = bits (b .core .entries); carry = bits (b .carry) }
 seen (refused r) = record { right = 0; bond = noBond; left = []; carry = [] }
-
--- a cut by its eps
-abbrev by : Float → Cutting
-by e = record { eps = e }
 
 -- the cores of a rounding
 abbrev cores : Answer (List (Carry × Cut)) → List (List ℕ)
@@ -51,7 +47,7 @@ cores (refused r) = []
 abbrev saw-without : Float → ℕ → ℕ → List ℕ → List ℕ → Seen
 saw-without x r c l b = record { right = r; bond = record { rank = r; sweeps = c; settled = true; dropped = x }; left = l; carry = b }
 
-abbrev saw : ℕ → ℕ → List ℕ → List ℕ → Seen
+abbrev pub saw : ℕ → ℕ → List ℕ → List ℕ → Seen
 saw = saw-without zero64
 
 abbrev D : Core
@@ -69,13 +65,13 @@ three-quarters = fin false 3 (negsuc 1)
 abbrev least : Float
 least = fin false 1 (negsuc 26)
 
-abbrev one : ℕ
+abbrev pub one : ℕ
 one = 0x3ff0_0000_0000_0000
 
 abbrev two : ℕ
 two = 0x4000_0000_0000_0000
 
-abbrev four : ℕ
+abbrev pub four : ℕ
 four = 0x4010_0000_0000_0000
 
 -- a core of rows of three, the numbers by their bits
@@ -118,44 +114,44 @@ turned-once =
     (0x3fe6a09e667f3bcd ∷ 0x3fe6a09e667f3bcd ∷ 0x3fe6a09e667f3bc8 ∷ 0xbfe6a09e667f3bc8 ∷ [])
 
 -- one number
-abbrev lone : ℕ → Core
+abbrev pub lone : ℕ → Core
 lone x = coreWith 1 1 1 (ofBits binary64 x ∷ [])
 
 pub record Examples : Type 0 where
   -- 3 lies above 0.5*4, so both are kept
-  pub above : seen (cutBond 0 (by half) D) ≡ saw 2 0 (0 ∷ one ∷ one ∷ 0 ∷ []) (0 ∷ 0x4010000000000000 ∷ 0x4008000000000000 ∷ 0 ∷ [])
+  pub above : seen (cutBond 0 (absoluteCut half) D) ≡ saw 2 0 (0 ∷ one ∷ one ∷ 0 ∷ []) (0 ∷ 0x4010000000000000 ∷ 0x4008000000000000 ∷ 0 ∷ [])
   -- 3 does not lie above 0.75*4
-  pub at-threshold : seen (cutBond 0 (by three-quarters) D) ≡ saw-without (fin false 3 (pos 0)) 1 0 (0 ∷ one ∷ []) (0 ∷ 0x4010000000000000 ∷ [])
+  pub at-threshold : seen (cutBond 0 (absoluteCut three-quarters) D) ≡ saw-without (fin false 3 (pos 0)) 1 0 (0 ∷ one ∷ []) (0 ∷ 0x4010000000000000 ∷ [])
   -- of 2 and 1, which are dropped, 2 is told, also where it is the threshold itself; of 1 alone, 1; of nothing, +0
-  pub drops-two : seen (cutBond 0 (by three-quarters) diagonal) ≡ four-left
-  pub drops-at-threshold : seen (cutBond 0 (by half) diagonal) ≡ four-left
-  pub drops-one : seen (cutBond 0 (by quarter) diagonal) ≡ saw-without (ofBits binary64 one) 2 0 (0 ∷ 0 ∷ one ∷ 0 ∷ 0 ∷ one ∷ []) (0 ∷ four ∷ 0 ∷ 0 ∷ 0 ∷ two ∷ [])
-  pub drops-none : seen (cutBond 0 (by nought) diagonal) ≡ saw 3 0 (0 ∷ 0 ∷ one ∷ one ∷ 0 ∷ 0 ∷ 0 ∷ one ∷ 0 ∷ []) (0 ∷ four ∷ 0 ∷ 0 ∷ 0 ∷ two ∷ one ∷ 0 ∷ 0 ∷ [])
+  pub drops-two : seen (cutBond 0 (absoluteCut three-quarters) diagonal) ≡ four-left
+  pub drops-at-threshold : seen (cutBond 0 (absoluteCut half) diagonal) ≡ four-left
+  pub drops-one : seen (cutBond 0 (absoluteCut quarter) diagonal) ≡ saw-without (ofBits binary64 one) 2 0 (0 ∷ 0 ∷ one ∷ 0 ∷ 0 ∷ one ∷ []) (0 ∷ four ∷ 0 ∷ 0 ∷ 0 ∷ two ∷ [])
+  pub drops-none : seen (cutBond 0 (absoluteCut nought) diagonal) ≡ saw 3 0 (0 ∷ 0 ∷ one ∷ one ∷ 0 ∷ 0 ∷ 0 ∷ one ∷ 0 ∷ []) (0 ∷ four ∷ 0 ∷ 0 ∷ 0 ∷ two ∷ one ∷ 0 ∷ 0 ∷ [])
   -- a value of zero that is not kept
-  pub drops-zero : seen (cutBond 0 (by nought) (coreWith 1 1 2 (minus-nought ∷ nought ∷ []))) ≡ saw 1 0 (0 ∷ []) (0 ∷ 0 ∷ [])
+  pub drops-zero : seen (cutBond 0 (absoluteCut nought) (coreWith 1 1 2 (minus-nought ∷ nought ∷ []))) ≡ saw 1 0 (0 ∷ []) (0 ∷ 0 ∷ [])
   -- one row, rank two
-  pub above-rows : seen (cutBond 0 (by nought) (coreWith 1 1 2 (least ∷ least ∷ []))) ≡ saw 2 0 (one ∷ one ∷ []) (0x3e40000000000000 ∷ 0 ∷ 0 ∷ 0x3e40000000000000 ∷ [])
-  pub one-sweep : seen (cutBond 0 (by nought) two-wide)
+  pub above-rows : seen (cutBond 0 (absoluteCut nought) (coreWith 1 1 2 (least ∷ least ∷ []))) ≡ saw 2 0 (one ∷ one ∷ []) (0x3e40000000000000 ∷ 0 ∷ 0 ∷ 0x3e40000000000000 ∷ [])
+  pub one-sweep : seen (cutBond 0 (absoluteCut nought) two-wide)
       ≡ saw 2 1 (0x3feb38880b4603e4 ∷ 0x3fe0d2ca0da1530f ∷ 0x3fe0d2ca0da1530d ∷ 0xbfeb38880b4603e3 ∷ []) (0x3feb38880b4603e2 ∷ 0x3ff605a90c73ab78 ∷ 0x3fe0d2ca0da1530c ∷ 0xbfd4cb7bfb4961ad ∷ [])
-  pub three-sweeps : seen (cutBond 0 (by small) three-wide)
+  pub three-sweeps : seen (cutBond 0 (absoluteCut small) three-wide)
       ≡ saw 3 3 (0x3fca06ab851ee7a1 ∷ 0x3fdcec4c3403e0b3 ∷ 0xbfebcb5f125b4ae9 ∷ 0xbfc5f628b091dcf9 ∷ 0x3fec797423bca3a0 ∷ 0x3fdb0f64263d6e3c ∷ 0xbfeed8c374f6b0da ∷ 0xbfb02465004fd8a6 ∷ 0xbfd08ab2b5deb9f9 ∷ [])
       (0xbff947c839ec3dca ∷ 0x40004998b94c7964 ∷ 0xbfd7b836cb5d275a ∷ 0x3fe80be632b49918 ∷ 0x3fe3da7e596e3f21 ∷ 0x3fca2fff79ee50b4 ∷ 0xbfb811e0950aa470 ∷ 0xbf7aa94ffa5156d4 ∷ 0x3fd75d8139a4775b ∷ [])
   -- what is kept of D goes into the core behind it, two ones
-  pub rounded : cores (rounding (by three-quarters) (D ∷ coreWith 2 1 1 (fin false 1 (pos 0) ∷ fin false 1 (pos 0) ∷ []) ∷ [])) ≡ (0 ∷ one ∷ []) ∷ (0x4010000000000000 ∷ []) ∷ []
+  pub rounded : cores (rounding (absoluteCut three-quarters) (D ∷ coreWith 2 1 1 (fin false 1 (pos 0) ∷ fin false 1 (pos 0) ∷ []) ∷ [])) ≡ (0 ∷ one ∷ []) ∷ (0x4010000000000000 ∷ []) ∷ []
   -- 1e-15 squared is 1e-30, which is not below it: the pair is turned. The number before 1e-15 is skipped, in each of 50 sweeps
-  pub skips-below : seen (cutBond 0 (by nought) (leaning 0x3cd203af9ee75615)) ≡ unturned 50 false 0x3cd203af9ee75615
-  pub turns-at : seen (cutBond 0 (by nought) (leaning 0x3cd203af9ee75616)) ≡ turned-once
-  pub turns-above : seen (cutBond 0 (by nought) (leaning 0x3cd203af9ee75617)) ≡ turned-once
+  pub skips-below : seen (cutBond 0 (absoluteCut nought) (leaning 0x3cd203af9ee75615)) ≡ unturned 50 false 0x3cd203af9ee75615
+  pub turns-at : seen (cutBond 0 (absoluteCut nought) (leaning 0x3cd203af9ee75616)) ≡ turned-once
+  pub turns-above : seen (cutBond 0 (absoluteCut nought) (leaning 0x3cd203af9ee75617)) ≡ turned-once
   -- this g has 2*g*g = 1e-30, which does not stop the sweeps; its own square does not turn the pair
-  pub stops-below : seen (cutBond 0 (by nought) (leaning 0x3cc979e8ae802111)) ≡ unturned 0 true 0x3cc979e8ae802111
-  pub goes-on-at : seen (cutBond 0 (by nought) (leaning 0x3cc979e8ae802112)) ≡ unturned 50 false 0x3cc979e8ae802112
-  pub goes-on-above : seen (cutBond 0 (by nought) (leaning 0x3cc979e8ae802113)) ≡ unturned 50 false 0x3cc979e8ae802113
+  pub stops-below : seen (cutBond 0 (absoluteCut nought) (leaning 0x3cc979e8ae802111)) ≡ unturned 0 true 0x3cc979e8ae802111
+  pub goes-on-at : seen (cutBond 0 (absoluteCut nought) (leaning 0x3cc979e8ae802112)) ≡ unturned 50 false 0x3cc979e8ae802112
+  pub goes-on-above : seen (cutBond 0 (absoluteCut nought) (leaning 0x3cc979e8ae802113)) ≡ unturned 50 false 0x3cc979e8ae802113
   -- a value of 1e-30 divides nothing, the next one does
-  pub undivided-at : seen (cutBond 0 (by nought) (lone 0x39b4484bfeebc2a0)) ≡ saw 1 0 (0 ∷ []) (0x39b4484bfeebc2a0 ∷ [])
-  pub divided-above : seen (cutBond 0 (by nought) (lone 0x39b4484bfeebc2a1)) ≡ saw 1 0 (one ∷ []) (0x39b4484bfeebc2a1 ∷ [])
+  pub undivided-at : seen (cutBond 0 (absoluteCut nought) (lone 0x39b4484bfeebc2a0)) ≡ saw 1 0 (0 ∷ []) (0x39b4484bfeebc2a0 ∷ [])
+  pub divided-above : seen (cutBond 0 (absoluteCut nought) (lone 0x39b4484bfeebc2a1)) ≡ saw 1 0 (one ∷ []) (0x39b4484bfeebc2a1 ∷ [])
   -- sums start at +0, and +0 + -0 is +0: in the Gram matrix, in a row times a basis column, in an absorbed core
   pub gram-signs : bits (gram (coreWith 1 1 2 (fin false 1 (pos 0) ∷ minus-nought ∷ []))) ≡ one ∷ 0 ∷ 0 ∷ 0 ∷ []
-  pub factor-signs : seen (cutBond 0 (by nought) (coreWith 1 2 1 (fin false 1 (pos 0) ∷ minus-nought ∷ []))) ≡ saw 1 0 (one ∷ 0 ∷ []) (one ∷ [])
+  pub factor-signs : seen (cutBond 0 (absoluteCut nought) (coreWith 1 2 1 (fin false 1 (pos 0) ∷ minus-nought ∷ []))) ≡ saw 1 0 (one ∷ 0 ∷ []) (one ∷ [])
   pub absorbed-signs : bits (absorb 1 (fin false 1 (pos 0) ∷ []) (coreWith 1 1 1 (minus-nought ∷ []))) ≡ 0 ∷ []
 
 pub examples : Examples

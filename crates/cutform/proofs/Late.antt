@@ -22,12 +22,12 @@ late-bond : (k : ℕ) (cutting : Cutting) (c : Core) → Late (cutBond k cutting
 unfolding cutBond
 late-bond k cutting c =
     late-then Spectrum k (stored (gram c)) _ (λ g.
-    late-then Spectrum k (diagonalized (c .rr) (eig g (eye (c .rr)))) _ (λ w.
+    late-then Spectrum k (diagonalized (cutting .mode) (c .rr) (eig g (eye (c .rr)))) _ (λ w.
     late-then Spectrum k (stored (singulars (c .rr) (w .eig .g))) _ (λ sv.
     let js = order (c .rr) sv in
     let ss = sorted (c .rr) sv in
     let r = keptRank (cutting .eps) (c .rr) ss in
-    late-then Factor k (stored (leftFactor c r ss js (w .eig .v))) _ (λ u.
+    late-then Factor k (stored (leftFactor (cutting .mode) c r ss js (w .eig .v))) _ (λ u.
     late-then Factor k (stored (carryOf (c .rr) r ss js (w .eig .v))) _ (λ b.
     late-done _)))))
 

@@ -1,4 +1,5 @@
 pub mod Examples
+pub mod Scaled
 -- what stays finite
 pub mod Whole
 -- the stages of a cut
@@ -16,3 +17,5 @@ pub mod Late
 pub mod CountedCall
 -- what was dropped is finite
 pub mod Fine
+-- absolute mode is the scope's cut
+pub mod Absolute

@@ -24,9 +24,9 @@ pub record Stages (cutting : Cutting) (c : Core) (b : CutCore) : Type 0 where
   pub values : List Float
   pub left : List Float
   pub carry : List Float
-  pub sweeping : diagonalized (c .rr) (eig (gram c) (eye (c .rr))) ≡ done swept
+  pub sweeping : diagonalized (cutting .mode) (c .rr) (eig (gram c) (eye (c .rr))) ≡ done swept
   pub lefts : let ss = sorted (c .rr) values in let r = keptRank (cutting .eps) (c .rr) ss in
-      stored (leftFactor c r ss (order (c .rr) values) (swept .eig .v)) ≡ done left
+      stored (leftFactor (cutting .mode) c r ss (order (c .rr) values) (swept .eig .v)) ≡ done left
   pub carries : let ss = sorted (c .rr) values in let r = keptRank (cutting .eps) (c .rr) ss in
       stored (carryOf (c .rr) r ss (order (c .rr) values) (swept .eig .v)) ≡ done carry
   pub fine : allFinite values ≡ true
@@ -38,13 +38,13 @@ pub stages : (k : ℕ) (cutting : Cutting) (c : Core) (b : CutCore) → cutBond 
 unfolding cutBond singulars
 stages k cutting c b h =
     let A = bind-done (making Spectrum k (stored (gram c))) _ b h in
-    let B = bind-done (making Spectrum k (diagonalized (c .rr) (eig (A .0) (eye (c .rr))))) _ b (A .2) in
+    let B = bind-done (making Spectrum k (diagonalized (cutting .mode) (c .rr) (eig (A .0) (eye (c .rr))))) _ b (A .2) in
     let w = B .0 in
     let C = bind-done (making Spectrum k (stored (singulars (c .rr) (w .eig .g)))) _ b (B .2) in
     let js = order (c .rr) (C .0) in
     let ss = sorted (c .rr) (C .0) in
     let r = keptRank (cutting .eps) (c .rr) ss in
-    let D = bind-done (making Factor k (stored (leftFactor c r ss js (w .eig .v)))) _ b (C .2) in
+    let D = bind-done (making Factor k (stored (leftFactor (cutting .mode) c r ss js (w .eig .v)))) _ b (C .2) in
     let F = making-stored Spectrum k (singulars (c .rr) (w .eig .g)) (C .0) (C .1) in
     let E = bind-done (making Factor k (stored (carryOf (c .rr) r ss js (w .eig .v)))) _ b (D .2) in
     record {
@@ -52,8 +52,8 @@ stages k cutting c b h =
       values = C .0;
       left = D .0;
       carry = E .0;
-      sweeping = ap (λ (g : List Float). diagonalized (c .rr) (eig g (eye (c .rr)))) (making-stored Spectrum k (gram c) (A .0) (A .1) .0) ∙ making-is Spectrum k _ w (B .1);
-      lefts = making-is Factor k (stored (leftFactor c r ss js (w .eig .v))) (D .0) (D .1);
+      sweeping = ap (λ (g : List Float). diagonalized (cutting .mode) (c .rr) (eig g (eye (c .rr)))) (making-stored Spectrum k (gram c) (A .0) (A .1) .0) ∙ making-is Spectrum k _ w (B .1);
+      lefts = making-is Factor k (stored (leftFactor (cutting .mode) c r ss js (w .eig .v))) (D .0) (D .1);
       carries = making-is Factor k (stored (carryOf (c .rr) r ss js (w .eig .v))) (E .0) (E .1);
       fine = F .1;
       long = ap length (sym (F .0)) ∙ length-tab (c .rr) _;

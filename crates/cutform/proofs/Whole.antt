@@ -23,7 +23,8 @@ use Rattle.lists.proofs.Tables.{length-grid}
 use Rattle.shape.specs.Cores.{Core}
 use Rattle.cutform.specs.Bonds.{gram}
 use Rattle.cutform.specs.Rotation.{tangentOf, slopeOf, cosineOf, eye}
-use Rattle.cutform.specs.Sweeps.{Eig, eig, turnColumns, turnRows, cleared, turned, skipped, rotate, sweep, settled, Swept, sweepsFrom, mostSweeps, diagonalized}
+use Rattle.cutform.specs.Modes.{settled, skipped}
+use Rattle.cutform.specs.Sweeps.{Eig, eig, turnColumns, turnRows, cleared, turned, rotate, sweep, Swept, sweepsFrom, mostSweeps, diagonalized}
 use Rattle.cutform.specs.Values.{singularOf, singulars}
 
 -- the basis as made holds ones and zeros
@@ -44,7 +45,7 @@ pub record Whole (n : ℕ) (e : Eig) : Type 0 where
   pub matrixLength : length (e .g) ≡ n * n
   pub matrixFinite : allFinite (e .g) ≡ true
 
-module _ (n : ℕ) where
+module _ (mode n : ℕ) where
   turned-whole : (p q : ℕ) (c s : Float) (e d : Eig) → turned n p q c s e ≡ done d → Whole n d
   unfolding turned cleared turnRows
   turned-whole p q c s e d h =
@@ -57,31 +58,31 @@ module _ (n : ℕ) where
         matrixFinite = t;
       })
 
-  rotate-whole : (p q : ℕ) (e d : Eig) → Whole n e → rotate n p q e ≡ done d → Whole n d
+  rotate-whole : (p q : ℕ) (e d : Eig) → Whole n e → rotate mode n p q e ≡ done d → Whole n d
   unfolding rotate pick
   rotate-whole p q e d w h =
       let t = tangentOf (slopeOf (cell n (e .g) p p) (cell n (e .g) q q) (cell n (e .g) p q)) in
-      go (skipped n (e .g) p q) (cosineOf t) (times t (cosineOf t)) h
+      go (skipped mode n (e .g) p q) (cosineOf t) (times t (cosineOf t)) h
     where
       go : (b : Bool) (c s : Float) → pick b (done e) (turned n p q c s e) ≡ done d → Whole n d
       go true c s h = rw (← done-inj h) w
       go false c s h = turned-whole p q c s e d h
 
-  sweep-whole : (e d : Eig) → Whole n e → sweep n e ≡ done d → Whole n d
+  sweep-whole : (e d : Eig) → Whole n e → sweep mode n e ≡ done d → Whole n d
   unfolding sweep
-  sweep-whole e d w h = along-keeps (Whole n) (λ (x : ℕ × ℕ). rotate n (x .0) (x .1)) (λ x a b p g. rotate-whole (x .0) (x .1) a b p g) (pairs n) e d w h
+  sweep-whole e d w h = along-keeps (Whole n) (λ (x : ℕ × ℕ). rotate mode n (x .0) (x .1)) (λ x a b p g. rotate-whole (x .0) (x .1) a b p g) (pairs n) e d w h
 
-  from-whole : (left : ℕ) (b : Bool) (c : ℕ) (e : Eig) (w : Swept) → Whole n e → sweepsFrom left b n c e ≡ done w → Whole n (w .eig)
+  from-whole : (left : ℕ) (b : Bool) (c : ℕ) (e : Eig) (w : Swept) → Whole n e → sweepsFrom left b mode n c e ≡ done w → Whole n (w .eig)
   unfolding sweepsFrom
   from-whole zero b c e w p h = rw (← done-inj h) p
   from-whole (suc left) true c e w p h = rw (← done-inj h) p
   from-whole (suc left) false c e w p h =
-      let (x, t, g) = bind-done (sweep n e) (λ x. sweepsFrom left (settled n (x .g)) n (suc c) x) w h in
-      from-whole left (settled n (x .g)) (suc c) x w (sweep-whole e x p t) g
+      let (x, t, g) = bind-done (sweep mode n e) (λ x. sweepsFrom left (settled mode n (x .g)) mode n (suc c) x) w h in
+      from-whole left (settled mode n (x .g)) (suc c) x w (sweep-whole e x p t) g
 
-  swept-whole : (e : Eig) (w : Swept) → Whole n e → diagonalized n e ≡ done w → Whole n (w .eig)
+  swept-whole : (e : Eig) (w : Swept) → Whole n e → diagonalized mode n e ≡ done w → Whole n (w .eig)
   unfolding diagonalized
-  swept-whole e w p h = from-whole mostSweeps (settled n (e .g)) 0 e w p h
+  swept-whole e w p h = from-whole mostSweeps (settled mode n (e .g)) 0 e w p h
 
 -- ---- the root of a finite number above zero is finite
 odd-finite : (d : ℕ) (s : Bool) (q k l : ℕ) → finite (odd d s q k l) ≡ true
@@ -116,11 +117,11 @@ values-stored n g long fine =
     (λ i a b. value-finite (cell n g i i) (finite-getD g (i * n + i) nan (cell-lt i n n i (length g) (omega arith) (omega arith) (omega arith)) fine)))
 
 -- the values of a bond are never refused
-pub bond-values : (c : Core) (g : List Float) (w : Swept) → stored (gram c) ≡ done g → diagonalized (c .rr) (eig g (eye (c .rr))) ≡ done w
+pub bond-values : (mode : ℕ) (c : Core) (g : List Float) (w : Swept) → stored (gram c) ≡ done g → diagonalized mode (c .rr) (eig g (eye (c .rr))) ≡ done w
     → stored (singulars (c .rr) (w .eig .g)) ≡ done (singulars (c .rr) (w .eig .g))
 unfolding gram
-bond-values c g w s d =
+bond-values mode c g w s d =
     let (i, t) = stored-is (gram c) g s in
     let made : Whole (c .rr) (eig g (eye (c .rr))) = record { matrixLength = ap length (sym i) ∙ length-grid (c .rr) (c .rr) _; matrixFinite = t } in
-    let end = swept-whole (c .rr) (eig g (eye (c .rr))) w made d in
+    let end = swept-whole mode (c .rr) (eig g (eye (c .rr))) w made d in
     values-stored (c .rr) (w .eig .g) (end .matrixLength) (end .matrixFinite)

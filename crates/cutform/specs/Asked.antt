@@ -1,6 +1,6 @@
 -- What every call over a chain asks before it works, and all that `tt_round` asks. Definitions only.
 use Prim.Native.Nat.{ℕ}
-use mathlib.Core.Bool.{Bool, not}
+use mathlib.Core.Bool.{Bool, not, _&&_}
 use mathlib.Core.List.{List}
 use lib.Dec.{eqb}
 use lib.ListN.{length}
@@ -15,6 +15,7 @@ use Rattle.shape.specs.Limits.{scratchFor}
 use Rattle.shape.specs.Shapes.{chainOk, entriesOf}
 use Rattle.shape.specs.Cores.{coreAt}
 use Rattle.cutform.specs.declared.Cutting.{Cutting}
+use Rattle.cutform.specs.Modes.{modeOk}
 
 -- 5: the chain has exactly N numbers, scratch exactly 4N + 2,048; the chain is slice i, scratch slice j
 unfoldable pub lengthsOk : Shape → ℕ → ℕ → ℕ → ℕ → Check
@@ -33,7 +34,7 @@ unfoldable pub cuttingFinite : Cutting → Bool
 cuttingFinite cutting = finite (cutting .eps)
 
 unfoldable pub cuttingOk : Cutting → Bool
-cuttingOk cutting = notBelowZero (cutting .eps)
+cuttingOk cutting = notBelowZero (cutting .eps) && modeOk (cutting .mode)
 
 -- 6: how it is cut, then the cores
 unfoldable pub roundFinite : Shape → Cutting → List Float → Check

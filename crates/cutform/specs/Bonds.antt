@@ -38,12 +38,12 @@ pub record CutCore : Type 0 where
 unfoldable pub cutBond : ℕ → Cutting → Core → Answer CutCore
 cutBond k cutting c =
     bind (making Spectrum k (stored (gram c))) (λ g.
-    bind (making Spectrum k (diagonalized (c .rr) (eig g (eye (c .rr))))) (λ w.
+    bind (making Spectrum k (diagonalized (cutting .mode) (c .rr) (eig g (eye (c .rr))))) (λ w.
     bind (making Spectrum k (stored (singulars (c .rr) (w .eig .g)))) (λ sv.
     let js = order (c .rr) sv in
     let ss = sorted (c .rr) sv in
     let r = keptRank (cutting .eps) (c .rr) ss in
-    bind (making Factor k (stored (leftFactor c r ss js (w .eig .v)))) (λ u.
+    bind (making Factor k (stored (leftFactor (cutting .mode) c r ss js (w .eig .v)))) (λ u.
     bind (making Factor k (stored (carryOf (c .rr) r ss js (w .eig .v)))) (λ b.
     done (record {
       core = coreWith (c .rl) (c .n) r u;

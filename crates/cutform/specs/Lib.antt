@@ -1,10 +1,12 @@
 pub mod Rotation
+pub mod Modes
 pub mod Asked
 pub mod Sweeps
 pub mod Values
 pub mod Factors
 pub mod Bonds
 pub mod Rounding
+pub mod Absolute
 pub mod Claims
 pub mod Keeping
 pub mod Call

@@ -3,13 +3,14 @@ use Prim.Native.Nat.{ℕ, zero, suc, _+_, _*_}
 use mathlib.Core.Bool.{Bool, true, false}
 use mathlib.Core.List.{List}
 use lib.ListN.{set}
-use lib.Ieee.{Float, lt}
-use Rattle.numbers.specs.Arithmetic.{plus, times, zero64, two64, tiny64}
+use lib.Ieee.{Float}
+use Rattle.numbers.specs.Arithmetic.{times, zero64}
 use Rattle.answers.specs.Outcome.{Made, done, bind}
-use Rattle.lists.specs.Lists.{pick, grid, pairs, folded}
+use Rattle.lists.specs.Lists.{pick, grid, pairs}
 use Rattle.lists.specs.Walks.{along}
 use Rattle.lists.specs.Floats.{cell, stored}
 use Rattle.cutform.specs.Rotation.{tangentOf, slopeOf, cosineOf, turnedAt}
+use Rattle.cutform.specs.Modes.{settled, skipped}
 
 -- a square matrix g and the basis v, both row after row
 pub record Eig : Type 0 where
@@ -38,29 +39,18 @@ turned n p q c s e =
     bind (stored (turnColumns n p q c s (e .v))) (λ v.
     done (eig g v)))
 
--- a pair is skipped where g*g is below 1e-30
-unfoldable pub skipped : ℕ → List Float → ℕ → ℕ → Bool
-skipped n g p q = lt (times (cell n g p q) (cell n g p q)) tiny64
-
-unfoldable pub rotate : ℕ → ℕ → ℕ → Eig → Made Eig
-rotate n p q e =
+-- a rotation, unless the pair is skipped
+unfoldable pub rotate : ℕ → ℕ → ℕ → ℕ → Eig → Made Eig
+rotate mode n p q e =
     let t = tangentOf (slopeOf (cell n (e .g) p p) (cell n (e .g) q q) (cell n (e .g) p q)) in
     let c = cosineOf t in
-    pick (skipped n (e .g) p q) (done e) (turned n p q c (times t c) e)
+    pick (skipped mode n (e .g) p q) (done e) (turned n p q c (times t c) e)
 
 -- ---- sweeps
-unfoldable pub sweep : ℕ → Eig → Made Eig
-sweep n e = along (pairs n) (λ (x : ℕ × ℕ). rotate n (x .0) (x .1)) e
+unfoldable pub sweep : ℕ → ℕ → Eig → Made Eig
+sweep mode n e = along (pairs n) (λ (x : ℕ × ℕ). rotate mode n (x .0) (x .1)) e
 
--- the sum over pairs of 2*g*g
-unfoldable pub offSum : ℕ → List Float → Float
-offSum n g = folded (pairs n) (λ (x : ℕ × ℕ) (s : Float). plus s (times (times two64 (cell n g (x .0) (x .1))) (cell n g (x .0) (x .1)))) zero64
-
--- the sum is below 1e-30
-unfoldable pub settled : ℕ → List Float → Bool
-settled n g = lt (offSum n g) tiny64
-
--- the sweeps made, whether the sum is below 1e-30 at the end, and the matrices then
+-- the sweeps made, whether the matrix is settled at the end, and the matrices then
 pub record Swept : Type 0 where
   pub count : ℕ
   pub settles : Bool
@@ -69,15 +59,15 @@ pub record Swept : Type 0 where
 abbrev pub swept : ℕ → Bool → Eig → Swept
 swept c b e = record { count = c; settles = b; eig = e }
 
--- at most `left` more sweeps after c of them; b says whether the sum is below 1e-30 by now
-unfoldable pub sweepsFrom : ℕ → Bool → ℕ → ℕ → Eig → Made Swept
-sweepsFrom zero b n c e = done (swept c b e)
-sweepsFrom (suc left) true n c e = done (swept c true e)
-sweepsFrom (suc left) false n c e = bind (sweep n e) (λ x. sweepsFrom left (settled n (x .g)) n (suc c) x)
+-- at most `left` more sweeps after c of them; b says whether the matrix is settled by now
+unfoldable pub sweepsFrom : ℕ → Bool → ℕ → ℕ → ℕ → Eig → Made Swept
+sweepsFrom zero b mode n c e = done (swept c b e)
+sweepsFrom (suc left) true mode n c e = done (swept c true e)
+sweepsFrom (suc left) false mode n c e = bind (sweep mode n e) (λ x. sweepsFrom left (settled mode n (x .g)) mode n (suc c) x)
 
 abbrev pub mostSweeps : ℕ
 mostSweeps = 50
 
--- before each of at most 50 sweeps, stop if the sum is below 1e-30
-unfoldable pub diagonalized : ℕ → Eig → Made Swept
-diagonalized n e = sweepsFrom mostSweeps (settled n (e .g)) n 0 e
+-- before each of at most 50 sweeps, stop if the matrix is settled
+unfoldable pub diagonalized : ℕ → ℕ → Eig → Made Swept
+diagonalized mode n e = sweepsFrom mostSweeps (settled mode n (e .g)) mode n 0 e
