@@ -1,5 +1,6 @@
 pub mod StripProducts
 pub mod Finished
+pub mod Modes
 pub mod Rotations
 pub mod Swept
 pub mod Chosen

@@ -14,7 +14,8 @@ use Rattle.lists.specs.Lists.{pick}
 use Rattle.lists.specs.Floats.{cell, stored}
 use Rattle.lists.proofs.Stages.{stored-staged, staged-on, staged-stop, staged-last}
 use Rattle.cutform.specs.Rotation.{tangentOf, slopeOf, cosineOf}
-use Rattle.cutform.specs.Sweeps.{Eig, eig, turnColumns, turnRows, cleared, turned, skipped, rotate}
+use Rattle.cutform.specs.Modes.{skipped}
+use Rattle.cutform.specs.Sweeps.{Eig, eig, turnColumns, turnRows, cleared, turned, rotate}
 use Rattle.rotation.specs.Pairs.{turnPairs}
 use Rattle.rotation.proofs.Turned.{columns-turned, rows-turned}
 
@@ -44,14 +45,14 @@ module _ (n p q : ℕ) (c s : Float) (g v g' v' : List Float) (eg : g' ≡ clear
       ∙ staged-last t v' (λ y. eig g' y)
 
 -- ---- a rotation, unless the pair is skipped
-module _ (n p q : ℕ) (g v : List Float) (b : Bool) (eb : b ≡ skipped n g p q) where
-  pub rotate-skip : b ≡ true → rotate n p q (eig g v) ≡ staged Whole (eig g v)
+module _ (mode n p q : ℕ) (g v : List Float) (b : Bool) (eb : b ≡ skipped mode n g p q) where
+  pub rotate-skip : b ≡ true → rotate mode n p q (eig g v) ≡ staged Whole (eig g v)
   unfolding rotate pick staged
-  rotate-skip h = let t : skipped n g p q ≡ true = sym eb ∙ h in rw t
+  rotate-skip h = let t : skipped mode n g p q ≡ true = sym eb ∙ h in rw t
 
   pub rotate-go : b ≡ false → (x t c : Float)
       → x ≡ slopeOf (cell n g p p) (cell n g q q) (cell n g p q) → t ≡ tangentOf x → c ≡ cosineOf t
       → (r : Stage) (e : Eig) → turned n p q c (times t c) (eig g v) ≡ staged r e
-      → rotate n p q (eig g v) ≡ staged r e
+      → rotate mode n p q (eig g v) ≡ staged r e
   unfolding rotate pick
-  rotate-go h x t c ex et ec r e d = let f : skipped n g p q ≡ false = sym eb ∙ h in rw (f, ← ex, ← et, ← ec) d
+  rotate-go h x t c ex et ec r e d = let f : skipped mode n g p q ≡ false = sym eb ∙ h in rw (f, ← ex, ← et, ← ec) d

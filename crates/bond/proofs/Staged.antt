@@ -28,18 +28,18 @@ use Rattle.bond.specs.FactorRows.{Factors, factorsOf}
 use Rattle.bond.specs.Chosen.{Chosen, chosenOf}
 
 -- ---- the sweeps of a core's Gram matrix
-module _ (c : Core) (g : List Float) (r : Stage) (eg : g ≡ gram c) (er : r ≡ stageOf (stored g)) where
-  gram-opened : sweptOf c ≡ bind (staged r g) (λ x. diagonalized (c .rr) (eig x (eye (c .rr))))
+module _ (mode : ℕ) (c : Core) (g : List Float) (r : Stage) (eg : g ≡ gram c) (er : r ≡ stageOf (stored g)) where
+  gram-opened : sweptOf mode c ≡ bind (staged r g) (λ x. diagonalized mode (c .rr) (eig x (eye (c .rr))))
   unfolding sweptOf
-  gram-opened = ap (λ (o : Made (List Float)). bind o (λ x. diagonalized (c .rr) (eig x (eye (c .rr))))) (ap stored (sym eg) ∙ stored-staged g r er)
+  gram-opened = ap (λ (o : Made (List Float)). bind o (λ x. diagonalized mode (c .rr) (eig x (eye (c .rr))))) (ap stored (sym eg) ∙ stored-staged g r er)
 
-  pub swept-stop : (i : ℕ) (w : Swept) → r ≡ Spilt i → sweptOf c ≡ staged (Spilt i) w
-  swept-stop i w h = gram-opened ∙ staged-stop r g (λ x. diagonalized (c .rr) (eig x (eye (c .rr)))) i w h
+  pub swept-stop : (i : ℕ) (w : Swept) → r ≡ Spilt i → sweptOf mode c ≡ staged (Spilt i) w
+  swept-stop i w h = gram-opened ∙ staged-stop r g (λ x. diagonalized mode (c .rr) (eig x (eye (c .rr)))) i w h
 
-  pub swept-end : r ≡ Whole → (v : List Float) (o : Made Swept) → v ≡ eye (c .rr) → diagonalized (c .rr) (eig g v) ≡ o → sweptOf c ≡ o
+  pub swept-end : r ≡ Whole → (v : List Float) (o : Made Swept) → v ≡ eye (c .rr) → diagonalized mode (c .rr) (eig g v) ≡ o → sweptOf mode c ≡ o
   swept-end h v o ev d =
-      gram-opened ∙ staged-on r g (λ x. diagonalized (c .rr) (eig x (eye (c .rr)))) h
-      ∙ ap (λ (y : List Float). diagonalized (c .rr) (eig g y)) (sym ev) ∙ d
+      gram-opened ∙ staged-on r g (λ x. diagonalized mode (c .rr) (eig x (eye (c .rr)))) h
+      ∙ ap (λ (y : List Float). diagonalized mode (c .rr) (eig g y)) (sym ev) ∙ d
 
 -- ---- stages that make one part, one after another, are one stage
 module _ (part : Part) (k : ℕ) where
@@ -70,19 +70,19 @@ module _ (k : ℕ) (cutting : Cutting) (c : Core) where
   made w q f = done (whole w q f)
 
   last : Swept → Chosen → Answer CutCore
-  last w q = bind (making Factor k (factorsOf c (q .rank) (q .values) (q .order) (w .eig .v))) (made w q)
+  last w q = bind (making Factor k (factorsOf (cutting .mode) c (q .rank) (q .values) (q .order) (w .eig .v))) (made w q)
 
-  cut-stages : cutBond k cutting c ≡ bind (making Spectrum k (sweptOf c)) (restOf k cutting c)
+  cut-stages : cutBond k cutting c ≡ bind (making Spectrum k (sweptOf (cutting .mode) c)) (restOf k cutting c)
   unfolding cutBond sweptOf restOf chosenOf factorsOf made last
   cut-stages =
       bind-cong (making Spectrum k (stored (gram c))) _ _
-      (λ g a. bind-cong (making Spectrum k (diagonalized (c .rr) (eig g (eye (c .rr))))) _ (restOf k cutting c)
+      (λ g a. bind-cong (making Spectrum k (diagonalized (cutting .mode) (c .rr) (eig g (eye (c .rr))))) _ (restOf k cutting c)
       (λ w b. bind-cong (making Spectrum k (stored (singulars (c .rr) (w .eig .g)))) _ (λ sv. last w (chosen sv))
-      (λ sv e. let q = chosen sv in both Factor k (stored (leftFactor c (q .rank) (q .values) (q .order) (w .eig .v))) (stored (carryOf (c .rr) (q .rank) (q .values) (q .order) (w .eig .v))) pair (made w q))
+      (λ sv e. let q = chosen sv in both Factor k (stored (leftFactor (cutting .mode) c (q .rank) (q .values) (q .order) (w .eig .v))) (stored (carryOf (c .rr) (q .rank) (q .values) (q .order) (w .eig .v))) pair (made w q))
       ∙ two Spectrum k (stored (singulars (c .rr) (w .eig .g))) (λ sv. done (chosen sv)) (last w)))
-      ∙ two Spectrum k (stored (gram c)) (λ g. diagonalized (c .rr) (eig g (eye (c .rr)))) (restOf k cutting c)
+      ∙ two Spectrum k (stored (gram c)) (λ g. diagonalized (cutting .mode) (c .rr) (eig g (eye (c .rr)))) (restOf k cutting c)
 
-  module _ (s : Stage) (w : Swept) (ew : sweptOf c ≡ staged s w) where
+  module _ (s : Stage) (w : Swept) (ew : sweptOf (cutting .mode) c ≡ staged s w) where
     pub cut-stop : (i : ℕ) (b : CutCore) → s ≡ Spilt i → cutBond k cutting c ≡ answered (Refused (Stored Spectrum k i)) b
     unfolding staged answered
     cut-stop i b h = cut-stages ∙ rw (ew, h)
@@ -97,7 +97,7 @@ module _ (k : ℕ) (cutting : Cutting) (c : Core) where
     unfolding restOf staged answered
     rest-first i b h = rw (eq, h)
 
-    module _ (h : s ≡ Whole) (t : Stage) (f : Factors) (ef : factorsOf c (q .rank) (q .values) (q .order) (w .eig .v) ≡ staged t f) where
+    module _ (h : s ≡ Whole) (t : Stage) (f : Factors) (ef : factorsOf (cutting .mode) c (q .rank) (q .values) (q .order) (w .eig .v) ≡ staged t f) where
       opened : restOf k cutting c w ≡ bind (making Factor k (staged t f)) (made w q)
       unfolding restOf staged made
       opened = rw (eq, h, ef)

@@ -16,35 +16,36 @@ use Rattle.lists.specs.Floats.{cell}
 use Rattle.lists.specs.Walks.{turning}
 use Rattle.lists.proofs.Pairs.{along-pairs, folded-pairs, along-idle}
 use Rattle.lists.proofs.Stages.{turning-start}
-use Rattle.cutform.specs.Sweeps.{Eig, eig, skipped, rotate, sweep, offSum, settled, Swept, swept, sweepsFrom, diagonalized, mostSweeps}
+use Rattle.cutform.specs.Modes.{skipped, offSum, settled}
+use Rattle.cutform.specs.Sweeps.{Eig, eig, rotate, sweep, Swept, swept, sweepsFrom, diagonalized, mostSweeps}
 use Rattle.bond.specs.SweepRows.{sweepRow, offRow, stillRow, still}
 
 -- ---- row by row
-pub sweep-rows : (n : ℕ) (e : Eig) → sweep n e ≡ turning (n - 0) 0 (sweepRow n) e
+pub sweep-rows : (mode n : ℕ) (e : Eig) → sweep mode n e ≡ turning (n - 0) 0 (sweepRow mode n) e
 unfolding sweep sweepRow
-sweep-rows n e = along-pairs n (λ (x : ℕ × ℕ). rotate n (x .0) (x .1)) e ∙ turning-start n (sweepRow n) e
+sweep-rows mode n e = along-pairs n (λ (x : ℕ × ℕ). rotate mode n (x .0) (x .1)) e ∙ turning-start n (sweepRow mode n) e
 
 pub off-rows : (n : ℕ) (g : List Float) → offSum n g ≡ iter n (offRow n g) zero64
 unfolding offSum offRow
 off-rows n g = folded-pairs n (λ (x : ℕ × ℕ) (s : Float). plus s (times (times two64 (cell n g (x .0) (x .1))) (cell n g (x .0) (x .1)))) zero64
 
-pub still-rows : (n : ℕ) (g : List Float) → still n g ≡ iter n (stillRow n g) true
+pub still-rows : (mode n : ℕ) (g : List Float) → still mode n g ≡ iter n (stillRow mode n g) true
 unfolding still stillRow
-still-rows n g = folded-pairs n (λ (x : ℕ × ℕ) (b : Bool). b && skipped n g (x .0) (x .1)) true
+still-rows mode n g = folded-pairs n (λ (x : ℕ × ℕ) (b : Bool). b && skipped mode n g (x .0) (x .1)) true
 
--- ---- where every pair is skipped, a sweep leaves everything as it was
-pub idle-sweep : (n : ℕ) (g v : List Float) → still n g ≡ true → sweep n (eig g v) ≡ done (eig g v)
+-- ---- where every pair is skipped, a sweep leaves everything as it was, in any mode
+pub idle-sweep : (mode n : ℕ) (g v : List Float) → still mode n g ≡ true → sweep mode n (eig g v) ≡ done (eig g v)
 unfolding still sweep rotate pick
-idle-sweep n g v e = along-idle (λ (x : ℕ × ℕ). skipped n g (x .0) (x .1)) (λ (x : ℕ × ℕ). rotate n (x .0) (x .1)) (eig g v) (λ x h. rw h) (pairs n) e
+idle-sweep mode n g v e = along-idle (λ (x : ℕ × ℕ). skipped mode n g (x .0) (x .1)) (λ (x : ℕ × ℕ). rotate mode n (x .0) (x .1)) (eig g v) (λ x h. rw h) (pairs n) e
 
 -- and so do all that are left: they run out, with the same flag
-idle-sweeps : (m n c : ℕ) (e : Eig) → sweep n e ≡ done e → settled n (e .g) ≡ false → sweepsFrom m false n c e ≡ done (swept (c + m) false e)
+idle-sweeps : (m mode n c : ℕ) (e : Eig) → sweep mode n e ≡ done e → settled mode n (e .g) ≡ false → sweepsFrom m false mode n c e ≡ done (swept (c + m) false e)
 unfolding sweepsFrom
-idle-sweeps zero n c e s b = rw add-zero
-idle-sweeps (suc m) n c e s b = rw (s, b) (idle-sweeps m n (suc c) e s b ∙ rw (suc-add, add-suc))
+idle-sweeps zero mode n c e s b = rw add-zero
+idle-sweeps (suc m) mode n c e s b = rw (s, b) (idle-sweeps m mode n (suc c) e s b ∙ rw (suc-add, add-suc))
 
 -- ---- sweeps one after another, by what is left: T is the whole
-module _ (T : Made Swept) (n hi c : ℕ) (b : Bool) (e : Eig) (d : T ≡ sweepsFrom (hi - c) b n c e) where
+module _ (T : Made Swept) (mode n hi c : ℕ) (b : Bool) (e : Eig) (d : T ≡ sweepsFrom (hi - c) b mode n c e) where
   module _ (l : c < hi) where
     left : hi - c ≡ suc (hi - (c + 1))
     left = omega arith
@@ -53,8 +54,8 @@ module _ (T : Made Swept) (n hi c : ℕ) (b : Bool) (e : Eig) (d : T ≡ sweepsF
     unfolding sweepsFrom staged
     sweeps-settled h = d ∙ rw (left, h)
 
-    module _ (h : b ≡ false) (r : Stage) (x : Eig) (s : sweep n e ≡ staged r x) where
-      opened : T ≡ bind (staged r x) (λ y. sweepsFrom (hi - (c + 1)) (settled n (y .g)) n (suc c) y)
+    module _ (h : b ≡ false) (r : Stage) (x : Eig) (s : sweep mode n e ≡ staged r x) where
+      opened : T ≡ bind (staged r x) (λ y. sweepsFrom (hi - (c + 1)) (settled mode n (y .g)) mode n (suc c) y)
       unfolding sweepsFrom
       opened = d ∙ rw (left, h, s)
 
@@ -62,7 +63,7 @@ module _ (T : Made Swept) (n hi c : ℕ) (b : Bool) (e : Eig) (d : T ≡ sweepsF
       unfolding staged
       sweeps-stop i w t = opened ∙ rw t
 
-      pub sweeps-more : r ≡ Whole → (q : Bool) → q ≡ settled n (x .g) → T ≡ sweepsFrom (hi - (c + 1)) q n (c + 1) x
+      pub sweeps-more : r ≡ Whole → (q : Bool) → q ≡ settled mode n (x .g) → T ≡ sweepsFrom (hi - (c + 1)) q mode n (c + 1) x
       unfolding staged
       sweeps-more t q f = opened ∙ rw (t, ← f, add-one)
 
@@ -70,12 +71,13 @@ module _ (T : Made Swept) (n hi c : ℕ) (b : Bool) (e : Eig) (d : T ≡ sweepsF
   unfolding sweepsFrom staged
   sweeps-done l = let z : hi - c ≡ 0 = omega arith in d ∙ rw z
 
-pub sweeps-start : (n : ℕ) (e : Eig) (b : Bool) → b ≡ settled n (e .g) → diagonalized n e ≡ sweepsFrom (mostSweeps - 0) b n 0 e
+pub sweeps-start : (mode n : ℕ) (e : Eig) (b : Bool) → b ≡ settled mode n (e .g) → diagonalized mode n e ≡ sweepsFrom (mostSweeps - 0) b mode n 0 e
 unfolding diagonalized
-sweeps-start n e b h = rw (← h)
+sweeps-start mode n e b h = rw (← h)
 
-pub sweeps-idle : (T : Made Swept) (n hi c : ℕ) (b r : Bool) (g v : List Float) → T ≡ sweepsFrom (hi - c) b n c (eig g v) → c < hi → b ≡ settled n g → b ≡ false → r ≡ still n g → r ≡ true → T ≡ staged Whole (swept hi false (eig g v))
+pub sweeps-idle : (T : Made Swept) (mode n hi c : ℕ) (b r : Bool) (g v : List Float) → T ≡ sweepsFrom (hi - c) b mode n c (eig g v) → c < hi → b ≡ settled mode n g → b ≡ false
+    → r ≡ still mode n g → r ≡ true → T ≡ staged Whole (swept hi false (eig g v))
 unfolding staged
-sweeps-idle T n hi c b r g v d l eb h er t =
+sweeps-idle T mode n hi c b r g v d l eb h er t =
     let z : c + (hi - c) ≡ hi = omega arith in
-    d ∙ rw h (idle-sweeps (hi - c) n c (eig g v) (idle-sweep n g v (sym er ∙ t)) (sym eb ∙ h) ∙ rw z)
+    d ∙ rw h (idle-sweeps (hi - c) mode n c (eig g v) (idle-sweep mode n g v (sym er ∙ t)) (sym eb ∙ h) ∙ rw z)

@@ -16,14 +16,14 @@ use Rattle.bond.specs.FactorRows.{factorsOf}
 use Rattle.cutform.specs.Bonds.{gram, CutCore}
 
 -- the Gram matrix made diagonal
-unfoldable pub sweptOf : Core → Made Swept
-sweptOf c = bind (stored (gram c)) (λ g. diagonalized (c .rr) (eig g (eye (c .rr))))
+unfoldable pub sweptOf : ℕ → Core → Made Swept
+sweptOf mode c = bind (stored (gram c)) (λ g. diagonalized mode (c .rr) (eig g (eye (c .rr))))
 
 -- the values, the left factor and the carry
 unfoldable pub restOf : ℕ → Cutting → Core → Swept → Answer CutCore
 restOf k cutting c w =
     bind (making Spectrum k (chosenOf (cutting .eps) (c .rr) (w .eig .g))) (λ q.
-    bind (making Factor k (factorsOf c (q .rank) (q .values) (q .order) (w .eig .v))) (λ f.
+    bind (making Factor k (factorsOf (cutting .mode) c (q .rank) (q .values) (q .order) (w .eig .v))) (λ f.
     done (record {
       core = coreWith (c .rl) (c .n) (q .rank) (f .left);
       bond = record { rank = q .rank; sweeps = w .count; settled = w .settles; dropped = q .dropped };

@@ -11,7 +11,7 @@ ghost use Rattle.lists.specs.Floats.{at, cell, stored};
 ghost use Rattle.shape.specs.Cores.{coreWith};
 ghost use Rattle.lists.specs.Strips.{storedFrom};
 ghost use Rattle.bond.specs.Products.{productOf};
-ghost use Rattle.cutform.specs.Factors.{divided};
+ghost use Rattle.cutform.specs.Modes.{divided};
 ghost use Rattle.bond.specs.FactorRows.{Columns, gathered, finished, finishColumn, leftRows, carryRows, factorsOf};
 
 // Row k of the basis' columns that js names.
@@ -36,9 +36,12 @@ pub fn gather(v: &[f64], n: usize, js: &[usize], r: usize, columns: &mut [f64])
 }
 
 // Whether a column is divided by its value.
-fn divided(value: f64) -> bool
-    ensures { λ r. ⌜ r ≡ divided value ⌝ }
+fn divided(mode: usize, value: f64) -> bool
+    ensures { λ r. ⌜ r ≡ divided mode value ⌝ }
 {
+    if mode == cutform::SCALED {
+        return 0.0 < value;
+    }
     1e-30 < value
 }
 
@@ -61,11 +64,11 @@ fn clear_column(u: &mut [f64], m: usize, r: usize, j: usize)
 }
 
 // The test is made once per column.
-fn finish_column(u: &mut [f64], m: usize, r: usize, j: usize, value: f64)
+fn finish_column(mode: usize, u: &mut [f64], m: usize, r: usize, j: usize, value: f64)
     requires { ⌜ (length (now u) ≡ m * r) × (j < r) ⌝ }
-    ensures { λ _. ⌜ now (u .exit) ≡ finishColumn m r j value (now (u .entry)) ⌝ }
+    ensures { λ _. ⌜ now (u .exit) ≡ finishColumn mode m r j value (now (u .entry)) ⌝ }
 {
-    if divided(value) {
+    if divided(mode, value) {
         divide_column(u, m, r, j, value);
         return;
     }
@@ -73,12 +76,12 @@ fn finish_column(u: &mut [f64], m: usize, r: usize, j: usize, value: f64)
 }
 
 // Each entry of m rows of r divided by its column's value, or 0.
-fn finish(u: &mut [f64], m: usize, r: usize, ss: &[f64])
+fn finish(mode: usize, u: &mut [f64], m: usize, r: usize, ss: &[f64])
     requires { ⌜ (length (now u) ≡ m * r) × (r ≤ length (now ss)) ⌝ }
-    ensures { λ _. ⌜ now (u .exit) ≡ grid m r (λ (i j : ℕ). finished (at (now (ss .entry)) j) (cell r (now (u .entry)) i j)) ⌝ }
+    ensures { λ _. ⌜ now (u .exit) ≡ grid m r (λ (i j : ℕ). finished mode (at (now (ss .entry)) j) (cell r (now (u .entry)) i j)) ⌝ }
 {
     for j in 0..r {
-        finish_column(u, m, r, j, ss[j]);
+        finish_column(mode, u, m, r, j, ss[j]);
     }
 }
 
@@ -94,6 +97,7 @@ fn multiply(core: &mut [f64], m: usize, n: usize, columns: &[f64], r: usize, roo
 
 // The left factor, at the front of core.
 fn left_factor(
+    mode: usize,
     core: &mut [f64],
     m: usize,
     n: usize,
@@ -103,11 +107,11 @@ fn left_factor(
     room: &mut [f64],
 ) -> answers::Stage
     requires { ⌜ (length (now core) ≡ m * n) × (length (now columns) ≡ n * r) × (r ≤ n) × (r ≤ length (now ss)) × (length (now core) ≤ length (now room)) ⌝ }
-    ensures { λ s. ⌜ stored (leftRows m n r (now (columns .entry)) (now (ss .entry)) (now (core .entry))) ≡ staged s (take (m * r) (now (core .exit))) ⌝ }
+    ensures { λ s. ⌜ stored (leftRows mode m n r (now (columns .entry)) (now (ss .entry)) (now (core .entry))) ≡ staged s (take (m * r) (now (core .exit))) ⌝ }
 {
     multiply(core, m, n, columns, r, room);
     let e = m * r;
-    finish(&mut core[0..e], m, r, ss);
+    finish(mode, &mut core[0..e], m, r, ss);
     lists::stored(&core[0..e])
 }
 
@@ -133,6 +137,7 @@ fn carry_rows(columns: &[f64], n: usize, r: usize, ss: &[f64], carry: &mut [f64]
 
 // Both, the left factor at the front of core.
 pub fn left_and_carry(
+    mode: usize,
     core: &mut [f64],
     rl: usize,
     n: usize,
@@ -147,11 +152,11 @@ pub fn left_and_carry(
 ) -> answers::Stage
     requires { ⌜ (length (now core) ≡ rl * n * rr) × (1 ≤ rr) × (length (now v) ≡ rr * rr) × (r ≤ length (now js)) × Columns rr (now js) r
         × (r ≤ length (now ss)) × (r ≤ rr) × (length (now columns) ≡ rr * r) × (length (now carry) ≡ r * rr) × (length (now core) ≤ length (now room)) ⌝ }
-    ensures { λ s. ⌜ factorsOf (coreWith rl n rr (now (core .entry))) r (now (ss .entry)) (now (js .entry)) (now (v .entry))
+    ensures { λ s. ⌜ factorsOf mode (coreWith rl n rr (now (core .entry))) r (now (ss .entry)) (now (js .entry)) (now (v .entry))
         ≡ staged s (record { left = take (rl * n * r) (now (core .exit)); carry = now (carry .exit) }) ⌝ }
 {
     gather(v, rr, js, r, columns);
-    let made = left_factor(core, rl * n, rr, columns, r, ss, room);
+    let made = left_factor(mode, core, rl * n, rr, columns, r, ss, room);
     if let answers::Stage::Spilt(i) = made {
         return answers::Stage::Spilt(i);
     }
@@ -162,6 +167,7 @@ pub fn left_and_carry(
 // The left factor and the carry, each at the front of its slice. The basis, the order and the values stand at the front of theirs;
 // g has room for the basis' columns.
 pub fn factor(
+    mode: usize,
     core: &mut [f64],
     rl: usize,
     n: usize,
@@ -176,13 +182,14 @@ pub fn factor(
 ) -> answers::Stage
     requires { ⌜ (length (now core) ≡ rl * n * rr) × (1 ≤ rr) × (rr * rr ≤ length (now v)) × (rr ≤ length (now js)) × Columns rr (take rr (now js)) r
         × (rr ≤ length (now ss)) × (r ≤ rr) × (rr * rr ≤ length (now g)) × (rr * rr ≤ length (now carry)) × (length (now core) ≤ length (now room)) ⌝ }
-    ensures { λ s. ⌜ factorsOf (coreWith rl n rr (now (core .entry))) r (take rr (now (ss .entry))) (take rr (now (js .entry)))
+    ensures { λ s. ⌜ factorsOf mode (coreWith rl n rr (now (core .entry))) r (take rr (now (ss .entry))) (take rr (now (js .entry)))
         (take (rr * rr) (now (v .entry)))
         ≡ staged s (record { left = take (rl * n * r) (now (core .exit)); carry = take (r * rr) (now (carry .exit)) }) ⌝ }
 {
     let e = rr * rr;
     let m = rr * r;
     left_and_carry(
+        mode,
         core,
         rl,
         n,

@@ -27,6 +27,7 @@ pub fn gram(core: &[f64], rl: usize, n: usize, rr: usize, g: &mut [f64])
 
 // The Gram matrix made diagonal, with its basis.
 fn swept_gram(
+    mode: usize,
     core: &[f64],
     rl: usize,
     n: usize,
@@ -35,7 +36,7 @@ fn swept_gram(
     v: &mut [f64],
 ) -> sweeps::Sweeps
     requires { ⌜ (length (now core) ≡ rl * n * rr) × (1 ≤ rl) × (1 ≤ n) × (1 ≤ rr) × (length (now g) ≡ rr * rr) × (length (now v) ≡ rr * rr) ⌝ }
-    ensures { λ r. ⌜ sweptOf (coreWith rl n rr (now (core .entry)))
+    ensures { λ r. ⌜ sweptOf mode (coreWith rl n rr (now (core .entry)))
         ≡ staged (r .stage) (swept (r .count) (r .settles) (eig (now (g .exit)) (now (v .exit)))) ⌝ }
 {
     gram(core, rl, n, rr, g);
@@ -44,11 +45,12 @@ fn swept_gram(
         return sweeps::sweeps_are(answers::Stage::Spilt(i), 0, false);
     }
     rotation::eye(v, rr);
-    sweeps::diagonalize(g, v, rr)
+    sweeps::diagonalize(mode, g, v, rr)
 }
 
 // The same at the front of g and v.
 fn swept_within(
+    mode: usize,
     core: &[f64],
     rl: usize,
     n: usize,
@@ -57,11 +59,11 @@ fn swept_within(
     v: &mut [f64],
 ) -> sweeps::Sweeps
     requires { ⌜ (length (now core) ≡ rl * n * rr) × (1 ≤ rl) × (1 ≤ n) × (1 ≤ rr) × (rr * rr ≤ length (now g)) × (rr * rr ≤ length (now v)) ⌝ }
-    ensures { λ r. ⌜ sweptOf (coreWith rl n rr (now (core .entry)))
+    ensures { λ r. ⌜ sweptOf mode (coreWith rl n rr (now (core .entry)))
         ≡ staged (r .stage) (swept (r .count) (r .settles) (eig (take (rr * rr) (now (g .exit))) (take (rr * rr) (now (v .exit))))) ⌝ }
 {
     let e = rr * rr;
-    swept_gram(core, rl, n, rr, &mut g[0..e], &mut v[0..e])
+    swept_gram(mode, core, rl, n, rr, &mut g[0..e], &mut v[0..e])
 }
 
 // What a cut came to, and where it fits what is said of its bond.
@@ -134,7 +136,20 @@ fn finish(
         return cut_refused(answers::Part::Spectrum, k, i);
     }
     let r = kept.rank;
-    let made = factors::factor(core, rl, n, rr, v, &js, &ss, r, g, carry, room);
+    let made = factors::factor(
+        cutting.mode,
+        core,
+        rl,
+        n,
+        rr,
+        v,
+        &js,
+        &ss,
+        r,
+        g,
+        carry,
+        room,
+    );
     if let answers::Stage::Spilt(i) = made {
         return cut_refused(answers::Part::Factor, k, i);
     }
@@ -159,7 +174,7 @@ fn cut(
     ensures { λ r. ⌜ cutBond k cutting (coreWith rl n rr (now (core .entry)))
         ≡ answered (r .verdict) (cutInto rl n rr (r .bond) (now (core .exit)) (now (carry .exit))) ⌝ }
 {
-    let s = swept_within(core, rl, n, rr, g, v);
+    let s = swept_within(cutting.mode, core, rl, n, rr, g, v);
     let stage = s.stage;
     if let answers::Stage::Spilt(i) = stage {
         return cut_refused(answers::Part::Spectrum, k, i);

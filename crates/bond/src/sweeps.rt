@@ -6,7 +6,8 @@ ghost use lib.ListN.{length, set};
 ghost use Rattle.answers.specs.Outcome.{staged};
 ghost use Rattle.lists.specs.Floats.{cell};
 ghost use Rattle.cutform.specs.Rotation.{slopeOf};
-ghost use Rattle.cutform.specs.Sweeps.{eig, turnColumns, turnRows, cleared, turned, skipped, rotate, sweep, offSum, settled, swept, diagonalized};
+ghost use Rattle.cutform.specs.Modes.{offSum, diagonalSum, smallBeside, settled, skipped};
+ghost use Rattle.cutform.specs.Sweeps.{eig, turnColumns, turnRows, cleared, turned, rotate, sweep, swept, diagonalized};
 ghost use Rattle.bond.specs.SweepRows.{sweepRow, offRow, stillRow, still};
 
 // The number at row i and column j.
@@ -79,12 +80,26 @@ fn apply_jacobi_rotation(
     lists::stored(v)
 }
 
+// Whether x lies below 1e-30 times y, or z is zero.
+fn small_beside(x: f64, y: f64, z: f64) -> bool
+    ensures { λ r. ⌜ r ≡ smallBeside x y z ⌝ }
+{
+    let below = x < 1e-30 * y;
+    let none = z == 0.0;
+    below | none
+}
+
 // Whether the pair's number is too small to be turned.
-fn skipped(g: &[f64], n: usize, p: usize, q: usize) -> bool
+fn skipped(mode: usize, g: &[f64], n: usize, p: usize, q: usize) -> bool
     requires { ⌜ (length (now g) ≡ n * n) × (p < q) × (q < n) ⌝ }
-    ensures { λ r. ⌜ r ≡ skipped n (now (g .entry)) p q ⌝ }
+    ensures { λ r. ⌜ r ≡ skipped mode n (now (g .entry)) p q ⌝ }
 {
     let x = number_at(g, n, p, q);
+    if mode == cutform::SCALED {
+        let low = number_at(g, n, p, p);
+        let high = number_at(g, n, q, q);
+        return small_beside(x * x, low * high, x);
+    }
     x * x < 1e-30
 }
 
@@ -99,11 +114,11 @@ fn pair_slope(g: &[f64], n: usize, p: usize, q: usize) -> f64
     rotation::slope(low, high, off)
 }
 
-fn rotate(g: &mut [f64], v: &mut [f64], n: usize, p: usize, q: usize) -> answers::Stage
+fn rotate(mode: usize, g: &mut [f64], v: &mut [f64], n: usize, p: usize, q: usize) -> answers::Stage
     requires { ⌜ (length (now g) ≡ n * n) × (length (now v) ≡ n * n) × (p < q) × (q < n) ⌝ }
-    ensures { λ r. ⌜ rotate n p q (eig (now (g .entry)) (now (v .entry))) ≡ staged r (eig (now (g .exit)) (now (v .exit))) ⌝ }
+    ensures { λ r. ⌜ rotate mode n p q (eig (now (g .entry)) (now (v .entry))) ≡ staged r (eig (now (g .exit)) (now (v .exit))) ⌝ }
 {
-    if skipped(g, n, p, q) {
+    if skipped(mode, g, n, p, q) {
         return answers::Stage::Whole;
     }
     let t = rotation::tangent(pair_slope(g, n, p, q));
@@ -112,12 +127,12 @@ fn rotate(g: &mut [f64], v: &mut [f64], n: usize, p: usize, q: usize) -> answers
 }
 
 // The pairs (p, q) of one p.
-fn sweep_row(g: &mut [f64], v: &mut [f64], n: usize, p: usize) -> answers::Stage
+fn sweep_row(mode: usize, g: &mut [f64], v: &mut [f64], n: usize, p: usize) -> answers::Stage
     requires { ⌜ (length (now g) ≡ n * n) × (length (now v) ≡ n * n) × (p < n) ⌝ }
-    ensures { λ r. ⌜ sweepRow n p (eig (now (g .entry)) (now (v .entry))) ≡ staged r (eig (now (g .exit)) (now (v .exit))) ⌝ }
+    ensures { λ r. ⌜ sweepRow mode n p (eig (now (g .entry)) (now (v .entry))) ≡ staged r (eig (now (g .exit)) (now (v .exit))) ⌝ }
 {
     for q in p + 1..n {
-        let made = rotate(g, v, n, p, q);
+        let made = rotate(mode, g, v, n, p, q);
         if let answers::Stage::Spilt(i) = made {
             return answers::Stage::Spilt(i);
         }
@@ -125,12 +140,12 @@ fn sweep_row(g: &mut [f64], v: &mut [f64], n: usize, p: usize) -> answers::Stage
     answers::Stage::Whole
 }
 
-pub fn jacobi_sweep(g: &mut [f64], v: &mut [f64], n: usize) -> answers::Stage
+pub fn jacobi_sweep(mode: usize, g: &mut [f64], v: &mut [f64], n: usize) -> answers::Stage
     requires { ⌜ (length (now g) ≡ n * n) × (length (now v) ≡ n * n) ⌝ }
-    ensures { λ r. ⌜ sweep n (eig (now (g .entry)) (now (v .entry))) ≡ staged r (eig (now (g .exit)) (now (v .exit))) ⌝ }
+    ensures { λ r. ⌜ sweep mode n (eig (now (g .entry)) (now (v .entry))) ≡ staged r (eig (now (g .exit)) (now (v .exit))) ⌝ }
 {
     for p in 0..n {
-        let made = sweep_row(g, v, n, p);
+        let made = sweep_row(mode, g, v, n, p);
         if let answers::Stage::Spilt(i) = made {
             return answers::Stage::Spilt(i);
         }
@@ -162,41 +177,58 @@ fn off_sum(g: &[f64], n: usize) -> f64
     sum
 }
 
-pub fn settled(g: &[f64], n: usize) -> bool
+fn diagonal_sum(g: &[f64], n: usize) -> f64
     requires { ⌜ length (now g) ≡ n * n ⌝ }
-    ensures { λ r. ⌜ r ≡ settled n (now (g .entry)) ⌝ }
+    ensures { λ r. ⌜ r ≡ diagonalSum n (now (g .entry)) ⌝ }
 {
-    off_sum(g, n) < 1e-30
+    let mut sum = 0.0;
+    for i in 0..n {
+        let x = number_at(g, n, i, i);
+        sum = sum + x * x;
+    }
+    sum
+}
+
+// Whether the sum over pairs is small enough for the sweeps to stop.
+pub fn settled(mode: usize, g: &[f64], n: usize) -> bool
+    requires { ⌜ length (now g) ≡ n * n ⌝ }
+    ensures { λ r. ⌜ r ≡ settled mode n (now (g .entry)) ⌝ }
+{
+    let off = off_sum(g, n);
+    if mode == cutform::SCALED {
+        return small_beside(off, diagonal_sum(g, n), off);
+    }
+    off < 1e-30
 }
 
 // Whether all is true, and every pair of one p is skipped.
-fn still_row(g: &[f64], n: usize, p: usize, all: bool) -> bool
+fn still_row(mode: usize, g: &[f64], n: usize, p: usize, all: bool) -> bool
     requires { ⌜ (length (now g) ≡ n * n) × (p < n) ⌝ }
-    ensures { λ r. ⌜ r ≡ stillRow n (now (g .entry)) p all ⌝ }
+    ensures { λ r. ⌜ r ≡ stillRow mode n (now (g .entry)) p all ⌝ }
 {
     let mut every = all;
     for q in p + 1..n {
-        let one = skipped(g, n, p, q);
+        let one = skipped(mode, g, n, p, q);
         every = every & one;
     }
     every
 }
 
 // Whether a sweep would turn nothing.
-fn still(g: &[f64], n: usize) -> bool
+fn still(mode: usize, g: &[f64], n: usize) -> bool
     requires { ⌜ length (now g) ≡ n * n ⌝ }
-    ensures { λ r. ⌜ r ≡ still n (now (g .entry)) ⌝ }
+    ensures { λ r. ⌜ r ≡ still mode n (now (g .entry)) ⌝ }
 {
     let mut every = true;
     for p in 0..n {
-        every = still_row(g, n, p, every);
+        every = still_row(mode, g, n, p, every);
     }
     every
 }
 
 const MOST_SWEEPS: usize = 50;
 
-// What the sweeps came to: whether all numbers stayed finite, how many were made, and whether the sum is small at the end.
+// What the sweeps came to: whether all numbers stayed finite, how many were made, and whether the matrix is settled at the end.
 pub struct Sweeps {
     pub stage: answers::Stage,
     pub count: usize,
@@ -213,27 +245,27 @@ pub fn sweeps_are(stage: answers::Stage, count: usize, settles: bool) -> Sweeps
     }
 }
 
-// Sweeps until the sum is small, at most 50. One that would turn nothing leaves all as it is, and so do those after it: they
+// Sweeps until the matrix is settled, at most 50. One that would turn nothing leaves all as it is, and so do those after it: they
 // are counted and not made.
-pub fn diagonalize(g: &mut [f64], v: &mut [f64], n: usize) -> Sweeps
+pub fn diagonalize(mode: usize, g: &mut [f64], v: &mut [f64], n: usize) -> Sweeps
     requires { ⌜ (length (now g) ≡ n * n) × (length (now v) ≡ n * n) ⌝ }
-    ensures { λ r. ⌜ diagonalized n (eig (now (g .entry)) (now (v .entry)))
+    ensures { λ r. ⌜ diagonalized mode n (eig (now (g .entry)) (now (v .entry)))
         ≡ staged (r .stage) (swept (r .count) (r .settles) (eig (now (g .exit)) (now (v .exit)))) ⌝ }
 {
     let mut count: usize = 0;
-    let mut settles = settled(g, n);
+    let mut settles = settled(mode, g, n);
     while count < MOST_SWEEPS {
         if settles {
             return sweeps_are(answers::Stage::Whole, count, true);
         }
-        if still(g, n) {
+        if still(mode, g, n) {
             return sweeps_are(answers::Stage::Whole, MOST_SWEEPS, false);
         }
-        let made = jacobi_sweep(g, v, n);
+        let made = jacobi_sweep(mode, g, v, n);
         if let answers::Stage::Spilt(i) = made {
             return sweeps_are(answers::Stage::Spilt(i), count, false);
         }
-        settles = settled(g, n);
+        settles = settled(mode, g, n);
         count += 1;
     }
     sweeps_are(answers::Stage::Whole, count, settles)

@@ -5,11 +5,11 @@ use Rattle.bond.proofs.swept_gram.Statement.{statement}
 use Rattle.bond.proofs.swept_gram.Tie as tie
 
 returns : tie.Need-returns
-returns c = rw (c .sweeps-are .ensures) (swept-stop _ _ _ (c .before .before .before .before .before .before .before .before .gram .ensures) (c .before .before .before .before .stored .ensures) _ _ (c .before .before .made .given .1))
+returns c = rw (c .sweeps-are .ensures) (swept-stop _ _ _ _ (c .before .before .before .before .before .before .before .before .gram .ensures) (c .before .before .before .before .stored .ensures) _ _ (c .before .before .made .given .1))
 
 returns-2 : tie.Need-returns-2
 returns-2 c =
-    swept-end _ _ _
+    swept-end _ _ _ _
     (c .before .before .before .before .before .before .before .before .before .before .before .before .before .before .before .before .before .gram .ensures)
     (c .before .before .before .before .before .before .before .before .before .before .before .before .before .stored .ensures)
     (c .before .before .before .before .before .before .before .before .before .before .before .enum-told .given .1) _ _

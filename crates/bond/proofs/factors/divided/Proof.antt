@@ -1,9 +1,7 @@
--- `bond::factors::divided`: the code is the definition.
-use mathlib.Core.Path.{refl}
-use Rattle.cutform.specs.Factors.{divided}
+-- `bond::factors::divided`: by the mode: above zero, or above 1e-30 (divided-scaled, divided-absolute).
+use Rattle.bond.proofs.Modes.{divided-scaled, divided-absolute}
 use Rattle.bond.proofs.factors.divided.Statement.{statement}
 use Rattle.bond.proofs.factors.divided.Tie as tie
 
 pub divided-spec : {M : Type 1} → statement M
-unfolding divided
-divided-spec = tie.close (tie.spec (λ c. refl))
+divided-spec = tie.close (tie.spec (λ c. divided-scaled _ (c .if1 .taken) _) (λ c. divided-absolute _ (c .if1 .left) _))

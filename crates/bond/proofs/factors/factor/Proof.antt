@@ -43,7 +43,7 @@ returns : tie.Need-returns
 returns c =
     let at-23 = c .before .before .before .before .before .before .before .before .before .before .before .before .before .before .before .before .before .before .before .before .before .before .before in
     let start = c .before .before .before .before .before .before .before .before .before .before .before .before .before .before .before .before .before .before .before .before .before .before .before .args in
-    factor-front _ _ _ _ _ (start .carry .now) (start .ss .now) (start .v .now) (start .js .now) (start .r) (start .rr)
+    factor-front _ _ _ _ _ _ (start .carry .now) (start .ss .now) (start .v .now) (start .js .now) (start .r) (start .rr)
     (c .before .before .before .before .before .before .before .before .left-and-carry .ensures) (c .before .before .before .carry .given .0)
     (columns-room _ _ _ (at-23 .pre .6) (at-23 .pre .8))
 

@@ -12,12 +12,12 @@ mul-left-factor c =
 
 returns : tie.Need-returns
 returns c =
-    factors-stop _ _ _ _ _ _ _ _ _ (c .before .before .before .before .before .before .before .before .before .before .before .before .before .gather .ensures)
+    factors-stop _ _ _ _ _ _ _ _ _ _ (c .before .before .before .before .before .before .before .before .before .before .before .before .before .gather .ensures)
     _ _ (c .before .before .before .before .before .before .before .left-factor .ensures) _ _ (c .before .made .given .1)
 
 returns-2 : tie.Need-returns-2
 returns-2 c =
-    factors-end _ _ _ _ _ _ _ _ _
+    factors-end _ _ _ _ _ _ _ _ _ _
     (c .before .before .before .before .before .before .before .before .before .before .before .before .before .before .before .before .before .before .before
     .gather .ensures) _ _ (c .before .before .before .before .before .before .before .before .before .before .before .before .before .left-factor .ensures)
     (c .before .before .before .before .before .before .before .enum-told .given .1) _ _ (c .before .before .before .before .carry-rows .ensures)

@@ -24,7 +24,7 @@ part-stored-end : tie.Need-part-stored-end
 part-stored-end c = simp length-append (omega (arith, grid-long _ _ _ _ (c .before .before .before .finish .ensures)))
 
 returns : tie.Need-returns
-returns c = left-is _ _ _ _ _ _ _ _ _ _ (c .before .before .before .before .before .before .before .before .before .before .before .multiply .ensures) (c .before .before .before .before .before .finish .ensures) (c .stored .ensures)
+returns c = left-is _ _ _ _ _ _ _ _ _ _ _ (c .before .before .before .before .before .before .before .before .before .before .before .multiply .ensures) (c .before .before .before .before .before .finish .ensures) (c .stored .ensures)
 
 pub left-factor-spec : {M : Type 1} → statement M
 left-factor-spec =

@@ -12,10 +12,10 @@ use Rattle.bond.proofs.sweeps.jacobi_sweep.Statement.{statement}
 use Rattle.bond.proofs.sweeps.jacobi_sweep.Tie as tie
 
 abbrev Inv-loop : tie.InvT-loop
-Inv-loop g₀ v₀ n p₀ g v p = (p ≤ n) × (length g ≡ length g₀) × (length v ≡ length v₀) × (sweep n (eig g₀ v₀) ≡ turning (n - p) p (sweepRow n) (eig g v))
+Inv-loop mode g₀ v₀ n p₀ g v p = (p ≤ n) × (length g ≡ length g₀) × (length v ≡ length v₀) × (sweep mode n (eig g₀ v₀) ≡ turning (n - p) p (sweepRow mode n) (eig g v))
 
 abbrev μ-loop : tie.MeasureT-loop
-μ-loop g₀ v₀ n p₀ g v p = n - p
+μ-loop mode g₀ v₀ n p₀ g v p = n - p
 
 pub jacobi-sweep-spec : {M : Type 1} → statement M
 jacobi-sweep-spec =

@@ -6,7 +6,7 @@ use Rattle.bond.proofs.sweeps.rotate.Tie as tie
 
 returns-2 : tie.Need-returns-2
 returns-2 c =
-    rotate-go _ _ _ _ _ _ (c .before .before .before .before .before .before .before .before .before .before .before .before .skipped .ensures)
+    rotate-go _ _ _ _ _ _ _ (c .before .before .before .before .before .before .before .before .before .before .before .before .skipped .ensures)
     (c .before .before .before .before .before .before .before .before .before .before .before .if1 .left) _ _ _
     (c .before .before .before .before .before .before .before .before .before .pair-slope .ensures)
     (c .before .before .before .before .before .before .before .before .tangent .ensures)

@@ -1,13 +1,16 @@
--- `bond::sweeps::settled`: the sum that `off_sum` gives, compared as the definition does.
+-- `bond::sweeps::settled`: by the mode: the sum over pairs beside that of the squared diagonal, or by itself (settled-scaled, settled-absolute).
 use borrow.Author.Needs.{needs}
-use Rattle.cutform.specs.Sweeps.{settled}
+use Rattle.bond.proofs.Modes.{settled-scaled, settled-absolute}
 use Rattle.bond.proofs.sweeps.settled.Statement.{statement}
 use Rattle.bond.proofs.sweeps.settled.Tie as tie
 
 returns : tie.Need-returns
-unfolding settled
-returns c = rw (c .off-sum .ensures)
+returns c =
+    settled-scaled _ (c .before .before .if1 .taken) _ _ _ _ _ (c .before .before .before .off-sum .ensures) (c .before .diagonal-sum .ensures)
+    (c .small-beside .ensures)
 
 pub settled-spec : {M : Type 1} → statement M
-unfolding settled
-settled-spec = tie.close (tie.spec (λ c κs. search needs) returns)
+settled-spec =
+    tie.close
+    (tie.spec (λ c κs. search needs) (λ c κs. search needs) (λ c κs. search needs) returns
+    (λ c. settled-absolute _ (c .if1 .left) _ _ _ (c .before .off-sum .ensures)))

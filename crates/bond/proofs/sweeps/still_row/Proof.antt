@@ -4,16 +4,16 @@ use mathlib.Core.Path.{_≡_}
 use mathlib.Core.Bool.{Bool, _&&_}
 use Rattle.lists.specs.Lists.{iterFrom}
 use Rattle.lists.proofs.Turns.{turns, from-more}
-use Rattle.cutform.specs.Sweeps.{skipped}
+use Rattle.cutform.specs.Modes.{skipped}
 use Rattle.bond.specs.SweepRows.{stillRow}
 use Rattle.bond.proofs.sweeps.still_row.Statement.{statement}
 use Rattle.bond.proofs.sweeps.still_row.Tie as tie
 
 abbrev Inv-loop : tie.InvT-loop
-Inv-loop g n p all every₀ q₀ every q = (q ≤ n) × (p + 1 ≤ q) × (every ≡ iterFrom (p + 1) q (λ (j : ℕ) (x : Bool). x && skipped n g p j) every₀)
+Inv-loop mode g n p all every₀ q₀ every q = (q ≤ n) × (p + 1 ≤ q) × (every ≡ iterFrom (p + 1) q (λ (j : ℕ) (x : Bool). x && skipped mode n g p j) every₀)
 
 abbrev μ-loop : tie.MeasureT-loop
-μ-loop g n p all every₀ q₀ every q = n - q
+μ-loop mode g n p all every₀ q₀ every q = n - q
 
 loop-again : tie.Need-loop-again Inv-loop μ-loop
 unfolding stillRow

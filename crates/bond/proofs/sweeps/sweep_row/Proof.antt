@@ -11,10 +11,10 @@ use Rattle.bond.proofs.sweeps.sweep_row.Statement.{statement}
 use Rattle.bond.proofs.sweeps.sweep_row.Tie as tie
 
 abbrev Inv-loop : tie.InvT-loop
-Inv-loop g₀ v₀ n p q₀ g v q = (q ≤ n) × (p + 1 ≤ q) × (length g ≡ length g₀) × (length v ≡ length v₀) × (sweepRow n p (eig g₀ v₀) ≡ turning (n - q) q (λ (j : ℕ). rotate n p j) (eig g v))
+Inv-loop mode g₀ v₀ n p q₀ g v q = (q ≤ n) × (p + 1 ≤ q) × (length g ≡ length g₀) × (length v ≡ length v₀) × (sweepRow mode n p (eig g₀ v₀) ≡ turning (n - q) q (λ (j : ℕ). rotate mode n p j) (eig g v))
 
 abbrev μ-loop : tie.MeasureT-loop
-μ-loop g₀ v₀ n p q₀ g v q = n - q
+μ-loop mode g₀ v₀ n p q₀ g v q = n - q
 
 pub sweep-row-spec : {M : Type 1} → statement M
 unfolding sweepRow
