@@ -8,6 +8,7 @@ ghost use Rattle.answers.specs.Outcome.{verdictOf};
 ghost use Rattle.shape.specs.Limits.{scratchFor};
 ghost use Rattle.shape.specs.Shapes.{entriesOf};
 ghost use Rattle.shape.specs.Sizes.{SizesWithin};
+ghost use Rattle.cutform.specs.Modes.{modeOk};
 ghost use Rattle.cutform.specs.Asked.{lengthsOk, notBelowZero, cuttingFinite, cuttingOk, roundFinite, roundOk};
 
 // Scratch for a chain of this shape.
@@ -52,11 +53,21 @@ pub fn cutting_finite(cutting: cutform::Cutting) -> bool
     numbers::is_finite(cutting.eps)
 }
 
+// Whether a mode is known.
+fn mode_ok(mode: usize) -> bool
+    ensures { λ r. ⌜ r ≡ modeOk mode ⌝ }
+{
+    let absolute = mode == cutform::ABSOLUTE;
+    let scaled = mode == cutform::SCALED;
+    absolute | scaled
+}
+
 // What 7 asks of it.
 pub fn cutting_ok(cutting: cutform::Cutting) -> bool
     ensures { λ r. ⌜ r ≡ cuttingOk cutting ⌝ }
 {
-    not_below_zero(cutting.eps)
+    let eps = not_below_zero(cutting.eps);
+    eps & mode_ok(cutting.mode)
 }
 
 // Refusal 6: how it is cut, then the first core with a number that isn't finite.

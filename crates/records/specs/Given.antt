@@ -27,7 +27,7 @@ abbrev pub lentOf : ℕ → List CAxis → List Axis
 lentOf n xs = tab n (axisAt (map axisIn xs))
 
 abbrev pub cuttingIn : CCutting → Cutting
-cuttingIn x = record { eps = x .eps }
+cuttingIn x = record { eps = x .eps; mode = x .mode }
 
 abbrev pub settingsIn : CSettings → Settings
 settingsIn x = record { tau = x .tau; c = x .c; cutting = cuttingIn (x .cutting) }

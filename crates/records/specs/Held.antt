@@ -31,7 +31,7 @@ abbrev pub axisOut : Axis → CAxis
 axisOut x = record { a = x .a; b = x .b; xmin = x .xmin; xmax = x .xmax; boundary = x .boundary }
 
 abbrev pub cuttingOut : Cutting → CCutting
-cuttingOut x = record { eps = x .eps }
+cuttingOut x = record { eps = x .eps; mode = x .mode }
 
 abbrev pub settingsOut : Settings → CSettings
 settingsOut x = record { tau = x .tau; c = x .c; cutting = cuttingOut (x .cutting) }

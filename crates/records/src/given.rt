@@ -35,6 +35,7 @@ pub struct CAxes {
 #[repr(C)]
 pub struct CCutting {
     pub eps: f64,
+    pub mode: usize,
 }
 
 // The lone settings of a step.
@@ -146,7 +147,10 @@ pub fn axes_lent(xs: [CAxis; shape::MOST_AXES], count: usize) -> [stepform::Axis
 pub fn cutting_in(x: CCutting) -> cutform::Cutting
     ensures { λ r. ⌜ r ≡ cuttingIn x ⌝ }
 {
-    cutform::Cutting { eps: x.eps }
+    cutform::Cutting {
+        eps: x.eps,
+        mode: x.mode,
+    }
 }
 
 pub fn settings_in(x: CSettings) -> stepform::Settings

@@ -110,7 +110,10 @@ fn axes_out(xs: [stepform::Axis; shape::MOST_AXES]) -> [given::CAxis; shape::MOS
 fn cutting_out(x: cutform::Cutting) -> given::CCutting
     ensures { λ r. ⌜ r ≡ cuttingOut x ⌝ }
 {
-    given::CCutting { eps: x.eps }
+    given::CCutting {
+        eps: x.eps,
+        mode: x.mode,
+    }
 }
 
 fn settings_out(x: stepform::Settings) -> given::CSettings

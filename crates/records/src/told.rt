@@ -13,7 +13,7 @@ pub struct CRefusal {
     pub index: usize,
 }
 
-// What is said of a bond: the rank kept, the sweeps made, whether the sum is below 1e-30 at their end, and the largest value not kept.
+// What is said of a bond: the rank kept, the sweeps made, whether its matrix is settled at their end, and the largest value not kept.
 #[repr(C)]
 pub struct CBond {
     pub rank: usize,

@@ -109,7 +109,7 @@ further-counted cutting cs said bonds most long R = record {
       let e : getD (further said bonds) k noBond ≡ furtherBond (bondAmong said k) (getD bonds k noBond) =
       getD-tab mostAxes (λ (j : ℕ). furtherBond (bondAmong said j) (bondAmong bonds j)) k noBond (omega arith)
       ∙ ap (furtherBond (bondAmong said k)) (getD-any bonds k pastBond noBond (omega arith)) in
-      subst (BondCounted k (stateAt none (R .cuts) k) (coreIn cs k)) (sym e) (record { core = B .core; taken = B .taken; end = B .end; counted = B .counted });
+      subst (BondCounted (cutting .mode) k (stateAt none (R .cuts) k) (coreIn cs k)) (sym e) (record { core = B .core; taken = B .taken; end = B .end; counted = B .counted });
 }
 
 -- a course of no steps is not accepted
