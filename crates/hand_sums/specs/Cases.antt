@@ -19,6 +19,7 @@ use Rattle.shape.specs.declared.Shape.{Shape}
 use Rattle.shape.specs.Limits.{scratchFor}
 use Rattle.stepform.specs.declared.Axis.{Axis}
 use Rattle.stepform.specs.Boundaries.{periodic}
+use Rattle.cutform.specs.Modes.{absoluteCut}
 use Rattle.cutform.specs.declared.Rounded.{Rounded}
 use Rattle.cutform.specs.declared.Bond.{Bond}
 use Rattle.cutform.specs.Call.{Ended, roundCall}
@@ -65,7 +66,7 @@ abbrev pub endedBits : ℕ → Ended → List ℕ
 endedBits n e = ended n (e .result) (e .chain) (e .result .verdict)
 
 abbrev rounded : Shape → Float → List Float → List ℕ
-rounded s eps l = endedBits 2 (roundCall s (record { eps = eps }) l (zeros (scratchFor (length l))))
+rounded s eps l = endedBits 2 (roundCall s (absoluteCut eps) l (zeros (scratchFor (length l))))
 
 -- or the shape that it leaves: d, then the left ranks, the sizes and the right ranks of two cores
 abbrev shapeLeft : Shape → Verdict → List ℕ
@@ -73,14 +74,14 @@ shapeLeft s Fits = s .d ∷ take 2 (s .left) ++ (take 2 (s .n) ++ take 2 (s .rig
 shapeLeft s (Refused e) = toldOf (Refused e)
 
 abbrev shapeRounded : Shape → Float → List Float → List ℕ
-shapeRounded s eps l = let r = roundCall s (record { eps = eps }) l (zeros (scratchFor (length l))) .result in shapeLeft (r .shape) (r .verdict)
+shapeRounded s eps l = let r = roundCall s (absoluteCut eps) l (zeros (scratchFor (length l))) .result in shapeLeft (r .shape) (r .verdict)
 
-abbrev figureBits : Figure → List ℕ
+abbrev pub figureBits : Figure → List ℕ
 figureBits f = bits (f .value ∷ [])
 
 -- D rounded as P8 has it, which stands in the same shape
 abbrev D-rounded : List Float
-D-rounded = roundCall D-shape (record { eps = zero64 }) D (zeros (scratchFor 6)) .chain
+D-rounded = roundCall D-shape (absoluteCut zero64) D (zeros (scratchFor 6)) .chain
 
 pub record Case : Type 0 where
   pub number : ℕ
@@ -103,7 +104,7 @@ abbrev P7-axis : Axis
 P7-axis = record { a = quarter64; b = zero64; xmin = zero64; xmax = whole 3; boundary = periodic }
 
 abbrev pub P7-settings : Settings
-P7-settings = record { tau = one64; c = zero64; cutting = record { eps = zero64 } }
+P7-settings = record { tau = one64; c = zero64; cutting = absoluteCut zero64 }
 
 abbrev weights : List Float
 weights = one64 ∷ two64 ∷ one64 ∷ []

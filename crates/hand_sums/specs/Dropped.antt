@@ -12,6 +12,7 @@ use Rattle.shape.specs.declared.Shape.{Shape}
 use Rattle.shape.specs.Limits.{scratchFor}
 use Rattle.stepform.specs.declared.Axis.{Axis}
 use Rattle.stepform.specs.Boundaries.{periodic}
+use Rattle.cutform.specs.Modes.{absoluteCut}
 use Rattle.cutform.specs.declared.Rounded.{Rounded}
 use Rattle.cutform.specs.declared.Bond.{Bond}
 use Rattle.cutform.specs.Call.{roundCall}
@@ -28,21 +29,21 @@ three-quarters = power 3 (negsuc 1)
 
 -- ---- D, with x for its last number
 abbrev rounded : Float → Float → List ℕ
-rounded eps x = said (roundCall D-shape (record { eps = eps }) (D-with x) (zeros (scratchFor 6)) .result)
+rounded eps x = said (roundCall D-shape (absoluteCut eps) (D-with x) (zeros (scratchFor 6)) .result)
 
 -- and a core between its two, which what is kept of the first makes 12 and 16 on a diagonal
 abbrev D-between : List ℕ
 D-between =
     let s : Shape = record { d = 3; left = 1 ∷ 2 ∷ 2 ∷ replicate 13 0; n = 2 ∷ 2 ∷ 1 ∷ replicate 13 0; right = 2 ∷ 2 ∷ 1 ∷ replicate 13 0 } in
     let l = whole 3 ∷ zero64 ∷ zero64 ∷ power 1 (pos 2) ∷ (zeros 4 ++ (whole 3 ∷ zero64 ∷ zero64 ∷ power 1 (pos 2) ∷ one64 ∷ one64 ∷ [])) in
-    said (roundCall s (record { eps = three-quarters }) l (zeros (scratchFor 14)) .result)
+    said (roundCall s (absoluteCut three-quarters) l (zeros (scratchFor 14)) .result)
 
 abbrev still : Axis
 still = record { a = zero64; b = zero64; xmin = zero64; xmax = one64; boundary = periodic }
 
 abbrev stepped : List ℕ
 stepped =
-    let settings : Settings = record { tau = one64; c = zero64; cutting = record { eps = three-quarters } } in
+    let settings : Settings = record { tau = one64; c = zero64; cutting = absoluteCut three-quarters } in
     said (stepCall settings D-shape (still ∷ still ∷ []) (D-with one64) (zeros (scratchFor 6)) .result)
 
 -- ---- steps that move core 0 by one of its four points either way: a column of one number stays; of two signs, with one neighbour of each, it is halved
@@ -52,7 +53,7 @@ moving = record { a = quarter64; b = zero64; xmin = zero64; xmax = whole 3; boun
 -- rounded by eps 0.5
 abbrev evolved : ℕ → ℕ → Float → List Float → List ℕ
 evolved r steps final l =
-    said (evolveCall final steps zero64 (record { eps = half64 }) (two-cores 4 r 1) (moving ∷ still ∷ []) l (zeros (scratchFor (length l))) .result)
+    said (evolveCall final steps zero64 (absoluteCut half64) (two-cores 4 r 1) (moving ∷ still ∷ []) l (zeros (scratchFor (length l))) .result)
 
 -- columns 1, 1, 1, 1 and 2, 2, -2, -2: of norms 2 and 2 after the first step, of 1 and 0.5 after the second, which drops 0.5; the third drops nothing
 abbrev two-columns : List Float

@@ -13,6 +13,9 @@ use Rattle.shape.specs.declared.Shape.{Shape}
 use Rattle.shape.specs.Limits.{scratchFor}
 use Rattle.shape.specs.Shapes.{chainOk}
 use Rattle.shape.specs.Cores.{coreWith}
+use Rattle.cutform.specs.declared.Cutting.{Cutting}
+use Rattle.cutform.specs.Modes.{absoluteCut}
+use Rattle.cutform.specs.Call.{roundCall}
 use Rattle.stepform.specs.declared.Axis.{Axis}
 use Rattle.stepform.specs.Boundaries.{periodic}
 use Rattle.pairform.specs.Slabs.{slab}
@@ -45,11 +48,24 @@ still = axis zero64 zero64
 
 abbrev stepped : Float → Float → Float → Axis → Axis → Float → List ℕ
 stepped tau c eps a0 a1 x =
-    toldOf (stepCall (record { tau = tau; c = c; cutting = record { eps = eps } }) D-shape (a0 ∷ a1 ∷ []) (D-with x) (zeros (scratchFor 6)) .result .verdict)
+    toldOf (stepCall (record { tau = tau; c = c; cutting = absoluteCut eps }) D-shape (a0 ∷ a1 ∷ []) (D-with x) (zeros (scratchFor 6)) .result .verdict)
 
 abbrev evolved : Float → ℕ → Float → List ℕ
 evolved final steps x =
-    toldOf (evolveCall final steps zero64 (record { eps = zero64 }) D-shape (still ∷ still ∷ []) (D-with x) (zeros (scratchFor 6)) .result .verdict)
+    toldOf (evolveCall final steps zero64 (absoluteCut zero64) D-shape (still ∷ still ∷ []) (D-with x) (zeros (scratchFor 6)) .result .verdict)
+
+-- in another mode, and with these axes: a step, steps one after another, and a rounding
+abbrev steppedIn : ℕ → Float → Axis → Axis → Float → List ℕ
+steppedIn mode eps a0 a1 x =
+    let cutting : Cutting = record { eps = eps; mode = mode } in
+    toldOf (stepCall (record { tau = one64; c = zero64; cutting = cutting }) D-shape (a0 ∷ a1 ∷ []) (D-with x) (zeros (scratchFor 6)) .result .verdict)
+
+abbrev evolvedIn : ℕ → Axis → Axis → Float → List ℕ
+evolvedIn mode a0 a1 x =
+    toldOf (evolveCall one64 1 zero64 (record { eps = zero64; mode = mode }) D-shape (a0 ∷ a1 ∷ []) (D-with x) (zeros (scratchFor 6)) .result .verdict)
+
+abbrev roundedIn : ℕ → Float → ℕ → List ℕ
+roundedIn mode x scratch = toldOf (roundCall D-shape (record { eps = zero64; mode = mode }) (D-with x) (zeros scratch) .result .verdict)
 
 -- ---- the start of two axes, of one and two points
 abbrev started : List Float → List Float → List ℕ
@@ -96,4 +112,18 @@ edges =
     -- a slab's sums start at +0, and +0 + -0 is +0; so they stay where every term is skipped
     ∷ case 0 (slabOf (one64 ∷ one64 ∷ []) (minus-nought ∷ minus-nought ∷ [])) (0 ∷ [])
     ∷ case 0 (slabOf (zero64 ∷ minus-nought ∷ []) (one64 ∷ one64 ∷ [])) (0 ∷ [])
+    ∷ []
+
+-- a mode that isn't known is 7 at 0, before an axis and before 8; behind 6 and 5
+unfoldable pub unknownModes : List Case
+unknownModes =
+    case 7 (steppedIn 2 zero64 still (axis minus-one zero64) one64) (7 ∷ 0 ∷ 0 ∷ [])
+    ∷ case 7 (steppedIn 2 zero64 (axis zero64 (fin false 1 (pos 40))) still one64) (7 ∷ 0 ∷ 0 ∷ [])
+    ∷ case 6 (steppedIn 2 nan still still one64) (6 ∷ 0 ∷ 0 ∷ [])
+    ∷ case 6 (steppedIn 2 zero64 still still nan) (6 ∷ 1 ∷ 0 ∷ [])
+    ∷ case 7 (evolvedIn 2 still (axis minus-one zero64) one64) (7 ∷ 0 ∷ 0 ∷ [])
+    ∷ case 6 (evolvedIn 2 still still nan) (6 ∷ 1 ∷ 0 ∷ [])
+    ∷ case 7 (roundedIn 2 one64 (scratchFor 6)) (7 ∷ 0 ∷ 0 ∷ [])
+    ∷ case 6 (roundedIn 2 nan (scratchFor 6)) (6 ∷ 1 ∷ 0 ∷ [])
+    ∷ case 5 (roundedIn 2 one64 (scratchFor 5)) (5 ∷ 1 ∷ 0 ∷ [])
     ∷ []

@@ -3,3 +3,4 @@ pub mod Edges
 pub mod Overflows
 pub mod Dropped
 pub mod Mirrored
+pub mod Scaled

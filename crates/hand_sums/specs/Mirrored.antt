@@ -7,6 +7,7 @@ use lib.Ieee.{Float, fin}
 use Rattle.numbers.specs.Arithmetic.{zero64, one64, two64}
 use Rattle.lists.specs.Floats.{zeros}
 use Rattle.shape.specs.Limits.{scratchFor}
+use Rattle.cutform.specs.Modes.{absoluteCut}
 use Rattle.stepform.specs.declared.Axis.{Axis}
 use Rattle.stepform.specs.Boundaries.{periodic, reflecting}
 use Rattle.stepform.specs.Call.{stepCall, evolveCall}
@@ -26,7 +27,7 @@ behind-one x y = endedBits 2 (stepCall P7-settings (two-cores 1 1 4) (x ∷ y �
 
 -- two steps
 abbrev moved-twice : List ℕ
-moved-twice = endedBits 1 (evolveCall two64 2 zero64 (record { eps = zero64 }) P7-shape (by one64 reflecting ∷ []) P7-core (zeros (scratchFor 4)))
+moved-twice = endedBits 1 (evolveCall two64 2 zero64 (absoluteCut zero64) P7-shape (by one64 reflecting ∷ []) P7-core (zeros (scratchFor 4)))
 
 -- a core of rank 1, and what is said of its bond: rank and sweeps
 abbrev lone : List Float → List ℕ

@@ -12,6 +12,7 @@ use Rattle.shape.specs.declared.Shape.{Shape}
 use Rattle.shape.specs.Limits.{scratchFor}
 use Rattle.stepform.specs.declared.Axis.{Axis}
 use Rattle.stepform.specs.Boundaries.{periodic}
+use Rattle.cutform.specs.Modes.{absoluteCut}
 use Rattle.cutform.specs.Call.{roundCall}
 use Rattle.sumform.specs.Call.{innerCall}
 use Rattle.stepform.specs.declared.Settings.{Settings}
@@ -26,7 +27,7 @@ abbrev three-cores : ℕ → ℕ → ℕ → Shape
 three-cores r n q = record { d = 3; left = 1 ∷ r ∷ q ∷ replicate 13 0; n = 1 ∷ n ∷ 1 ∷ replicate 13 0; right = r ∷ q ∷ 1 ∷ replicate 13 0 }
 
 abbrev rounded : Shape → List Float → List ℕ
-rounded s l = toldOf (roundCall s (record { eps = zero64 }) l (zeros (scratchFor (length l))) .result .verdict)
+rounded s l = toldOf (roundCall s (absoluteCut zero64) l (zeros (scratchFor (length l))) .result .verdict)
 
 -- an axis of nine points a unit apart, moved by b
 abbrev moved : Float → Axis
@@ -35,7 +36,7 @@ moved b = record { a = zero64; b = b; xmin = zero64; xmax = power 1 (pos 3); bou
 -- two cores, of which the second moves by b; core 0 is multiplied by 1 + c
 abbrev stepped : Shape → Float → Float → List Float → List ℕ
 stepped s b c l =
-    let settings : Settings = record { tau = one64; c = c; cutting = record { eps = zero64 } } in
+    let settings : Settings = record { tau = one64; c = c; cutting = absoluteCut zero64 } in
     toldOf (stepCall settings s (moved zero64 ∷ moved b ∷ []) l (zeros (scratchFor (length l))) .result .verdict)
 
 abbrev figured : Shape → List Float → List Float → List ℕ

@@ -16,9 +16,10 @@ use Rattle.stepform.specs.Axes.{axisFinite, axisOk}
 use Rattle.stepform.specs.Shifts.{distance, spacing, shiftOf, shifted, scaled}
 use Rattle.stepform.specs.Weights.{cubicBandWeights, bandOn, shiftedAt}
 use Rattle.cutform.specs.Bonds.{gram, cutBond, absorb}
-use Rattle.cutform.specs.Factors.{divided, leftFactor, carryOf}
+use Rattle.cutform.specs.Factors.{leftFactor, carryOf}
 use Rattle.cutform.specs.Rotation.{eye}
-use Rattle.cutform.specs.Sweeps.{offSum, settled, sweepsFrom, diagonalized}
+use Rattle.cutform.specs.Modes.{modeOk, offSum, diagonalSum, smallBeside, settled, divided}
+use Rattle.cutform.specs.Sweeps.{sweepsFrom, diagonalized}
 use Rattle.cutform.specs.Values.{singularOf, singulars, placeIn, indexAt, order, sorted, thresholdOf, keptRank, droppedFrom}
 use Rattle.cutform.specs.Call.{coreFinite, notBelowZero, cuttingFinite, cuttingOk, scratchAfter}
 use Rattle.cutform.specs.Rounding.{roundCore}
@@ -36,21 +37,22 @@ use Rattle.runform.specs.Checks.{rankOk, lentFrom, scratchLent, madeFini
 use Rattle.runform.specs.Requests.{foundOk, foundNumbers, numbersOk, replaceOk, replace}
 use Rattle.runform.specs.Call.{roomLent, runEnd, freshBy, replaceBy}
 use Rattle.runform.specs.Cases.{cases, AllRight}
-use Rattle.runform.specs.Edges.{freshEdges, replacedEdges, boundaryEdges, RefusedFresh}
+use Rattle.runform.specs.Edges.{freshEdges, replacedEdges, boundaryEdges, modeEdges, RefusedFresh}
 
 pub record Computed : Type 0 where
   pub right : AllRight cases
   pub fresh-edges : AllRight freshEdges
   pub replaced-edges : AllRight replacedEdges
   pub boundary-edges : AllRight boundaryEdges
+  pub mode-edges : AllRight modeEdges
   pub refused-fresh : RefusedFresh
 
 pub computed : Computed
-unfolding cases freshEdges replacedEdges boundaryEdges add sub mul div neg lt le eq ofInt ofBits toBits demand demandEach wrap wholeOf fractionOf rootIn wholeRoot
+unfolding cases freshEdges replacedEdges boundaryEdges modeEdges add sub mul div neg lt le eq ofInt ofBits toBits demand demandEach wrap wholeOf fractionOf rootIn wholeRoot
     rootOfUnits rootOf sumOn sumTo sumRows allFinite firstNotFinite stored pick listed flat first count pairs folded offset slot put fit laid write along
     every walk place entry block coreAt pointsAt sizeOk bondOk shapeOk coreSize pointSize boundaryOk reflected wrapped axisFinite axisOk distance spacing shiftOf shifted
-    cubicBandWeights bandOn shiftedAt scaled gram divided leftFactor carryOf cutBond absorb eye offSum settled sweepsFrom diagonalized singularOf singulars
-    placeIn indexAt order sorted thresholdOf keptRank droppedFrom coreFinite notBelowZero cuttingFinite cuttingOk scratchAfter roundCore contract contractAt reachesAt shiftZone scaleZone
+    cubicBandWeights bandOn shiftedAt scaled gram divided leftFactor carryOf cutBond absorb eye offSum diagonalSum smallBeside settled sweepsFrom diagonalized singularOf singulars
+    placeIn indexAt order sorted thresholdOf keptRank droppedFrom coreFinite notBelowZero cuttingFinite cuttingOk modeOk scratchAfter roundCore contract contractAt reachesAt shiftZone scaleZone
     roundZone stepFrom rules bondSize carrySize sumSize bare blank zoneAt heldCore carryAt sumsAt weighedAt keepStep keepSums sumZone restep resum sumFrom
     workFrom rankOk lentFrom scratchLent loneFinite madeFinite coreHeld carryHeld sumsHeld droppedHeld heldFinite loneOk madeOk freshOk freshRun foundOk foundNumbers
     numbersOk replaceOk replace roomLent runEnd freshBy replaceBy
@@ -59,5 +61,6 @@ computed = record {
   fresh-edges = (refl, (refl, (refl, (refl, (refl, (refl, (refl, (refl, (refl, (refl, (refl, tt)))))))))));
   replaced-edges = (refl, (refl, (refl, (refl, (refl, (refl, (refl, (refl, (refl, (refl, (refl, (refl, (refl, (refl, (refl, (refl, (refl, (refl, (refl, (refl, (refl, (refl, (refl, (refl, (refl, (refl, (refl, (refl, tt))))))))))))))))))))))))))));
   boundary-edges = (refl, (refl, (refl, (refl, (refl, (refl, tt))))));
+  mode-edges = (refl, (refl, (refl, (refl, (refl, (refl, (refl, (refl, (refl, (refl, tt))))))))));
   refused-fresh = (refl, refl);
 }

@@ -16,6 +16,7 @@ use Rattle.shape.specs.declared.Shape.{Shape}
 use Rattle.shape.specs.Limits.{scratchFor}
 use Rattle.stepform.specs.declared.Axis.{Axis}
 use Rattle.stepform.specs.Boundaries.{periodic, reflecting}
+use Rattle.cutform.specs.Modes.{absoluteCut}
 use Rattle.cutform.specs.declared.Bond.{Bond}
 use Rattle.cutform.specs.Bonds.{noBond}
 use Rattle.cutform.specs.Keeping.{rankAt, droppedAmong}
@@ -59,7 +60,7 @@ abbrev pub weights : List Float
 weights = one64 ∷ two64 ∷ one64 ∷ []
 
 abbrev pub settings : Float → Settings
-settings eps = record { tau = one64; c = zero64; cutting = record { eps = eps } }
+settings eps = record { tau = one64; c = zero64; cutting = absoluteCut eps }
 
 abbrev scratch : List Float
 scratch = zeros (scratchFor 6)

@@ -15,6 +15,7 @@ use Rattle.lists.specs.Floats.{zeros}
 use Rattle.shape.specs.declared.Shape.{Shape}
 use Rattle.shape.specs.Limits.{scratchFor}
 use Rattle.stepform.specs.declared.Axis.{Axis}
+use Rattle.cutform.specs.Modes.{absoluteCut}
 use Rattle.cutform.specs.declared.Bond.{Bond}
 use Rattle.cutform.specs.Bonds.{noBond}
 use Rattle.stepform.specs.declared.Settings.{Settings}
@@ -42,11 +43,13 @@ abbrev axesOf : Axis → Axis → List Axis
 axesOf x y = x ∷ y ∷ replicate 14 still
 
 abbrev setOf : Float → Float → Float → Settings
-setOf tau c eps = record { tau = tau; c = c; cutting = record { eps = eps } }
+setOf tau c eps = record { tau = tau; c = c; cutting = absoluteCut eps }
 
--- eps 0.75
+abbrev three-quarters : Float
+three-quarters = fin false 3 (negsuc 1)
+
 abbrev set : Settings
-set = settings (fin false 3 (negsuc 1))
+set = settings three-quarters
 
 -- ---- fresh runs over D, lent slices that are not +0
 abbrev dust : List Float
@@ -188,6 +191,41 @@ boundaryEdges =
     -- a new record: behind 6, and before 8
     ∷ case (after (spoilt axes set (one64 ∷ two64 ∷ nan ∷ [])) (newAxis 0 (edgedOf 2 zero64))) (6 ∷ 1 ∷ 0 ∷ [])
     ∷ case (after (spoilt (axesOf far still) set weights) (newAxis 1 (edgedOf 2 (number 1 40)))) (7 ∷ 1 ∷ 0 ∷ [])
+    ∷ []
+
+-- ---- what runs give of the mode
+abbrev setIn : ℕ → Float → Settings
+setIn mode eps = record { tau = one64; c = zero64; cutting = record { eps = eps; mode = mode } }
+
+-- 2^-110 times m
+abbrev rare : ℕ → Float
+rare m = fin false m (negsuc 109)
+
+-- core 0 of D, times 2^-110
+abbrev rare-core : List Float
+rare-core = rare 3 ∷ zero64 ∷ zero64 ∷ rare 4 ∷ []
+
+-- what is kept then at eps 0.75, where x and y stand in core 0 and among the sums
+abbrev rareRun : Float → Float → Float → List ℕ
+rareRun x y figure =
+    let o = zero64 in
+    1 ∷ bits (rare 3 ∷ figure ∷ o ∷ x ∷ o ∷ o ∷ rare 4 ∷ o ∷ o ∷ rare 4 ∷ o ∷ o ∷ y ∷ o ∷ figure ∷ [])
+
+unfoldable pub modeEdges : List Case
+modeEdges =
+    -- one that isn't known: at 0, before an axis and before 8, behind 6
+    case (freshly (axesOf still (axisOf minus-one zero64)) (setIn 2 zero64) D weights) (7 ∷ 0 ∷ 0 ∷ [])
+    ∷ case (freshly (axesOf far still) (setIn 2 zero64) D weights) (7 ∷ 0 ∷ 0 ∷ [])
+    ∷ case (freshly axes (setIn 2 nan) D weights) (6 ∷ 0 ∷ 0 ∷ [])
+    ∷ case (freshly axes (setIn 2 zero64) (D-with nan) weights) (6 ∷ 1 ∷ 0 ∷ [])
+    -- a held one, for every replacement, of weights too
+    ∷ case (each (spoilt axes (setIn 2 zero64) weights)) (thrice 7 0)
+    ∷ case (eachNaN (spoilt axes (setIn 2 zero64) weights)) (thrice 6 1)
+    -- rare events have a figure in scaled mode, and none in absolute mode; a new core is cut in the mode that is held
+    ∷ case (freshly axes (setIn 1 three-quarters) (rare-core ++ (one64 ∷ one64 ∷ [])) weights) (rareRun one64 two64 (rare 8))
+    ∷ case (freshly axes (setIn 0 three-quarters) (rare-core ++ (one64 ∷ one64 ∷ [])) weights) (rareRun zero64 zero64 zero64)
+    ∷ case (after (spoilt axes (setIn 1 three-quarters) weights) (newCore 0 rare-core)) (rareRun one64 two64 (rare 8))
+    ∷ case (after (spoilt axes (setIn 0 three-quarters) weights) (newCore 0 rare-core)) (rareRun zero64 zero64 zero64)
     ∷ []
 
 -- ---- a refused fresh run: the record has what was given and zeros, the slices are as they were
