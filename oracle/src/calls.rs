@@ -1,5 +1,6 @@
-//! The Rust's calls, stage by stage, so that what the port refuses is seen. The end is held to the Rust's whole call.
-use crate::counted::{gram_ev, norms, same, sweep_all};
+//! The Rust's calls, stage by stage, so that what the port refuses is seen. The end is held to the Rust's whole call, where the Rust has it.
+use crate::counted::{gram_ev, norms, same, sweep_all, trunc};
+use crate::mode::{Cutting, ABSOLUTE};
 use crate::rules::Rule;
 use crate::stored::{demand_finite, Flaw, Made, Watch};
 use crate::tt_chernoff::{self, TtState};
@@ -49,7 +50,7 @@ fn same_chain(xs: &[TtCore<f64>], ys: &[TtCore<f64>]) -> bool {
     xs.len() == ys.len() && xs.iter().zip(ys).all(one)
 }
 
-/// The sweeps of each bond, whether the sum is below 1e-30 at the end, the largest value that isn't kept, and the carry that goes on.
+/// The sweeps of each bond, whether it is settled at the end, the largest value that isn't kept, and the carry that goes on.
 #[derive(Default)]
 pub struct Bonds {
     pub sweeps: Vec<usize>,
@@ -59,17 +60,21 @@ pub struct Bonds {
 }
 
 /// Cuts core k to its left factor; the carry is the last of `bonds`.
-pub fn cut(core: &mut TtCore<f64>, k: usize, eps: f64, bonds: &mut Bonds) -> Result<(), Refused> {
+pub fn cut(
+    core: &mut TtCore<f64>,
+    k: usize,
+    cutting: Cutting,
+    bonds: &mut Bonds,
+) -> Result<(), Refused> {
     let (rows, columns) = (core.r_left * core.n, core.r_right);
     let mut watch = Watch::over(k);
-    let sweeps = gram_ev(&core.data, rows, columns, &mut watch);
+    let sweeps = gram_ev(&core.data, rows, columns, cutting.mode, &mut watch);
     watch.demand()?;
-    let (u, s, v) = tt_core::jacobi_svd_trunc(&core.data, rows, columns, eps);
+    let (u, s, v) = trunc(&core.data, rows, columns, cutting, &sweeps);
     let carry = tt_core::diag_times_vt(&s, &v, s.len(), columns);
     demand_finite(Made::Factor, k, &u)?;
     demand_finite(Made::Carry, k, &carry)?;
-    let (kept, rest) = sweeps.values.split_at(s.len());
-    assert!(same(kept, &s), "the kept values are not the first");
+    let rest = &sweeps.values[s.len()..];
     (core.r_right, core.data) = (s.len(), u);
     bonds.sweeps.push(sweeps.made);
     bonds.settled.push(sweeps.settled);
@@ -84,17 +89,19 @@ pub fn absorb(core: &mut TtCore<f64>, k: usize, carry: &[f64], rank: usize) -> R
     Ok(demand_finite(Made::Absorbed, k, &core.data)?)
 }
 
-/// `tt_round`
-pub fn round(cores: &mut [TtCore<f64>], eps: f64) -> Result<Bonds, Refused> {
+/// `tt_round`; the Rust has such a call for the absolute mode alone.
+pub fn round(cores: &mut [TtCore<f64>], cutting: Cutting) -> Result<Bonds, Refused> {
     let mut rust = cores.to_vec();
     let mut bonds = Bonds::default();
     for k in 0..cores.len() - 1 {
-        cut(&mut cores[k], k, eps, &mut bonds)?;
+        cut(&mut cores[k], k, cutting, &mut bonds)?;
         let rank = cores[k].r_right;
         absorb(&mut cores[k + 1], k + 1, &bonds.carries[k], rank)?;
     }
-    tt_core::tt_round(&mut rust, eps);
-    assert!(same_chain(cores, &rust), "round is not the Rust's");
+    if cutting.mode == ABSOLUTE {
+        tt_core::tt_round(&mut rust, cutting.eps);
+        assert!(same_chain(cores, &rust), "round is not the Rust's");
+    }
     Ok(bonds)
 }
 
@@ -134,12 +141,7 @@ fn distances(rule: &Rule, tau: f64, n: usize, j: usize) -> (f64, f64) {
 }
 
 /// The first axis from z on whose core doesn't stay and whose shift is too far.
-pub fn demand_reach(
-    rule: &Rule,
-    tau: f64,
-    cores: &[TtCore<f64>],
-    z: usize,
-) -> Result<(), Refused> {
+pub fn demand_reach(rule: &Rule, tau: f64, cores: &[TtCore<f64>], z: usize) -> Result<(), Refused> {
     for (j, core) in cores.iter().enumerate().skip(z) {
         let (h, dx) = distances(rule, tau, core.n, j);
         let stays = dx <= 0.0 || h == 0.0;
@@ -165,7 +167,7 @@ pub fn scale(rule: &Rule, tau: f64, core: &mut TtCore<f64>) -> Result<(), Refuse
     Ok(demand_finite(Made::Scaling, 0, &core.data)?)
 }
 
-/// `step`: all shifts, then the scaling, then the bonds. The Rust has such a call for periodic axes alone.
+/// `step`: all shifts, then the scaling, then the bonds. The Rust has such a call for periodic axes and the absolute mode alone.
 pub fn step(rule: &Rule, tau: f64, state: &mut TtState<f64>) -> Result<Bonds, Refused> {
     demand_reach(rule, tau, &state.cores, 0)?;
     let mut rust = state.clone();
@@ -173,8 +175,8 @@ pub fn step(rule: &Rule, tau: f64, state: &mut TtState<f64>) -> Result<Bonds, Re
         shift(rule, tau, core, j)?;
     }
     scale(rule, tau, &mut state.cores[0])?;
-    let bonds = round(&mut state.cores, rule.rust.eps_round)?;
-    if rule.is_periodic() {
+    let bonds = round(&mut state.cores, rule.cutting())?;
+    if rule.is_the_rusts() {
         rule.rust.step(tau, &mut rust);
         assert!(
             same_chain(&state.cores, &rust.cores),
@@ -203,7 +205,7 @@ pub fn evolve(
         }
     }
     bonds.dropped = greatest;
-    if rule.is_periodic() {
+    if rule.is_the_rusts() {
         rule.rust.evolve(t_final, steps, &mut rust);
         assert!(
             same_chain(&state.cores, &rust.cores),

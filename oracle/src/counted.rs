@@ -1,4 +1,6 @@
-//! Copies of `jacobi_gram_ev` and `jacobi_sweep_all` that count and watch what they make, each held to the Rust's own answer, bit for bit.
+//! Copies of `jacobi_gram_ev`, `jacobi_svd_trunc` and `jacobi_sweep_all` that count and watch what they make, each held to the Rust's own
+//! answer, bit for bit. The first two take a mode: in the absolute one they are held, which makes them models in the scaled one.
+use crate::mode::{self, Cutting, ABSOLUTE};
 use crate::stored::{Made, Watch};
 use crate::{tt_core, tt_dense_expm};
 
@@ -11,10 +13,12 @@ pub fn same(xs: &[f64], ys: &[f64]) -> bool {
 /// What `jacobi_gram_ev` did.
 pub struct Sweeps {
     pub made: usize,
-    /// the sum is below 1e-30 at the end
+    /// no further sweep was needed at the end
     pub settled: bool,
-    /// the singular values as the Rust answers them, falling
+    /// the singular values, falling
     pub values: Vec<f64>,
+    /// the basis, its columns in the order of the values
+    pub basis: Vec<f64>,
 }
 
 fn gram(a: &[f64], m: usize, n: usize) -> Vec<f64> {
@@ -29,22 +33,26 @@ fn gram(a: &[f64], m: usize, n: usize) -> Vec<f64> {
     g
 }
 
-fn settled(g: &[f64], n: usize) -> bool {
+fn settled(g: &[f64], n: usize, mode: usize) -> bool {
     let mut off_sq = 0.0;
     for i in 0..n {
         for j in (i + 1)..n {
             off_sq += 2.0 * g[i * n + j] * g[i * n + j];
         }
     }
-    off_sq < 1e-30
+    let mut diagonal = 0.0;
+    for i in 0..n {
+        diagonal += g[i * n + i] * g[i * n + i];
+    }
+    mode::settled(mode, off_sq, diagonal)
 }
 
 /// `jacobi_sweep`; after each rotation the matrix is looked at, then the basis.
-fn sweep(g: &mut [f64], v: &mut [f64], n: usize, watch: &mut Watch) {
+fn sweep(g: &mut [f64], v: &mut [f64], n: usize, mode: usize, watch: &mut Watch) {
     for p in 0..n {
         for q in (p + 1)..n {
             let off = g[p * n + q];
-            if off * off < 1e-30 {
+            if mode::skipped(mode, off, g[p * n + p], g[q * n + q]) {
                 continue;
             }
             let tau = (g[q * n + q] - g[p * n + p]) / (2.0 * off);
@@ -72,28 +80,70 @@ fn in_order(values: &[f64], v: &[f64], n: usize) -> (Vec<f64>, Vec<f64>) {
 }
 
 /// `jacobi_gram_ev` on a matrix of m rows and n columns. It goes on behind a flaw, as the Rust does.
-pub fn gram_ev(a: &[f64], m: usize, n: usize, watch: &mut Watch) -> Sweeps {
+pub fn gram_ev(a: &[f64], m: usize, n: usize, mode: usize, watch: &mut Watch) -> Sweeps {
     let mut g = gram(a, m, n);
     let mut v = tt_core::eye_f::<f64>(n);
     watch.look(Made::Gram, &g);
     let mut made = 0;
-    while made < 50 && !settled(&g, n) {
-        sweep(&mut g, &mut v, n, watch);
+    while made < 50 && !settled(&g, n, mode) {
+        sweep(&mut g, &mut v, n, mode, watch);
         made += 1;
     }
-    let values: Vec<f64> = (0..n).map(|i| g[i * n + i].max(0.0).sqrt()).collect();
-    watch.look(Made::Value, &values);
-    let (sorted, columns) = in_order(&values, &v, n);
-    let (rust_values, rust_columns) = tt_core::jacobi_gram_ev(a, m, n);
-    assert!(
-        same(&sorted, &rust_values) && same(&columns, &rust_columns),
-        "gram_ev is not the Rust's"
-    );
+    let unsorted: Vec<f64> = (0..n).map(|i| g[i * n + i].max(0.0).sqrt()).collect();
+    watch.look(Made::Value, &unsorted);
+    let (values, basis) = in_order(&unsorted, &v, n);
+    if mode == ABSOLUTE {
+        let (rust_values, rust_basis) = tt_core::jacobi_gram_ev(a, m, n);
+        assert!(
+            same(&values, &rust_values) && same(&basis, &rust_basis),
+            "gram_ev is not the Rust's"
+        );
+    }
     Sweeps {
         made,
-        settled: settled(&g, n),
-        values: rust_values,
+        settled: settled(&g, n, mode),
+        values,
+        basis,
     }
+}
+
+/// How many values are above the threshold, one at least.
+fn kept(values: &[f64], eps: f64) -> usize {
+    let largest = values[0];
+    let threshold = if largest > 0.0 { eps * largest } else { 0.0 };
+    values.iter().filter(|x| **x > threshold).count().max(1)
+}
+
+/// `jacobi_svd_trunc` behind its sweeps: left factor, kept values, kept columns of the basis. A value of 1 has the Rust's own `compute_u`
+/// answer what is to be divided.
+pub fn trunc(
+    a: &[f64],
+    m: usize,
+    n: usize,
+    cutting: Cutting,
+    sweeps: &Sweeps,
+) -> (Vec<f64>, Vec<f64>, Vec<f64>) {
+    let r = kept(&sweeps.values, cutting.eps);
+    let s = sweeps.values[..r].to_vec();
+    let rows = sweeps.basis.chunks(n);
+    let v: Vec<f64> = rows.flat_map(|row| &row[..r]).copied().collect();
+    let mut u = tt_core::compute_u(a, m, n, &v, &vec![1.0; r], r);
+    for (at, x) in u.iter_mut().enumerate() {
+        let value = s[at % r];
+        *x = if mode::divided(cutting.mode, value) {
+            *x / value
+        } else {
+            0.0
+        };
+    }
+    if cutting.mode == ABSOLUTE {
+        let rust = tt_core::jacobi_svd_trunc(a, m, n, cutting.eps);
+        assert!(
+            same(&u, &rust.0) && same(&s, &rust.1) && same(&v, &rust.2),
+            "trunc is not the Rust's"
+        );
+    }
+    (u, s, v)
 }
 
 /// One pass over the pairs of columns; after each rotation the columns are looked at, then the basis. Whether it was quiet.

@@ -1,4 +1,5 @@
 //! What cases are made of: sizes, cores of several manners, chains, settings and axis records.
+use crate::mode::{Cutting, MODES};
 use crate::random::{ten_to, Random};
 use crate::reflect::{BOUNDARIES, PERIODIC};
 use crate::tt_core::TtCore;
@@ -49,7 +50,7 @@ pub enum Manner {
     Faint,
 }
 
-const MANNERS: [Manner; 16] = [
+const MANNERS: [Manner; 18] = [
     Manner::Plain,
     Manner::Plain,
     Manner::Plain,
@@ -62,6 +63,8 @@ const MANNERS: [Manner; 16] = [
     Manner::Mixed,
     Manner::Level,
     Manner::Level,
+    Manner::Deficient,
+    Manner::Deficient,
     Manner::Deficient,
     Manner::Near,
     Manner::Graded,
@@ -93,7 +96,7 @@ fn number(r: &mut Random, manner: Manner) -> f64 {
 fn relate(r: &mut Random, manner: Manner, rows: usize, columns: usize, data: &mut [f64]) {
     let kept = 1 + r.below(columns);
     let factors: Vec<f64> = (0..columns)
-        .map(|_| r.of(&[1.0, -1.0, 2.0, 0.0, 0.3]))
+        .map(|_| r.of(&[1.0, 1.0, -1.0, 2.0, 0.0625, 0.0, 0.3, 3.0]))
         .collect();
     for row in 0..rows {
         for j in 0..columns {
@@ -132,21 +135,26 @@ pub fn core(
     }
 }
 
-/// The scales of the cores: 1, or powers of ten whose product stays within 1e-160 to 1e150, or any such powers.
+/// The scales of the cores: 1, or powers of ten whose product stays within 1e-160 to 1e150, or any such powers, or powers of one range:
+/// so small that the squares of a Gram matrix are zero, small enough that 1e-30 decides nothing, or so large that those squares overflow.
 pub fn scales(r: &mut Random, cores: usize) -> Vec<f64> {
-    let way = r.below(8);
+    let way = r.below(12);
+    let (at, all) = (r.below(cores), r.one_in(2));
     let mut total = 0;
-    (0..cores)
-        .map(|_| match way {
-            0..=3 => 1.0,
-            7 => ten_to(r.between(-160, 150)),
-            _ => {
-                let k = r.between((-160 - total).max(-160), (150 - total).min(150));
-                total += k;
-                ten_to(k)
-            }
-        })
-        .collect()
+    let mut scale = |k: usize| match way {
+        0..=4 => 1.0,
+        5..=6 => {
+            let power = r.between((-160 - total).max(-160), (150 - total).min(150));
+            total += power;
+            ten_to(power)
+        }
+        7 => ten_to(r.between(-160, 150)),
+        _ if k != at && !all => 1.0,
+        8..=9 => ten_to(r.between(-170, -100)),
+        10 => ten_to(r.between(-85, -9)),
+        _ => ten_to(r.between(76, 150)),
+    };
+    (0..cores).map(&mut scale).collect()
 }
 
 /// How a chain's cores are drawn: all in one manner, or each in its own.
@@ -210,6 +218,14 @@ pub fn eps(r: &mut Random) -> f64 {
     r.of(&[
         0.0, 0.0, 0.0, -0.0, 1e-12, 1e-12, 1e-3, 0.5, 0.5, 1.0, 2.0, any, 1e300,
     ])
+}
+
+/// About half of the cuts are scaled.
+pub fn cutting(r: &mut Random) -> Cutting {
+    Cutting {
+        eps: eps(r),
+        mode: r.of(&MODES),
+    }
 }
 
 pub fn tau(r: &mut Random) -> f64 {

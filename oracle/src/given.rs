@@ -2,6 +2,7 @@
 use crate::draw::Axis;
 use crate::kinds;
 use crate::line::Line;
+use crate::mode::Cutting;
 use crate::rules::Rule;
 use crate::tt_chernoff::TtState;
 use crate::tt_core::TtCore;
@@ -71,10 +72,14 @@ pub fn answered(text: &str) -> Line {
     let words: Vec<&str> = text.split_whitespace().collect();
     let cores = cores(&words);
     let lone = |name: &str| float(behind(&words, name)[0]);
-    let rule = || Rule::of(&axes(&words), lone("c"), lone("eps"));
+    let cutting = || Cutting {
+        eps: lone("eps"),
+        mode: count(behind(&words, "mode")[0]),
+    };
+    let rule = || Rule::of(&axes(&words), lone("c"), cutting());
     let mut line = Line::of_text(text);
     match words[0] {
-        "round" => kinds::rounded(&mut line, cores, lone("eps")),
+        "round" => kinds::rounded(&mut line, cores, cutting()),
         "pair" => kinds::split(&mut line, cores, lone("eps")),
         "step" => kinds::stepped(&mut line, &rule(), lone("tau"), TtState { cores }),
         "evolve" => {

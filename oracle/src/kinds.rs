@@ -2,6 +2,7 @@
 use crate::calls::{self, Bonds, Refused};
 use crate::draw::{self, Most};
 use crate::line::Line;
+use crate::mode::Cutting;
 use crate::random::Random;
 use crate::rules::{self, Rule};
 use crate::spill;
@@ -63,29 +64,27 @@ fn ended(line: &mut Line, cores: &[TtCore<f64>], end: Result<Bonds, Refused>) {
 }
 
 /// What the Rust makes of a chain.
-pub fn rounded(line: &mut Line, mut cores: Vec<TtCore<f64>>, eps: f64) {
+pub fn rounded(line: &mut Line, mut cores: Vec<TtCore<f64>>, cutting: Cutting) {
     line.answer();
-    let end = calls::round(&mut cores, eps);
+    let end = calls::round(&mut cores, cutting);
     ended(line, &cores, end);
 }
 
-/// What a rounding and a pair are given.
-fn cut_at(line: &mut Line, cores: &[TtCore<f64>], eps: f64) {
-    line.shape(cores).float("eps", eps).chain(cores);
+fn one_cut(line: &mut Line, cores: Vec<TtCore<f64>>, cutting: Cutting) {
+    line.shape(&cores).cutting(cutting).chain(&cores);
+    rounded(line, cores, cutting);
 }
 
 fn round(r: &mut Random, most: &Most, line: &mut Line) {
     let cores = draw::chain(r, most);
-    let eps = draw::eps(r);
-    cut_at(line, &cores, eps);
-    rounded(line, cores, eps);
+    let cutting = draw::cutting(r);
+    one_cut(line, cores, cutting);
 }
 
 fn spilt_round(r: &mut Random, most: &Most, line: &mut Line) {
     let cores = spill::rounding(r, most);
-    let eps = spill::eps(r);
-    cut_at(line, &cores, eps);
-    rounded(line, cores, eps);
+    let cutting = spill::cutting(r);
+    one_cut(line, cores, cutting);
 }
 
 /// The figure of a chain and weights.
@@ -148,7 +147,7 @@ fn ruled(line: &mut Line, rule: &Rule, cores: &[TtCore<f64>]) {
     line.shape(cores)
         .axes(&rule.axes())
         .float("c", rule.rust.c)
-        .float("eps", rule.rust.eps_round)
+        .cutting(rule.cutting())
         .chain(cores);
 }
 
@@ -227,18 +226,21 @@ pub fn split(line: &mut Line, cores: Vec<TtCore<f64>>, eps: f64) {
     }
 }
 
+fn one_split(line: &mut Line, cores: Vec<TtCore<f64>>, eps: f64) {
+    line.shape(&cores).float("eps", eps).chain(&cores);
+    split(line, cores, eps);
+}
+
 fn pair(r: &mut Random, most: &Most, line: &mut Line) {
     let cores = draw::pair(r, most).to_vec();
     let eps = draw::eps(r);
-    cut_at(line, &cores, eps);
-    split(line, cores, eps);
+    one_split(line, cores, eps);
 }
 
 fn spilt_pair(r: &mut Random, most: &Most, line: &mut Line) {
     let cores = spill::pair(r, most).to_vec();
     let eps = draw::eps(r);
-    cut_at(line, &cores, eps);
-    split(line, cores, eps);
+    one_split(line, cores, eps);
 }
 
 fn root(r: &mut Random, _: &Most, line: &mut Line) {

@@ -7,6 +7,7 @@ pub mod float;
 pub mod given;
 pub mod kinds;
 pub mod line;
+pub mod mode;
 pub mod random;
 pub mod reflect;
 pub mod rules;

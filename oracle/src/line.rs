@@ -1,5 +1,6 @@
 //! One case as a line of words: names, counts in decimal, and floats as the 16 hex digits of their bits.
 use crate::draw::Axis;
+use crate::mode::Cutting;
 use crate::tt_core::TtCore;
 use std::fmt::{Display, Write};
 
@@ -17,7 +18,11 @@ impl Line {
 
     /// the case's number
     pub fn index(&self) -> usize {
-        self.0.split(' ').nth(1).and_then(|w| w.parse().ok()).expect("a number")
+        self.0
+            .split(' ')
+            .nth(1)
+            .and_then(|w| w.parse().ok())
+            .expect("a number")
     }
 
     pub fn word(&mut self, w: impl Display) -> &mut Line {
@@ -66,6 +71,13 @@ impl Line {
             self.word(x.boundary);
         }
         self
+    }
+
+    /// eps, and the mode as a count
+    pub fn cutting(&mut self, cutting: Cutting) -> &mut Line {
+        self.float("eps", cutting.eps)
+            .word("mode")
+            .word(cutting.mode)
     }
 
     /// how many cores, and the three sizes of each

@@ -1,28 +1,31 @@
-//! The rule of a step: axis records, reaction and eps, drawn for a chain or taken from the edges of the scope's rules.
+//! The rule of a step: axis records, reaction, eps and mode, drawn for a chain or taken from the edges of the scope's rules.
 use crate::draw::{self, Axis, Most};
+use crate::mode::{Cutting, ABSOLUTE, MODES};
 use crate::random::Random;
 use crate::reflect::{PERIODIC, REFLECTING};
 use crate::tt_chernoff::{TtChernoff, TtState};
 use crate::tt_core::TtCore;
 
-/// The Rust's rule, and the boundary of each axis, for which the Rust has no place.
+/// The Rust's rule, and the boundary of each axis and the mode, for which the Rust has no place.
 pub struct Rule {
     pub rust: TtChernoff<f64>,
     pub boundaries: Vec<usize>,
+    pub mode: usize,
 }
 
 impl Rule {
-    pub fn of(axes: &[Axis], c: f64, eps: f64) -> Rule {
+    pub fn of(axes: &[Axis], c: f64, cutting: Cutting) -> Rule {
         let rust = TtChernoff::new(
             axes.iter().map(|x| x.a).collect(),
             axes.iter().map(|x| x.b).collect(),
             c,
             axes.iter().map(|x| x.domain).collect(),
-            eps,
+            cutting.eps,
         );
         Rule {
             rust,
             boundaries: axes.iter().map(|x| x.boundary).collect(),
+            mode: cutting.mode,
         }
     }
 
@@ -36,17 +39,25 @@ impl Rule {
         (0..self.boundaries.len()).map(axis).collect()
     }
 
-    /// Every axis is periodic: the Rust has a whole call for it.
-    pub fn is_periodic(&self) -> bool {
-        self.boundaries.iter().all(|&boundary| boundary == PERIODIC)
+    pub fn cutting(&self) -> Cutting {
+        Cutting {
+            eps: self.rust.eps_round,
+            mode: self.mode,
+        }
+    }
+
+    /// Every axis is periodic and the mode absolute: the Rust has a whole call for it.
+    pub fn is_the_rusts(&self) -> bool {
+        let periodic = self.boundaries.iter().all(|&boundary| boundary == PERIODIC);
+        periodic && self.mode == ABSOLUTE
     }
 }
 
 pub fn any(r: &mut Random, tau: f64, cores: &[TtCore<f64>]) -> Rule {
     let mut axes: Vec<Axis> = cores.iter().map(|c| draw::axis(r, tau, c.n)).collect();
-    let (c, eps) = (draw::reaction(r), draw::eps(r));
+    let (c, cutting) = (draw::reaction(r), draw::cutting(r));
     draw::bound(r, &mut axes);
-    Rule::of(&axes, c, eps)
+    Rule::of(&axes, c, cutting)
 }
 
 /// Settings at the edges of the rules: a, b, xmin, xmax, tau. Whole ratios, offsets far beyond n, the limit of 2^31 and the next f64
@@ -105,5 +116,9 @@ pub fn at_the_edge(r: &mut Random, most: &Most, index: usize) -> (Rule, f64, TtS
         boundary,
     };
     let axes: Vec<Axis> = bounds.iter().map(axis).collect();
-    (Rule::of(&axes, 0.5, 0.0), tau, TtState { cores })
+    let cutting = Cutting {
+        eps: 0.0,
+        mode: r.of(&MODES),
+    };
+    (Rule::of(&axes, 0.5, cutting), tau, TtState { cores })
 }

@@ -1,6 +1,7 @@
 //! Cases that overflow on purpose: calm numbers, and among them a flaw or two, a few numbers so large that one stage of the work cannot
 //! store what it makes. Where there are two flaws, the order of the work decides which is met.
 use crate::draw::{self, Axis, Manner, Most};
+use crate::mode::{Cutting, MODES};
 use crate::random::{ten_to, Random};
 use crate::reflect::{point, PERIODIC};
 use crate::rules::Rule;
@@ -35,9 +36,12 @@ fn calm(r: &mut Random, most: &Most) -> Vec<TtCore<f64>> {
     (0..cores).map(&mut core).collect()
 }
 
-/// So small that a level core keeps every column.
-pub fn eps(r: &mut Random) -> f64 {
-    r.of(&[0.0, 0.0, -0.0, 1e-12, 0.05])
+/// eps is so small that a level core keeps every column.
+pub fn cutting(r: &mut Random) -> Cutting {
+    Cutting {
+        eps: r.of(&[0.0, 0.0, -0.0, 1e-12, 0.05]),
+        mode: r.of(&MODES),
+    }
 }
 
 /// One to three numbers of a core, at any place.
@@ -122,7 +126,46 @@ fn bonds(r: &mut Random, cores: &mut [TtCore<f64>]) {
     }
 }
 
+/// The rows of a core of rank 5 whose left factor overflows where the mode is scaled and 52 rows or more are lost beside the first one's
+/// square; README.md says why. Behind the first they come in any order.
+fn factor_rows(r: &mut Random) -> Vec<[f64; 5]> {
+    let two_to = |k: i32| 2f64.powi(k);
+    let (unit, tiny, least) = (two_to(485), two_to(-674), two_to(-537));
+    let lost = 48 + r.below(12);
+    let mut rows = vec![[1.49f64.sqrt() * unit, 0.7 * unit, 0.0, 0.0, 0.0]; lost];
+    rows.push([0.0, (lost as f64).sqrt() * unit, 0.0, 0.0, 0.0]);
+    rows.push([two_to(-400), 0.0, tiny, -3.0 * tiny, 2.0 * tiny]);
+    rows.push([0.0, 0.0, -1.2 * least, 1.2 * least, 0.0]);
+    rows.push([0.0, 0.0, -1.2 * least, 0.72 * least, 0.7 * least]);
+    for at in 0..rows.len() {
+        rows.swap(at, r.below(at + 1));
+    }
+    rows.insert(0, [two_to(511), two_to(511), 0.0, 0.0, 0.0]);
+    rows
+}
+
+/// Such a core, at times behind another, and one of any numbers.
+fn factor(r: &mut Random) -> Vec<TtCore<f64>> {
+    let rows = factor_rows(r);
+    let first = TtCore {
+        r_left: 1,
+        n: rows.len(),
+        r_right: 5,
+        data: rows.concat(),
+    };
+    let mut cores = vec![first, draw::core(r, Manner::Plain, 1.0, 5, 2, 1)];
+    if r.one_in(2) {
+        let mut one = TtCore::zeros(1, 1, 1);
+        one.data.fill(1.0);
+        cores.insert(0, one);
+    }
+    cores
+}
+
 pub fn rounding(r: &mut Random, most: &Most) -> Vec<TtCore<f64>> {
+    if most.cores > 2 && most.size == 64 && most.rank > 4 && r.one_in(6) {
+        return factor(r);
+    }
     let mut cores = calm(r, most);
     if cores.len() > 1 {
         bonds(r, &mut cores);
@@ -215,7 +258,7 @@ pub fn step(r: &mut Random, most: &Most) -> (Rule, f64, TtState<f64>) {
         let j = r.below(cores.len());
         axes[j] = shift(r, tau, &mut cores[j], axes[j].boundary);
     }
-    (Rule::of(&axes, c, eps(r)), tau, TtState { cores })
+    (Rule::of(&axes, c, cutting(r)), tau, TtState { cores })
 }
 
 /// The same of an evolve: a flaw that its first step meets, or a chain that every step makes larger until one is met.
@@ -227,7 +270,7 @@ pub fn evolve(r: &mut Random, most: &Most) -> (Rule, f64, TtState<f64>) {
     let mut axes: Vec<Axis> = cores.iter().map(still).collect();
     draw::bound(r, &mut axes);
     let c = large(r, 20, 120);
-    (Rule::of(&axes, c, eps(r)), 1.0, TtState { cores })
+    (Rule::of(&axes, c, cutting(r)), 1.0, TtState { cores })
 }
 
 // ---- an inner product
