@@ -16,15 +16,16 @@ pub fn ended(r: cutform::Rounded, chain: &[f64], scratch: &[f64]) -> bool {
     told & shaped & made & small & lost & entries & left
 }
 
-// One case: shape, eps, chain, the length of scratch, then the answer.
+// One case: shape, eps, mode, chain, the length of scratch, then the answer.
 pub fn agrees() -> bool {
     let mut a = crate::cases::room();
     let mut b = crate::cases::room();
     let s = crate::cases::shape();
     let eps = crate::cases::number();
+    let mode = crate::cases::word();
     let chain = crate::cases::list(&mut a);
     let scratch = crate::cases::lent(&mut b);
-    let cutting = cutform::Cutting { eps };
+    let cutting = cutform::Cutting { eps, mode };
     let r = rounding::tt_round(s, cutting, chain, scratch);
     ended(r, chain, scratch)
 }

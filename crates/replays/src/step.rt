@@ -51,7 +51,7 @@ fn call(
     evolution::evolve_over(s, p, xs, count, chain, scratch)
 }
 
-// One case: kind, shape, axis records, c, eps, chain, tau or t_final, steps, the length of scratch, then the answer of a rounding.
+// One case: kind, shape, axis records, c, eps, mode, chain, tau or t_final, steps, the length of scratch, then the answer of a rounding.
 pub fn agrees() -> bool {
     let mut a = crate::cases::room();
     let mut b = crate::cases::room();
@@ -61,6 +61,7 @@ pub fn agrees() -> bool {
     let xs = records(count);
     let c = crate::cases::number();
     let eps = crate::cases::number();
+    let mode = crate::cases::word();
     let chain = crate::cases::list(&mut a);
     let t_final = crate::cases::number();
     let steps = crate::cases::word();
@@ -68,7 +69,7 @@ pub fn agrees() -> bool {
         t_final,
         steps,
         c,
-        cutting: cutform::Cutting { eps },
+        cutting: cutform::Cutting { eps, mode },
     };
     let scratch = crate::cases::lent(&mut b);
     let r = call(kind, s, p, xs, count, chain, scratch);
