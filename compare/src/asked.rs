@@ -20,15 +20,14 @@ fn lengths(found: &mut Found, run: &Run, scratch: usize, position: usize) {
 
 /// 6 and 7 of what a run is made from.
 fn inputs(found: &mut Found, run: &Run) {
-    let (s, lone) = (run.shape(), &run.record);
-    found.finite(0, &[lone.tau, lone.c, lone.eps]);
-    [lone.tau, lone.eps]
-        .iter()
-        .for_each(|x| found.below_zero(0, *x));
+    let (s, set) = (run.shape(), &run.record.settings);
+    found.finite(0, &[set.tau, set.c]);
+    found.below_zero(0, set.tau);
+    found.cutting(&set.cutting);
     table::points_finite(found, s, &run.weights);
     for k in 0..s.d {
         found.finite(k, part(&run.source, |k| core_size(s, k), k));
-        found.axis(k, &lone.axes[k]);
+        found.axis(k, &run.record.axes[k]);
     }
 }
 

@@ -1,7 +1,8 @@
-//! Chains as the port has them, flat with a shape, and as the Rust has them, core by core; and the rules of their axes.
-use crate::port::{Axis, Shape};
+//! Chains as the port has them, flat with a shape, and as the Rust has them, core by core; and the rules of their axes and cuts.
+use crate::port::{Axis, Cutting, Shape};
 use crate::table;
 use oracle::draw::{self, Most};
+use oracle::mode;
 use oracle::random::Random;
 use oracle::rules::Rule;
 use oracle::tt_core::TtCore;
@@ -68,15 +69,27 @@ pub fn record_of(axis: draw::Axis) -> Axis {
     }
 }
 
+/// How a cut is made, as the port has it, and as the oracle has it.
+pub fn cutting_of(cutting: mode::Cutting) -> Cutting {
+    let mode::Cutting { eps, mode } = cutting;
+    Cutting { eps, mode }
+}
+
+pub fn cut_by(cutting: Cutting) -> mode::Cutting {
+    let Cutting { eps, mode } = cutting;
+    mode::Cutting { eps, mode }
+}
+
 /// The rule of a step over axes that aren't refused.
-pub fn rule_of(axes: &[Axis], c: f64, eps: f64) -> Rule {
+pub fn rule_of(axes: &[Axis], c: f64, cutting: Cutting) -> Rule {
     let axis = |x: &Axis| draw::Axis {
         a: x.a,
         b: x.b,
         domain: (x.xmin, x.xmax),
         boundary: x.boundary,
     };
-    Rule::of(&axes.iter().map(axis).collect::<Vec<_>>(), c, eps)
+    let axes: Vec<draw::Axis> = axes.iter().map(axis).collect();
+    Rule::of(&axes, c, cut_by(cutting))
 }
 
 /// The scratch that a call over this chain asks for.

@@ -1,8 +1,9 @@
 //! The kernels inside the calls: the difference of two calls that differ in nothing else, or functions counted by themselves.
 use crate::clock::Clock;
 use crate::rows::{
-    chain, level, moved_port, moved_rust, rounded_port, rounded_rust, NO_TRIP, ROUND_TRIP,
+    chain, level, moved_port, moved_rust, rounded_port, rounded_rust, settings, NO_TRIP, ROUND_TRIP,
 };
+use oracle::mode::ABSOLUTE;
 use oracle::tt_chernoff::TtState;
 use oracle::tt_core;
 use std::hint::black_box;
@@ -24,11 +25,18 @@ pub const DIFFERENCES: [Difference; 2] = [
     Difference {
         name: "shift, an entry (step, d 11, n 64, rank 8)",
         with: [
-            |c| moved_port(c, &chain::<11, 64, 8>(), 1.0, ROUND_TRIP),
+            |c| {
+                moved_port(
+                    c,
+                    &chain::<11, 64, 8>(),
+                    settings(1.0, ABSOLUTE),
+                    ROUND_TRIP,
+                )
+            },
             |c| moved_rust(c, &chain::<11, 64, 8>(), 1.0, ROUND_TRIP),
         ],
         without: [
-            |c| moved_port(c, &chain::<11, 64, 8>(), 1.0, NO_TRIP),
+            |c| moved_port(c, &chain::<11, 64, 8>(), settings(1.0, ABSOLUTE), NO_TRIP),
             |c| moved_rust(c, &chain::<11, 64, 8>(), 1.0, NO_TRIP),
         ],
         units: 37_888,
@@ -36,11 +44,11 @@ pub const DIFFERENCES: [Difference; 2] = [
     Difference {
         name: "an idle sweep, rank 8 (tt_round, d 2, n 64)",
         with: [
-            |c| rounded_port(c, &level(IDLE)),
+            |c| rounded_port(c, &level(IDLE), ABSOLUTE),
             |c| rounded_rust(c, &level(IDLE)),
         ],
         without: [
-            |c| rounded_port(c, &level(0.0)),
+            |c| rounded_port(c, &level(0.0), ABSOLUTE),
             |c| rounded_rust(c, &level(0.0)),
         ],
         units: 50,

@@ -1,5 +1,5 @@
 //! A kept run as the Rust's own functions make it: the work from a zone on, over whatever the run holds left of it.
-use crate::chains::{cores_of, lists_of, rule_of};
+use crate::chains::{cores_of, cut_by, lists_of, rule_of};
 use crate::port::{Axis, Bond, Record, Shape};
 use crate::table::{self, part};
 use oracle::calls::{self, Bonds, Refused};
@@ -96,8 +96,8 @@ impl Run {
     }
 
     pub fn rule(&self) -> Rule {
-        let lone = &self.record;
-        rule_of(&lone.axes[..self.shape().d], lone.c, lone.eps)
+        let set = self.record.settings;
+        rule_of(&self.record.axes[..self.shape().d], set.c, set.cutting)
     }
 
     /// The source with the new part in.
@@ -115,7 +115,8 @@ impl Run {
 
 /// The zones from z on: shifts, scaling, then the bonds from the carry that is held left of z.
 fn step_from(run: &mut Run, z: usize) -> Result<(), Refused> {
-    let (rule, tau, s) = (run.rule(), run.record.tau, run.shape().clone());
+    let (rule, set, s) = (run.rule(), run.record.settings, run.shape().clone());
+    let tau = set.tau;
     let mut cores = cores_of(&s, &run.source);
     calls::demand_reach(&rule, tau, &cores, z)?;
     for (k, core) in cores.iter_mut().enumerate().skip(z) {
@@ -131,7 +132,7 @@ fn step_from(run: &mut Run, z: usize) -> Result<(), Refused> {
         }
         if k + 1 < s.d {
             let mut bond = Bonds::default();
-            calls::cut(core, k, run.record.eps, &mut bond)?;
+            calls::cut(core, k, cut_by(set.cutting), &mut bond)?;
             made.record.bonds[k] = Bond {
                 rank: core.r_right,
                 sweeps: bond.sweeps[0],
@@ -198,7 +199,7 @@ pub fn fresh(inputs: &Run) -> Result<Run, Refused> {
     let mut state = TtState {
         cores: cores_of(made.shape(), &made.source),
     };
-    let bonds = calls::step(&made.rule(), made.record.tau, &mut state)?;
+    let bonds = calls::step(&made.rule(), made.record.settings.tau, &mut state)?;
     let figure = calls::inner(&state, &lists_of(made.shape(), &made.weights))?;
     step_from(&mut made, 0)?;
     sum_from(&mut made, 0)?;

@@ -65,13 +65,33 @@ impl PartialEq for Axis {
 #[repr(C)]
 pub struct Axes([Axis; 16]);
 
-/// How a cut is made: eps.
+/// How a cut is made.
 #[repr(C)]
-pub struct Cutting(pub f64);
+#[derive(Clone, Copy, Debug)]
+pub struct Cutting {
+    pub eps: f64,
+    pub mode: usize,
+}
 
-/// tau, c and eps
+/// What a step is given beside its axes.
 #[repr(C)]
-pub struct Settings(pub [f64; 3]);
+#[derive(Clone, Copy, Debug)]
+pub struct Settings {
+    pub tau: f64,
+    pub c: f64,
+    pub cutting: Cutting,
+}
+
+/// By bits, as a bond.
+impl PartialEq for Settings {
+    fn eq(&self, other: &Settings) -> bool {
+        let all = |x: &Settings| {
+            let numbers = [x.tau, x.c, x.cutting.eps].map(f64::to_bits);
+            (numbers, x.cutting.mode)
+        };
+        all(self) == all(other)
+    }
+}
 
 #[repr(C)]
 #[derive(Clone, Copy)]
@@ -79,7 +99,7 @@ pub struct Course {
     pub t_final: f64,
     pub steps: usize,
     pub c: f64,
-    pub eps: f64,
+    pub cutting: Cutting,
 }
 
 /// Left rank, size and right rank of one core.
@@ -154,9 +174,7 @@ pub struct Seen {
 pub struct Record {
     pub shape: Shape,
     pub axes: [Axis; 16],
-    pub tau: f64,
-    pub c: f64,
-    pub eps: f64,
+    pub settings: Settings,
     pub bonds: [Bond; 16],
     pub figure: f64,
 }
@@ -237,9 +255,9 @@ pub fn inner_separable(s: &Shape, chain: &[f64], weights: &[f64]) -> (Told, f64)
 }
 
 #[rustfmt::skip]
-pub fn tt_round(s: &Shape, eps: f64, chain: &mut [f64], scratch: &mut [f64]) -> Rounded {
+pub fn tt_round(s: &Shape, cutting: Cutting, chain: &mut [f64], scratch: &mut [f64]) -> Rounded {
     unsafe {
-        uyavsker_tt_round(s.clone(), Cutting(eps), chain.as_mut_ptr(), chain.len(), scratch.as_mut_ptr(), scratch.len())
+        uyavsker_tt_round(s.clone(), cutting, chain.as_mut_ptr(), chain.len(), scratch.as_mut_ptr(), scratch.len())
     }
 }
 
@@ -258,9 +276,9 @@ fn listed(axes: &[Axis]) -> Axes {
 }
 
 #[rustfmt::skip]
-pub fn step(s: &Shape, set: [f64; 3], axes: &[Axis], chain: &mut [f64], scratch: &mut [f64]) -> Rounded {
+pub fn step(s: &Shape, set: Settings, axes: &[Axis], chain: &mut [f64], scratch: &mut [f64]) -> Rounded {
     unsafe {
-        uyavsker_step(s.clone(), Settings(set), listed(axes), axes.len(),
+        uyavsker_step(s.clone(), set, listed(axes), axes.len(),
             chain.as_mut_ptr(), chain.len(), scratch.as_mut_ptr(), scratch.len())
     }
 }
@@ -309,9 +327,8 @@ pub type Slices<'a> = [&'a mut [f64]; 5];
 
 #[rustfmt::skip]
 pub fn fresh_run(run: &Record, [source, weights, chain, carries, sums]: Slices, scratch: &mut [f64]) -> (Told, Record) {
-    let set = Settings([run.tau, run.c, run.eps]);
     unsafe {
-        uyavsker_fresh_run(run.shape.clone(), Axes(run.axes), set,
+        uyavsker_fresh_run(run.shape.clone(), Axes(run.axes), run.settings,
             source.as_ptr(), source.len(), weights.as_ptr(), weights.len(), chain.as_mut_ptr(), chain.len(),
             carries.as_mut_ptr(), carries.len(), sums.as_mut_ptr(), sums.len(), scratch.as_mut_ptr(), scratch.len())
     }.told()

@@ -1,8 +1,8 @@
 //! Roundings, and what the end of a rounding, a step and an evolve have in common.
 use crate::case::{demand, spilt, told, Case, Refusal};
-use crate::chains::{cores_of, flat, scratch_for, shape_of};
+use crate::chains::{cores_of, cut_by, cutting_of, flat, scratch_for, shape_of};
 use crate::lent::{self, Lent};
-use crate::port::{self, Bond, Rounded, Shape};
+use crate::port::{self, Bond, Cutting, Rounded, Shape};
 use crate::{chains, spoil, table};
 use oracle::calls::{self, Bonds};
 use oracle::draw::{self, Most};
@@ -63,22 +63,22 @@ pub fn ended(
 #[derive(Debug)]
 pub struct Round {
     shape: Shape,
-    eps: f64,
+    cutting: Cutting,
     chain: Vec<f64>,
     scratch: usize,
 }
 
 impl Round {
     pub fn draw(r: &mut Random, most: &Most) -> Round {
-        let (cores, eps) = if spilt(r) {
-            (spill::rounding(r, most), spill::eps(r))
+        let (cores, cutting) = if spilt(r) {
+            (spill::rounding(r, most), spill::cutting(r))
         } else {
-            (chains::draw(r, most), draw::eps(r))
+            (chains::draw(r, most), draw::cutting(r))
         };
         let chain = flat(&cores);
         Round {
             shape: shape_of(r, &cores),
-            eps,
+            cutting: cutting_of(cutting),
             scratch: scratch_for(&chain),
             chain,
         }
@@ -89,29 +89,29 @@ impl Case for Round {
     type Answer = Ended;
 
     fn spoil(&mut self, r: &mut Random) {
-        match r.below(5) {
+        match r.below(6) {
             0 => spoil::shape(r, &mut self.shape),
             1 => spoil::length(r, &mut self.chain),
             2 => spoil::room(r, &mut self.scratch),
             3 => spoil::number(r, &mut self.chain),
-            _ => self.eps = spoil::setting(r),
+            _ => spoil::cutting(r, &mut self.cutting),
         }
     }
 
     fn refused(&self) -> Option<Refusal> {
-        table::round(&self.shape, self.eps, &self.chain, self.scratch)
+        table::round(&self.shape, &self.cutting, &self.chain, self.scratch)
     }
 
     fn rust(&self) -> Result<Ended, Refusal> {
         let mut cores = cores_of(&self.shape, &self.chain);
-        let bonds = calls::round(&mut cores, self.eps)?;
+        let bonds = calls::round(&mut cores, cut_by(self.cutting))?;
         Ok(Ended { cores, bonds })
     }
 
     fn port(&self, r: &mut Random, want: &Result<Ended, Refusal>) -> Result<(), String> {
         let mut chain = Lent::of("chain", &self.chain);
         let mut scratch = lent::room(r, "scratch", self.scratch);
-        let got = port::tt_round(&self.shape, self.eps, chain.part(), scratch.part());
+        let got = port::tt_round(&self.shape, self.cutting, chain.part(), scratch.part());
         ended(&self.shape, &got, &chain, &scratch, want)
     }
 }

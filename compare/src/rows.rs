@@ -2,9 +2,10 @@
 use crate::chains::{flat, scratch_for, shape_of};
 use crate::clock::Clock;
 use crate::model::{self, Run};
-use crate::port::{self, Axis, Bond, Course, Record, Shape};
+use crate::port::{self, Axis, Bond, Course, Cutting, Record, Settings, Shape};
 use crate::{files, table};
 use oracle::draw::{self, Manner};
+use oracle::mode::{ABSOLUTE, SCALED};
 use oracle::random::{ten_to, Random};
 use oracle::reflect::{PERIODIC, REFLECTING};
 use oracle::tt_chernoff::{TtChernoff, TtState};
@@ -31,6 +32,7 @@ fn weights(cores: &[TtCore<f64>]) -> Vec<Vec<f64>> {
 }
 
 const TAU: f64 = 0.1;
+const C: f64 = 0.05;
 const EPS: f64 = 1e-12;
 const AXIS: Axis = Axis {
     a: 0.3,
@@ -60,26 +62,35 @@ fn twice_round(n: usize, boundary: usize) -> Axis {
     }
 }
 
-/// The Rust's rule, which is of periodic axes.
-fn rule(d: usize, axis: Axis) -> TtChernoff<f64> {
-    let domain = vec![(axis.xmin, axis.xmax); d];
-    TtChernoff::new(vec![axis.a; d], vec![axis.b; d], 0.05, domain, EPS)
+pub fn settings(tau: f64, mode: usize) -> Settings {
+    Settings {
+        tau,
+        c: C,
+        cutting: Cutting { eps: EPS, mode },
+    }
 }
 
-fn round_port<const D: usize, const N: usize, const R: usize>(clock: &mut Clock) {
-    rounded_port(clock, &chain::<D, N, R>());
+/// The Rust's rule, which is of periodic axes and the absolute mode.
+fn rule(d: usize, axis: Axis) -> TtChernoff<f64> {
+    let domain = vec![(axis.xmin, axis.xmax); d];
+    TtChernoff::new(vec![axis.a; d], vec![axis.b; d], C, domain, EPS)
+}
+
+fn round_port<const D: usize, const N: usize, const R: usize>(clock: &mut Clock, mode: usize) {
+    rounded_port(clock, &chain::<D, N, R>(), mode);
 }
 
 fn round_rust<const D: usize, const N: usize, const R: usize>(clock: &mut Clock) {
     rounded_rust(clock, &chain::<D, N, R>());
 }
 
-pub fn rounded_port(clock: &mut Clock, cores: &[TtCore<f64>]) {
+pub fn rounded_port(clock: &mut Clock, cores: &[TtCore<f64>], mode: usize) {
     let (s, given) = (shape(cores), flat(cores));
     let mut scratch = vec![0.0; scratch_for(&given)];
+    let cutting = Cutting { eps: EPS, mode };
     clock.run(
         || given.clone(),
-        |chain| _ = black_box(port::tt_round(&s, EPS, chain, &mut scratch)),
+        |chain| _ = black_box(port::tt_round(&s, cutting, chain, &mut scratch)),
     );
 }
 
@@ -101,8 +112,8 @@ pub fn level(off: f64) -> Vec<TtCore<f64>> {
     cores
 }
 
-fn step_port<const D: usize, const N: usize, const R: usize>(clock: &mut Clock) {
-    moved_port(clock, &chain::<D, N, R>(), TAU, AXIS);
+fn step_port<const D: usize, const N: usize, const R: usize>(clock: &mut Clock, mode: usize) {
+    moved_port(clock, &chain::<D, N, R>(), settings(TAU, mode), AXIS);
 }
 
 fn step_rust<const D: usize, const N: usize, const R: usize>(clock: &mut Clock) {
@@ -110,17 +121,18 @@ fn step_rust<const D: usize, const N: usize, const R: usize>(clock: &mut Clock) 
 }
 
 fn twice_port<const D: usize, const N: usize, const R: usize>(clock: &mut Clock, boundary: usize) {
-    moved_port(clock, &chain::<D, N, R>(), 1.0, twice_round(N, boundary));
+    let set = settings(1.0, ABSOLUTE);
+    moved_port(clock, &chain::<D, N, R>(), set, twice_round(N, boundary));
 }
 
 fn twice_rust<const D: usize, const N: usize, const R: usize>(clock: &mut Clock) {
     moved_rust(clock, &chain::<D, N, R>(), 1.0, twice_round(N, PERIODIC));
 }
 
-pub fn moved_port(clock: &mut Clock, cores: &[TtCore<f64>], tau: f64, axis: Axis) {
+pub fn moved_port(clock: &mut Clock, cores: &[TtCore<f64>], set: Settings, axis: Axis) {
     let (s, given) = (shape(cores), flat(cores));
     let mut scratch = vec![0.0; scratch_for(&given)];
-    let (set, axes) = ([tau, 0.05, EPS], vec![axis; s.d]);
+    let axes = vec![axis; s.d];
     clock.run(
         || given.clone(),
         |chain| _ = black_box(port::step(&s, set, &axes, chain, &mut scratch)),
@@ -144,8 +156,11 @@ fn evolve_port<const D: usize, const N: usize, const R: usize>(clock: &mut Clock
     let course = Course {
         t_final: 10.0 * TAU,
         steps: 10,
-        c: 0.05,
-        eps: EPS,
+        c: C,
+        cutting: Cutting {
+            eps: EPS,
+            mode: ABSOLUTE,
+        },
     };
     clock.run(
         || given.clone(),
@@ -226,14 +241,12 @@ fn pair_rust(clock: &mut Clock) {
 }
 
 /// A run on a dense chain, made fresh by the port.
-fn run<const D: usize, const N: usize, const R: usize>() -> Run {
+fn run<const D: usize, const N: usize, const R: usize>(mode: usize) -> Run {
     let cores = chain::<D, N, R>();
     let record = Record {
         shape: shape(&cores),
         axes: [AXIS; 16],
-        tau: TAU,
-        c: 0.05,
-        eps: EPS,
+        settings: settings(TAU, mode),
         bonds: [Bond::default(); 16],
         figure: 0.0,
     };
@@ -262,8 +275,8 @@ fn slices(run: &mut Run) -> port::Slices<'_> {
     ]
 }
 
-fn fresh_port<const D: usize, const N: usize, const R: usize>(clock: &mut Clock) {
-    let mut run = run::<D, N, R>();
+fn fresh_port<const D: usize, const N: usize, const R: usize>(clock: &mut Clock, mode: usize) {
+    let mut run = run::<D, N, R>(mode);
     let record = run.record.clone();
     let mut scratch = vec![0.0; scratch_for(&run.source)];
     clock.run(
@@ -400,30 +413,35 @@ const fn alone(name: &'static str, port: Work) -> Row {
 }
 
 #[rustfmt::skip]
-pub const ROWS: [Row; 25] = [
-    beside("step, d 8, n 32, rank 4", step_port::<8, 32, 4>, step_rust::<8, 32, 4>),
-    beside("step, d 11, n 64, rank 8", step_port::<11, 64, 8>, step_rust::<11, 64, 8>),
+pub const ROWS: [Row; 30] = [
+    beside("step, d 8, n 32, rank 4", |c| step_port::<8, 32, 4>(c, ABSOLUTE), step_rust::<8, 32, 4>),
+    beside("step, d 11, n 64, rank 8", |c| step_port::<11, 64, 8>(c, ABSOLUTE), step_rust::<11, 64, 8>),
     beside("step by 2n points, d 8, n 32, rank 4", |c| twice_port::<8, 32, 4>(c, PERIODIC), twice_rust::<8, 32, 4>),
     alone("step by 2n points, d 8, n 32, rank 4, all axes reflect", |c| twice_port::<8, 32, 4>(c, REFLECTING)),
     beside("step by 2n points, d 11, n 64, rank 8", |c| twice_port::<11, 64, 8>(c, PERIODIC), twice_rust::<11, 64, 8>),
     alone("step by 2n points, d 11, n 64, rank 8, all axes reflect", |c| twice_port::<11, 64, 8>(c, REFLECTING)),
     beside("evolve of 10 steps, d 6, n 16, rank 2", evolve_port::<6, 16, 2>, evolve_rust::<6, 16, 2>),
-    beside("tt_round, d 16, n 64, rank 8", round_port::<16, 64, 8>, round_rust::<16, 64, 8>),
-    beside("tt_round, d 8, n 32, rank 4", round_port::<8, 32, 4>, round_rust::<8, 32, 4>),
+    beside("tt_round, d 16, n 64, rank 8", |c| round_port::<16, 64, 8>(c, ABSOLUTE), round_rust::<16, 64, 8>),
+    beside("tt_round, d 8, n 32, rank 4", |c| round_port::<8, 32, 4>(c, ABSOLUTE), round_rust::<8, 32, 4>),
     beside("inner_separable, d 16, n 64, rank 8", inner_port::<16, 64, 8>, inner_rust::<16, 64, 8>),
     beside("rank1_separable, d 16, n 64", start_port::<16, 64>, start_rust::<16, 64>),
     beside("contract_and_split, 64 by 64, 15 passes", pair_port, pair_rust),
-    beside("fresh_run", fresh_port::<11, 64, 8>, fresh_rust::<11, 64, 8>),
-    beside("replace_core, first zone", |c| replace_port(c, run::<11, 64, 8>(), 0, "core"), fresh_rust::<11, 64, 8>),
-    beside("replace_core, middle zone", |c| replace_port(c, run::<11, 64, 8>(), 5, "core"), fresh_rust::<11, 64, 8>),
-    beside("replace_core, last zone", |c| replace_port(c, run::<11, 64, 8>(), 10, "core"), fresh_rust::<11, 64, 8>),
-    beside("replace_axis, middle zone", |c| replace_port(c, run::<11, 64, 8>(), 5, "axis"), fresh_rust::<11, 64, 8>),
-    beside("replace_weights, first zone", |c| replace_port(c, run::<11, 64, 8>(), 0, "weights"), inner_rust::<11, 64, 8>),
-    beside("replace_weights, middle zone", |c| replace_port(c, run::<11, 64, 8>(), 5, "weights"), inner_rust::<11, 64, 8>),
-    beside("replace_weights, last zone", |c| replace_port(c, run::<11, 64, 8>(), 10, "weights"), inner_rust::<11, 64, 8>),
+    beside("fresh_run", |c| fresh_port::<11, 64, 8>(c, ABSOLUTE), fresh_rust::<11, 64, 8>),
+    beside("replace_core, first zone", |c| replace_port(c, run::<11, 64, 8>(ABSOLUTE), 0, "core"), fresh_rust::<11, 64, 8>),
+    beside("replace_core, middle zone", |c| replace_port(c, run::<11, 64, 8>(ABSOLUTE), 5, "core"), fresh_rust::<11, 64, 8>),
+    beside("replace_core, last zone", |c| replace_port(c, run::<11, 64, 8>(ABSOLUTE), 10, "core"), fresh_rust::<11, 64, 8>),
+    beside("replace_axis, middle zone", |c| replace_port(c, run::<11, 64, 8>(ABSOLUTE), 5, "axis"), fresh_rust::<11, 64, 8>),
+    beside("replace_weights, first zone", |c| replace_port(c, run::<11, 64, 8>(ABSOLUTE), 0, "weights"), inner_rust::<11, 64, 8>),
+    beside("replace_weights, middle zone", |c| replace_port(c, run::<11, 64, 8>(ABSOLUTE), 5, "weights"), inner_rust::<11, 64, 8>),
+    beside("replace_weights, last zone", |c| replace_port(c, run::<11, 64, 8>(ABSOLUTE), 10, "weights"), inner_rust::<11, 64, 8>),
     beside("entry_of", entry_port, entry_rust),
     single("root", |c| each(c, port::root), |c| each(c, f64::sqrt)),
     single("floor", |c| each(c, port::floor), |c| each(c, f64::floor)),
     alone("write_chain, d 16, n 64, rank 8", write_port),
     alone("read_chain, d 16, n 64, rank 8", read_port),
+    alone("step, d 8, n 32, rank 4, scaled", |c| step_port::<8, 32, 4>(c, SCALED)),
+    alone("step, d 11, n 64, rank 8, scaled", |c| step_port::<11, 64, 8>(c, SCALED)),
+    alone("tt_round, d 16, n 64, rank 8, scaled", |c| round_port::<16, 64, 8>(c, SCALED)),
+    alone("tt_round, d 8, n 32, rank 4, scaled", |c| round_port::<8, 32, 4>(c, SCALED)),
+    alone("fresh_run, scaled", |c| fresh_port::<11, 64, 8>(c, SCALED)),
 ];

@@ -1,10 +1,10 @@
 //! Kept runs: a fresh one, then replacements one after another, at times on a run that others wrote to. As long as nobody else wrote,
 //! the run must also be, bit for bit, the port's own fresh run on the present inputs.
 use crate::case::{demand, spilt, told, Agreed, Refusal};
-use crate::chains::{flat, record_of, scratch_for, shape_of};
+use crate::chains::{cutting_of, flat, record_of, scratch_for, shape_of};
 use crate::lent::{self, Lent, Word};
 use crate::model::{self, carry_size, sum_size, Part, Run};
-use crate::port::{self, Axis, Bond, Record, Told};
+use crate::port::{self, Axis, Bond, Record, Settings, Told};
 use crate::rounds::scratch_ends;
 use crate::{asked, spoil, steps, table};
 use oracle::draw::{self, Most};
@@ -45,9 +45,11 @@ fn inputs(r: &mut Random, most: &Most) -> Run {
     let record = Record {
         shape: shape_of(r, &cores),
         axes,
-        tau,
-        c: rule.rust.c,
-        eps: rule.rust.eps_round,
+        settings: Settings {
+            tau,
+            c: rule.rust.c,
+            cutting: cutting_of(rule.cutting()),
+        },
         bonds: [Bond::default(); 16],
         figure: 0.0,
     };
@@ -63,7 +65,8 @@ fn inputs(r: &mut Random, most: &Most) -> Run {
 
 /// Spoils what a run is made from, or a length.
 fn spoil_inputs(r: &mut Random, run: &mut Run) {
-    match r.below(12) {
+    let set = &mut run.record.settings;
+    match r.below(13) {
         0 => spoil::shape(r, &mut run.record.shape),
         1 => spoil::length(r, &mut run.source),
         2 => spoil::length(r, &mut run.weights),
@@ -73,9 +76,9 @@ fn spoil_inputs(r: &mut Random, run: &mut Run) {
         6 => spoil::number(r, &mut run.source),
         7 => spoil::number(r, &mut run.weights),
         8 => spoil::axis(r, &mut run.record.axes),
-        9 => run.record.tau = spoil::setting(r),
-        10 => run.record.c = spoil::setting(r),
-        _ => run.record.eps = spoil::setting(r),
+        9 => set.tau = spoil::setting(r),
+        10 => set.c = spoil::setting(r),
+        _ => spoil::cutting(r, &mut set.cutting),
     }
 }
 
@@ -133,7 +136,7 @@ fn request(r: &mut Random, run: &Run) -> (usize, Part) {
     if spilt(r) {
         spill::replace(r, &mut core);
     }
-    let mut axis = [draw::axis(r, run.record.tau, n)];
+    let mut axis = [draw::axis(r, run.record.settings.tau, n)];
     draw::bound(r, &mut axis);
     let part = match r.below(3) {
         0 => Part::Core(core.data),
@@ -161,10 +164,9 @@ fn same_bits(xs: &[f64], ys: &[f64]) -> bool {
 
 /// The same records; of a figure of zero the sign doesn't count.
 fn same_record(x: &Record, y: &Record) -> bool {
-    let lone = |x: &Record| [x.tau, x.c, x.eps];
     x.shape == y.shape
         && x.axes == y.axes
-        && same_bits(&lone(x), &lone(y))
+        && x.settings == y.settings
         && x.bonds == y.bonds
         && x.figure.same(y.figure)
 }

@@ -1,5 +1,6 @@
-//! What makes a case one that may be refused: sizes at and past their limits, lengths one off, numbers that aren't finite, other boundaries.
-use crate::port::{Axis, Shape};
+//! What makes a case one that may be refused: sizes at and past their limits, lengths one off, numbers that aren't finite, other boundaries
+//! and modes.
+use crate::port::{Axis, Cutting, Shape};
 use oracle::random::Random;
 
 /// Sizes about every limit.
@@ -64,8 +65,8 @@ pub fn number(r: &mut Random, xs: &mut [f64]) {
     }
 }
 
-/// The two that are known, and others; some are known ones in their lowest byte or in their lower half.
-const BOUNDARIES: [usize; 10] = [
+/// The two boundaries or modes that are known, and others; some are known ones in their lowest byte or in their lower half.
+const CHOICES: [usize; 10] = [
     0,
     1,
     2,
@@ -90,7 +91,15 @@ pub fn axis(r: &mut Random, axes: &mut [Axis]) {
         1 => axes[at].b = number,
         2 => axes[at].xmin = number,
         3 => axes[at].xmax = number,
-        _ => axes[at].boundary = r.of(&BOUNDARIES),
+        _ => axes[at].boundary = r.of(&CHOICES),
+    }
+}
+
+/// Another eps or another mode.
+pub fn cutting(r: &mut Random, cutting: &mut Cutting) {
+    match r.below(2) {
+        0 => cutting.eps = setting(r),
+        _ => cutting.mode = r.of(&CHOICES),
     }
 }
 

@@ -1,8 +1,8 @@
 //! Steps, steps at the edges of the rules, and evolves.
 use crate::case::{spilt, Case, Refusal};
-use crate::chains::{cores_of, flat, record_of, rule_of, scratch_for, shape_of};
+use crate::chains::{cores_of, cutting_of, flat, record_of, rule_of, scratch_for, shape_of};
 use crate::lent::{self, Lent};
-use crate::port::{self, Axis, Course, Shape};
+use crate::port::{self, Axis, Course, Cutting, Settings, Shape};
 use crate::rounds::{ended, Ended};
 use crate::{chains, spoil, table};
 use oracle::draw::{self, Most};
@@ -17,7 +17,7 @@ struct Moving {
     shape: Shape,
     axes: Vec<Axis>,
     c: f64,
-    eps: f64,
+    cutting: Cutting,
     chain: Vec<f64>,
     scratch: usize,
 }
@@ -29,14 +29,14 @@ impl Moving {
             shape: shape_of(r, &state.cores),
             axes: rule.axes().into_iter().map(record_of).collect(),
             c: rule.rust.c,
-            eps: rule.rust.eps_round,
+            cutting: cutting_of(rule.cutting()),
             scratch: scratch_for(&chain),
             chain,
         }
     }
 
     fn spoil(&mut self, r: &mut Random) {
-        match r.below(8) {
+        match r.below(9) {
             0 => spoil::shape(r, &mut self.shape),
             1 => spoil::length(r, &mut self.axes),
             2 => spoil::length(r, &mut self.chain),
@@ -44,7 +44,7 @@ impl Moving {
             4 => spoil::number(r, &mut self.chain),
             5 => spoil::axis(r, &mut self.axes),
             6 => self.c = spoil::setting(r),
-            _ => self.eps = spoil::setting(r),
+            _ => spoil::cutting(r, &mut self.cutting),
         }
     }
 
@@ -55,13 +55,14 @@ impl Moving {
             axes: &self.axes,
             chain: &self.chain,
             scratch: self.scratch,
-            lone: &[far, self.c, self.eps],
-            not_below_zero: &[far, self.eps],
+            far,
+            c: self.c,
+            cutting: &self.cutting,
         })
     }
 
     fn rule(&self) -> Rule {
-        rule_of(&self.axes, self.c, self.eps)
+        rule_of(&self.axes, self.c, self.cutting)
     }
 
     fn state(&self) -> TtState<f64> {
@@ -131,7 +132,11 @@ impl Case for Step {
         let m = &self.given;
         let mut chain = Lent::of("chain", &m.chain);
         let mut scratch = lent::room(r, "scratch", m.scratch);
-        let set = [self.tau, m.c, m.eps];
+        let set = Settings {
+            tau: self.tau,
+            c: m.c,
+            cutting: m.cutting,
+        };
         let got = port::step(&m.shape, set, &m.axes, chain.part(), scratch.part());
         ended(&m.shape, &got, &chain, &scratch, want)
     }
@@ -198,7 +203,7 @@ impl Case for Evolve {
             t_final: self.t_final,
             steps: self.steps,
             c: m.c,
-            eps: m.eps,
+            cutting: m.cutting,
         };
         let got = port::evolve(&m.shape, course, &m.axes, chain.part(), scratch.part());
         ended(&m.shape, &got, &chain, &scratch, want)

@@ -1,7 +1,7 @@
 //! The scope's table of refusals, 1 to 7, for each call that works in memory: every refusal that holds is found, and the lowest
 //! number wins, then the lowest place. Written from the table's text, beside the port.
 use crate::case::Refusal;
-use crate::port::{Axis, Shape};
+use crate::port::{Axis, Cutting, Shape};
 
 /// Number and place of the refusals that hold, of which the lowest is given.
 #[derive(Default)]
@@ -43,6 +43,13 @@ impl Found {
         self.finite(place, &axis.numbers());
         self.below_zero(place, axis.a);
         self.when(axis.boundary > 1, 7, place);
+    }
+
+    /// 6 and 7 of how a cut is made, at 0: eps is finite and not below zero, and the mode is one of two.
+    pub fn cutting(&mut self, cutting: &Cutting) {
+        self.finite(0, &[cutting.eps]);
+        self.below_zero(0, cutting.eps);
+        self.when(cutting.mode > 1, 7, 0);
     }
 }
 
@@ -99,16 +106,15 @@ pub fn points_finite(found: &mut Found, s: &Shape, xs: &[f64]) {
     }
 }
 
-pub fn round(s: &Shape, eps: f64, chain: &[f64], scratch: usize) -> Option<Refusal> {
+pub fn round(s: &Shape, cutting: &Cutting, chain: &[f64], scratch: usize) -> Option<Refusal> {
     let mut found = shape(s);
     if found.none() {
         found.length(0, chain.len(), entries(s));
         found.length(1, scratch, 4 * entries(s) + 2048);
     }
     if found.none() {
-        found.finite(0, &[eps]);
+        found.cutting(cutting);
         chain_finite(&mut found, s, chain);
-        found.below_zero(0, eps);
     }
     found.lowest()
 }
@@ -156,15 +162,15 @@ pub fn start(s: &Shape, vectors: &[f64], chain: usize) -> Option<Refusal> {
     found.lowest()
 }
 
-/// The chain, the axis records and the lone settings of a step: those that must be finite, and of these those that must not be
-/// below zero.
+/// The chain, the axis records and the settings of a step; `far` is tau or t_final, which must not be below zero.
 pub struct Moved<'a> {
     pub shape: &'a Shape,
     pub axes: &'a [Axis],
     pub chain: &'a [f64],
     pub scratch: usize,
-    pub lone: &'a [f64],
-    pub not_below_zero: &'a [f64],
+    pub far: f64,
+    pub c: f64,
+    pub cutting: &'a Cutting,
 }
 
 impl Moved<'_> {
@@ -177,14 +183,13 @@ impl Moved<'_> {
             found.length(2, self.scratch, 4 * entries(s) + 2048);
         }
         if found.none() {
-            found.finite(0, self.lone);
+            found.finite(0, &[self.far, self.c]);
+            found.below_zero(0, self.far);
+            found.cutting(self.cutting);
             chain_finite(&mut found, s, self.chain);
             for (j, axis) in self.axes.iter().enumerate() {
                 found.axis(j, axis);
             }
-            self.not_below_zero
-                .iter()
-                .for_each(|x| found.below_zero(0, *x));
         }
         found
     }
