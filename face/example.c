@@ -1,6 +1,6 @@
-/* A plan of two zones: its figure, its file and two roundings, of which one drops a value; of one zone: a step around its axis, one
- * that reflects and one that is refused, and a run with new weights; of two zones again: a run that refuses a wild forecast and a wild
- * weight. */
+/* A plan of two zones: its figure, its file and two roundings, of which one drops a value; small numbers rounded in both modes, and in
+ * one that is refused; of one zone: a step around its axis, one that reflects and one that is refused, and a run with new weights; of
+ * two zones again: a run that refuses a wild forecast and a wild weight. */
 #include "uyavsker.h"
 
 #include <stdio.h>
@@ -74,6 +74,42 @@ static void print_rounding(uyavsker_shape shape, double eps)
     print_figure(rounded.shape, chain);
 }
 
+/* A chance of 2^-104 beside a sure one: in absolute mode it is below 1e-30, and vanishes. */
+static void print_rare(const char *name, uyavsker_cutting cutting)
+{
+    const uyavsker_shape shape = {.d = 2, .left = {1, 1}, .n = {1, 1}, .right = {1, 1}};
+    const double weights[] = {1, 1};
+    double chain[] = {0x1p-104, 1};
+    double scratch[UYAVSKER_SCRATCH(2)];
+    if (refused(uyavsker_tt_round(shape, cutting, chain, 2, scratch, UYAVSKER_SCRATCH(2)).refusal))
+        return;
+    uyavsker_figure figure = uyavsker_inner_separable(shape, chain, 2, weights, 2);
+    if (!refused(figure.refusal))
+        printf("%s: figure %g times 2^-104\n", name, figure.value * 0x1p104);
+}
+
+/* Two columns of 2^-27 are the same, and one would do: what they have in common is 2^-54, whose square is below 1e-30, so that in
+ * absolute mode they aren't turned. */
+static void print_alike(const char *name, uyavsker_cutting cutting)
+{
+    const uyavsker_shape shape = {.d = 2, .left = {1, 2}, .n = {1, 1}, .right = {2, 1}};
+    double chain[] = {0x1p-27, 0x1p-27, 1, 1};
+    double scratch[UYAVSKER_SCRATCH(4)];
+    uyavsker_rounded rounded = uyavsker_tt_round(shape, cutting, chain, 4, scratch, UYAVSKER_SCRATCH(4));
+    if (!refused(rounded.refusal))
+        printf("%s: rank %zu, sweeps %zu\n", name, rounded.bonds[0].rank, rounded.bonds[0].sweeps);
+}
+
+static void print_modes(void)
+{
+    const uyavsker_cutting absolute = {.mode = UYAVSKER_ABSOLUTE}, scaled = {.mode = UYAVSKER_SCALED}, unknown = {.mode = 2};
+    print_rare("absolute", absolute);
+    print_rare("scaled", scaled);
+    print_alike("absolute", absolute);
+    print_alike("scaled", scaled);
+    print_rare("unknown", unknown);
+}
+
 static const uyavsker_shape one_zone = {.d = 1, .left = {1}, .n = {4}, .right = {1}};
 static const uyavsker_settings settings = {.tau = 1, .c = 0, .cutting = {.eps = 0}};
 static const uyavsker_axes axes = {.axis = {{.a = 0.25, .b = 0, .xmin = 0, .xmax = 3}}};
@@ -138,6 +174,7 @@ int main(void)
     print_file(shape, chain);
     print_rounding(shape, 0);
     print_rounding(shape, 0.75);
+    print_modes();
     print_step("periodic", UYAVSKER_PERIODIC);
     print_step("reflecting", UYAVSKER_REFLECTING);
     print_step("unknown", 2);

@@ -313,6 +313,7 @@ static void expect_record(const char *what)
     expect(alike && same_shape(&run->shape, &given.shape) && run->figure == given.figure, what);
     expect(run->settings.tau == given.settings.tau && run->settings.c == given.settings.c, what);
     expect(run->settings.cutting.eps == given.settings.cutting.eps, what);
+    expect(run->settings.cutting.mode == given.settings.cutting.mode, what);
 }
 
 /* What is given to a fresh run, and behind it what no call has written yet. */
@@ -811,12 +812,14 @@ static void expect_unknown(size_t k, size_t boundary)
     expect(as_wanted(), "slices of a run with an unknown boundary");
 }
 
-/* Who reads fewer of their bits takes each for a known one. */
+/* Numbers of no boundary and of no mode. Who reads fewer of their bits takes each for a known one. */
+static const size_t unknown[] = {2, 3, 0x100, 0x10001, 0x100000000, 0x8000000000000001, SIZE_MAX - 1, SIZE_MAX};
+enum { UNKNOWN = sizeof unknown / sizeof *unknown };
+
 static void unknown_boundaries(void)
 {
-    const size_t unknown[] = {2, 3, 0x100, 0x10001, 0x100000000, 0x8000000000000001, SIZE_MAX - 1};
     for (size_t k = 0; k < ZONES; k++)
-        for (size_t i = 0; i < sizeof unknown / sizeof *unknown; i++)
+        for (size_t i = 0; i < UNKNOWN; i++)
             expect_unknown(k, unknown[i]);
 }
 
@@ -833,6 +836,195 @@ static void unknown_boundaries_beside_others(void)
     expect_refusal(fresh(four_lengths), UYAVSKER_SETTING, 6, "an unknown boundary behind an a below zero");
     axes.axis[14].xmin = NAN;
     expect_refusal(fresh(four_lengths), UYAVSKER_NUMBER, 14, "an unknown boundary before a number that isn't finite");
+}
+
+/* ---- modes: three zones in which nothing moves ---- */
+
+enum { SMALLS = 7, SMALL_POINTS = 4, SMALL_CARRIES = 5, SMALL_SUMS = 4, SMALL_CORE = 4 };
+
+static const size_t small_lengths[] = {SMALLS, SMALL_POINTS, SMALLS, SMALL_CARRIES, SMALL_SUMS, UYAVSKER_SCRATCH(SMALLS)};
+static const size_t small_core[] = {SMALLS, SMALL_POINTS, SMALLS, SMALL_CARRIES, SMALL_SUMS, SMALL_CORE, UYAVSKER_SCRATCH(SMALLS)};
+static const size_t small_weights[] = {SMALLS, SMALL_POINTS, SMALLS, SMALL_CARRIES, SMALL_SUMS, 1, UYAVSKER_SCRATCH(SMALLS)};
+
+/* The columns of zone 0 have 2^-50 in common, of which g*g is below 1e-30 and 2*g*g isn't, but is below 1e-30 times 1 + 1. Zone 1 has
+ * the value 2^-104, which is below 1e-30. */
+static void give_small(size_t mode)
+{
+    const double small[] = {1, 0x1p-50, 0, 1, 0x1p-104, 0, 1};
+    give_ladder();
+    memset(&axes, 0, sizeof axes);
+    given = (uyavsker_run){.shape = {.d = 3, .left = {1, 2, 1}, .n = {2, 1, 1}, .right = {2, 1, 1}},
+                           .settings = {.c = 3, .cutting = {.eps = 0x1p-5, .mode = mode}}};
+    memcpy(lent.source, small, sizeof small);
+    memcpy(lent.chain, small, sizeof small);
+    memcpy(lent.part, small, SMALL_CORE * sizeof *small);
+    for (size_t point = 0; point < SMALL_POINTS; point++)
+        lent.weights[point] = 1;
+    wanted = lent;
+}
+
+/* Absolute: all sweeps are made, and the column of zone 1 becomes 0; scaled: none is, and it is divided by its value. */
+static void want_small(size_t mode)
+{
+    const double divided = mode == UYAVSKER_SCALED ? 1 : 0, last = 0x1p-104;
+    given.bonds[0] = mode == UYAVSKER_SCALED ? (uyavsker_bond){.rank = 2, .settled = true} : (uyavsker_bond){.rank = 2, .sweeps = 50};
+    given.bonds[1] = (uyavsker_bond){.rank = 1, .settled = true};
+    given.figure = divided * last;
+    memcpy(wanted.chain, (double[]){1, 0x1p-50, 0, 1, divided, 0, last}, SMALLS * sizeof(double));
+    memset(wanted.scratch, 0, UYAVSKER_SCRATCH(SMALLS) * sizeof(double));
+}
+
+/* And what a run keeps beside that. */
+static void want_small_run(size_t mode)
+{
+    want_small(mode);
+    memcpy(wanted.carries, (double[]){1, 0, 0, 1, 0x1p-104}, SMALL_CARRIES * sizeof(double));
+    memcpy(wanted.sums, (double[]){1, 1 + 0x1p-50, wanted.chain[4], given.figure}, SMALL_SUMS * sizeof(double));
+}
+
+static uyavsker_refusal round_small(void)
+{
+    rounded = uyavsker_tt_round(given.shape, given.settings.cutting, lent.chain, SMALLS, lent.scratch, UYAVSKER_SCRATCH(SMALLS));
+    return rounded.refusal;
+}
+
+static uyavsker_refusal step_small(void)
+{
+    rounded = uyavsker_step(given.shape, given.settings, axes, 3, lent.chain, SMALLS, lent.scratch, UYAVSKER_SCRATCH(SMALLS));
+    return rounded.refusal;
+}
+
+static uyavsker_refusal evolve_small(void)
+{
+    const uyavsker_course course = {.steps = 2, .c = 3, .cutting = given.settings.cutting};
+    rounded = uyavsker_evolve(given.shape, course, axes, 3, lent.chain, SMALLS, lent.scratch, UYAVSKER_SCRATCH(SMALLS));
+    return rounded.refusal;
+}
+
+static uyavsker_refusal small_axis(void)
+{
+    ran = uyavsker_replace_axis(given, zone, axes.axis[zone], lent.source, SMALLS, lent.weights, SMALL_POINTS, lent.chain, SMALLS,
+                                lent.carries, SMALL_CARRIES, lent.sums, SMALL_SUMS, lent.scratch, UYAVSKER_SCRATCH(SMALLS));
+    return ran.refusal;
+}
+
+static void expect_small(uyavsker_refusal told, const char *what)
+{
+    expect_refusal(told, UYAVSKER_NONE, 0, what);
+    expect(same_shape(&rounded.shape, &given.shape) && same_bonds(rounded.bonds, given.bonds), what);
+    expect(as_wanted(), what);
+}
+
+static void modes_in_steps(void)
+{
+    for (size_t mode = UYAVSKER_ABSOLUTE; mode <= UYAVSKER_SCALED; mode++) {
+        give_small(mode);
+        want_small(mode);
+        expect_small(round_small(), "a mode in tt_round");
+        give_small(mode);
+        want_small(mode);
+        expect_small(step_small(), "a mode in step");
+        give_small(mode);
+        want_small(mode);
+        /* A second step finds 0 where the first has left it, and hands that on. */
+        wanted.chain[6] *= wanted.chain[4];
+        expect_small(evolve_small(), "a mode in evolve");
+    }
+}
+
+static void expect_small_run(uyavsker_refusal told, const char *what)
+{
+    expect_refusal(told, UYAVSKER_NONE, 0, what);
+    expect_record(what);
+    expect(as_wanted(), what);
+}
+
+/* A fresh run in one mode, to which others then write the other: new weights leave what the first one made, a new core and a new record
+ * for zone 0 go by the mode that they find. What is new is what stood there. */
+static void modes_in_runs(void)
+{
+    for (size_t mode = UYAVSKER_ABSOLUTE; mode <= UYAVSKER_SCALED; mode++) {
+        size_t other = mode == UYAVSKER_ABSOLUTE ? UYAVSKER_SCALED : UYAVSKER_ABSOLUTE;
+        give_small(mode);
+        want_small_run(mode);
+        expect_small_run(fresh(small_lengths), "a mode in fresh_run");
+        given.settings.cutting.mode = other;
+        zone = 1;
+        expect_small_run(new_weights(small_weights), "another mode in replace_weights");
+        zone = 0;
+        want_small_run(other);
+        expect_small_run(new_core(small_core), "another mode in replace_core");
+        given.settings.cutting.mode = mode;
+        want_small_run(mode);
+        expect_small_run(small_axis(), "another mode in replace_axis");
+    }
+}
+
+/* No call that takes a mode knows this one, and none writes anything. */
+static void expect_unknown_mode(size_t mode)
+{
+    give_small(mode);
+    expect_unrounded(round_small(), UYAVSKER_SETTING, 0, 0, "an unknown mode in tt_round");
+    expect_unrounded(step_small(), UYAVSKER_SETTING, 0, 0, "an unknown mode in step");
+    expect_unrounded(evolve_small(), UYAVSKER_SETTING, 0, 0, "an unknown mode in evolve");
+    expect_refusal(fresh(small_lengths), UYAVSKER_SETTING, 0, "an unknown mode in fresh_run");
+    expect_record("record with an unknown mode");
+    expect(as_wanted(), "slices with an unknown mode");
+}
+
+/* The same in a run that others wrote it to. */
+static void expect_run_of_unknown_mode(size_t mode)
+{
+    give_small(UYAVSKER_SCALED);
+    expect_refusal(fresh(small_lengths), UYAVSKER_NONE, 0, "a run of a known mode");
+    given = ran.run;
+    given.settings.cutting.mode = mode;
+    wanted = lent;
+    for (zone = 0; zone < 3; zone++)
+        expect_refusal(small_axis(), UYAVSKER_SETTING, 0, "an unknown mode in replace_axis");
+    zone = 0;
+    expect_refusal(new_core(small_core), UYAVSKER_SETTING, 0, "an unknown mode in replace_core");
+    zone = 1;
+    expect_refusal(new_weights(small_weights), UYAVSKER_SETTING, 0, "an unknown mode in replace_weights");
+    expect_record("record of a run of an unknown mode");
+    expect(as_wanted(), "slices of a run of an unknown mode");
+}
+
+static void unknown_modes(void)
+{
+    for (size_t i = 0; i < UNKNOWN; i++) {
+        expect_unknown_mode(unknown[i]);
+        expect_run_of_unknown_mode(unknown[i]);
+    }
+}
+
+/* It is looked at with eps, after the numbers that aren't finite and before what is wrong with an axis. */
+static void unknown_modes_beside_others(void)
+{
+    give_small(2);
+    axes.axis[1].a = -1;
+    expect_refusal(step_small(), UYAVSKER_SETTING, 0, "an unknown mode before an a below zero");
+    axes.axis[2].xmin = NAN;
+    expect_refusal(step_small(), UYAVSKER_NUMBER, 2, "an unknown mode behind a record that isn't finite");
+    lent.chain[4] = NAN;
+    expect_refusal(round_small(), UYAVSKER_NUMBER, 1, "an unknown mode behind a core that isn't finite");
+    expect_refusal(uyavsker_tt_round(given.shape, given.settings.cutting, lent.chain, SMALLS - 1, lent.scratch,
+                                     UYAVSKER_SCRATCH(SMALLS)).refusal, UYAVSKER_LENGTH, 0, "an unknown mode behind a length");
+}
+
+/* The scope's P12: two columns of 2^-27. Scaled, they are turned once by c = 1/sqrt(2) as computed, which leaves the value 2^-26*c and
+ * c*c = 1/2 - 2^-53 to be carried. */
+static void columns_alike(void)
+{
+    const double absolute[] = {1, 1, 0x1p-27, 0x1p-27}, scaled[] = {1, 0x1p-26 * (1 - 0x1p-52), 0, 0};
+    const uyavsker_bond bonds[] = {{.rank = 2, .settled = true}, {.rank = 1, .sweeps = 1, .settled = true}};
+    for (size_t mode = UYAVSKER_ABSOLUTE; mode <= UYAVSKER_SCALED; mode++) {
+        double chain[] = {0x1p-27, 0x1p-27, 1, 1};
+        rounded = uyavsker_tt_round(two_zones(1, 2, 1), (uyavsker_cutting){.mode = mode}, chain, 4, lent.scratch, UYAVSKER_SCRATCH(4));
+        expect_refusal(rounded.refusal, UYAVSKER_NONE, 0, "columns that are alike");
+        expect(same_bond(&rounded.bonds[0], &bonds[mode]), "bond of columns that are alike");
+        expect(same(chain, mode == UYAVSKER_SCALED ? scaled : absolute, 4), "columns that are alike");
+    }
 }
 
 /* ---- pairs ---- */
@@ -987,6 +1179,11 @@ int main(void)
     replaced_boundaries();
     unknown_boundaries();
     unknown_boundaries_beside_others();
+    modes_in_steps();
+    modes_in_runs();
+    unknown_modes();
+    unknown_modes_beside_others();
+    columns_alike();
     pairs();
     refused_pairs();
     pairs_of_one_length();

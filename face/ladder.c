@@ -83,7 +83,7 @@ double evolved_entry(size_t k, size_t il, size_t im, size_t ir)
     return k == LAST ? moved(moved_once, ladder_boundary(LAST), il, im, 1) : source_entry(k, il, im, ir);
 }
 
-const uyavsker_settings ladder_settings = {.tau = 4, .c = -0.5, .cutting = {.eps = 0x1p-5}};
+const uyavsker_settings ladder_settings = {.tau = 4, .c = -0.5, .cutting = {.eps = 0x1p-5, .mode = UYAVSKER_ABSOLUTE}};
 
 /* The points stand one apart, and 2*sqrt(4*a) + 4*b is `by`. */
 uyavsker_axis ladder_axis(size_t k, size_t boundary, double by)

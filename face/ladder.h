@@ -19,7 +19,7 @@ double dropped_value(size_t k);
 
 /* Number (il, im, ir) of zone k. But in the last zone each column has one number in a row of its own, which is then its value:
  * 1, or what is dropped. Column 1 of every third zone also has 2^-50 beside the 1 of column 0: g*g is 2^-100, which is below
- * 1e-30, so no sweep rotates, and 2*g*g isn't, so all 50 are made. */
+ * 1e-30, so in absolute mode no sweep rotates, and 2*g*g isn't, so all 50 are made. */
 double source_entry(size_t k, size_t il, size_t im, size_t ir);
 
 /* The same after one step and after two: zone 0 changes its sign, and the last zone is moved along its axis by one point. */
@@ -34,7 +34,7 @@ double moved(double entry(size_t, size_t), size_t boundary, size_t il, size_t im
 /* Whether a rounding of the ladder makes all 50 sweeps at bond k. */
 bool sweeps_all(size_t k);
 
-/* Settings with 1 + tau*c = -1, and an axis record that moves zone k by so many points. */
+/* Settings with 1 + tau*c = -1 in absolute mode, and an axis record that moves zone k by so many points. */
 extern const uyavsker_settings ladder_settings;
 uyavsker_axis ladder_axis(size_t k, size_t boundary, double by);
 

@@ -25,15 +25,16 @@ AT(uyavsker_axis, boundary, 32);
 
 SIZE(uyavsker_axes, 640);
 
-SIZE(uyavsker_cutting, 8);
+SIZE(uyavsker_cutting, 16);
 AT(uyavsker_cutting, eps, 0);
+AT(uyavsker_cutting, mode, 8);
 
-SIZE(uyavsker_settings, 24);
+SIZE(uyavsker_settings, 32);
 AT(uyavsker_settings, tau, 0);
 AT(uyavsker_settings, c, 8);
 AT(uyavsker_settings, cutting, 16);
 
-SIZE(uyavsker_course, 32);
+SIZE(uyavsker_course, 40);
 AT(uyavsker_course, t_final, 0);
 AT(uyavsker_course, steps, 8);
 AT(uyavsker_course, c, 16);
@@ -72,13 +73,13 @@ SIZE(uyavsker_seen, 16);
 AT(uyavsker_seen, inside, 0);
 AT(uyavsker_seen, value, 8);
 
-SIZE(uyavsker_run, 1576);
+SIZE(uyavsker_run, 1584);
 AT(uyavsker_run, shape, 0);
 AT(uyavsker_run, axes, 392);
 AT(uyavsker_run, settings, 1032);
-AT(uyavsker_run, bonds, 1056);
-AT(uyavsker_run, figure, 1568);
+AT(uyavsker_run, bonds, 1064);
+AT(uyavsker_run, figure, 1576);
 
-SIZE(uyavsker_ran, 1600);
+SIZE(uyavsker_ran, 1608);
 AT(uyavsker_ran, refusal, 0);
 AT(uyavsker_ran, run, 24);

@@ -39,8 +39,8 @@ enum {
     UYAVSKER_ZONE = 4,      /* a zone number of d or more: 0 */
     UYAVSKER_LENGTH = 5,    /* a lent length is wrong: the slice, from 0, in the call's order */
     UYAVSKER_NUMBER = 6,    /* a number isn't finite: its core, axis or zone; a bond's: its left core; a lone setting 0 */
-    UYAVSKER_SETTING = 7,   /* a setting is below zero, a boundary isn't known, or steps are outside limits: the axis for a
-                             * and for a boundary, else 0 */
+    UYAVSKER_SETTING = 7,   /* a setting is below zero, a boundary or a mode isn't known, or steps are outside limits: the axis
+                             * for a and for a boundary, else 0 */
     UYAVSKER_REACH = 8,     /* a shift is too far: the first such axis */
     UYAVSKER_ENTRY = 9,     /* a shifted entry: its axis; a scaled one: 0; index as in its core.
                              * An entry of a pair's slab: 0; index row after row */
@@ -78,7 +78,7 @@ static inline const char *uyavsker_words(uint8_t number)
     case UYAVSKER_ZONE: return "there is no such zone";
     case UYAVSKER_LENGTH: return "a lent length is wrong";
     case UYAVSKER_NUMBER: return "an input number isn't finite";
-    case UYAVSKER_SETTING: return "a setting is below zero, a boundary isn't known, or steps are outside their limits";
+    case UYAVSKER_SETTING: return "a setting is below zero, a boundary or a mode isn't known, or steps are outside their limits";
     case UYAVSKER_REACH: return "a shift is too far";
     case UYAVSKER_ENTRY: return "a shifted or scaled entry, or an entry of a pair's slab, isn't finite";
     case UYAVSKER_RANK: return "a pair's kept rank is above 8";
@@ -121,9 +121,28 @@ typedef struct {
     uyavsker_axis axis[UYAVSKER_MOST_AXES];
 } uyavsker_axes;
 
-/* How a cut is made: kept is what lies above eps times the largest value. */
+/* What a cut takes for nothing. A bond's columns are turned pair by pair, in sweeps, until no two have anything in common; then
+ * each that is kept is divided by its value. In the Gram matrix g is what two columns have in common, and the diagonal has what
+ * each has by itself.
+ *
+ * Absolute: nothing is what is below 1e-30, whatever stands beside it. Sweeps stop where the sum of 2*g*g over all pairs is; a
+ * pair is skipped where g*g is; a column becomes 0 where its value isn't above 1e-30. So where rare events are multiplied the
+ * figure can come out as 0, and columns of small numbers that are alike all stay.
+ *
+ * Scaled: nothing is what is that small beside the bond's own numbers, so rare events keep their chance. Sweeps stop where the
+ * sum is below 1e-30 times the sum of the diagonal's squares, or zero; a pair is skipped where g*g is below 1e-30 times the
+ * product of its two diagonal entries, or g is zero; a column is divided wherever its value is above zero. Powers of
+ * small numbers end up as zero here too: below some 1e-81 columns aren't turned any more, and below some 1e-162 they become 0. */
+enum {
+    UYAVSKER_ABSOLUTE = 0, /* the Rust's own rule */
+    UYAVSKER_SCALED = 1    /* for chances that are small all together */
+};
+
+/* How a cut is made: kept is what lies above eps times the largest value. Of the mode there are the two above: any other is
+ * refused with 7 at 0. An initialiser that names no mode leaves it 0, which is absolute. */
 typedef struct {
     double eps;
+    size_t mode;
 } uyavsker_cutting;
 
 /* The lone settings of a step. */
@@ -150,9 +169,9 @@ typedef struct {
 
 /* ---- what a call answers ---- */
 
-/* What is said of a bond: the rank kept, the sweeps made, whether the sum is below 1e-30 at their end, and the largest
- * singular value that was dropped, +0 if all were kept. The values are those of the bond's matrix as rounding meets it, which
- * is its left core with what the bond before handed on. `settled` holds nothing but true and false. */
+/* What is said of a bond: the rank kept, the sweeps made, whether the sum was small at their end, by the mode's own test, and
+ * the largest singular value that was dropped, +0 if all were kept. The values are those of the bond's matrix as rounding
+ * meets it, which is its left core with what the bond before handed on. `settled` holds nothing but true and false. */
 typedef struct {
     size_t rank;
     size_t sweeps;
@@ -195,7 +214,7 @@ typedef struct {
 
 /* A kept run but for its five slices: what it is made from; what is said of bond k; the figure. `dropped` of the first d - 1
  * bonds must be finite, else a replacement refuses the run with 6 at the bond's left core; behind them it may be anything,
- * and stays. */
+ * and stays. The mode must be known, else a replacement refuses the run with 7 at 0. */
 typedef struct {
     uyavsker_shape shape;
     uyavsker_axis axes[UYAVSKER_MOST_AXES];

@@ -1,7 +1,7 @@
-//! A plan of two zones: its figure, its file and two roundings, of which one drops a value; of one zone: a step around its
-//! axis, one that reflects and one that is refused, and a run with new weights; of two zones again: a run that refuses a wild
-//! forecast and a wild weight.
-use uyavsker::{text_of, Axis, Boundary, Chain, Cutting, Refusal, Run, Settings, Shape};
+//! A plan of two zones: its figure, its file and two roundings, of which one drops a value; small numbers rounded in both
+//! modes, and a rounding that is refused; of one zone: a step around its axis, one that reflects and one that is refused, and a
+//! run with new weights; of two zones again: a run that refuses a wild forecast and a wild weight.
+use uyavsker::{text_of, Axis, Boundary, Chain, Cutting, Mode, Refusal, Run, Settings, Shape};
 
 fn print_numbers(name: &str, numbers: &[f64]) {
     let words: Vec<String> = numbers.iter().map(f64::to_string).collect();
@@ -18,9 +18,19 @@ fn print_file(chain: &Chain) -> Result<(), Refusal> {
     Ok(())
 }
 
+const ABSOLUTE: Cutting = Cutting {
+    eps: 0.0,
+    mode: Mode::Absolute,
+};
+
+const SCALED: Cutting = Cutting {
+    mode: Mode::Scaled,
+    ..ABSOLUTE
+};
+
 // At its bond the plan has the values 4 and 3. With eps 0.75 the second isn't above 0.75*4, and is dropped.
 fn print_rounding(mut chain: Chain, weights: &[f64], eps: f64) -> Result<(), Refusal> {
-    let bond = chain.round(&Cutting { eps })?.bonds()[0];
+    let bond = chain.round(&Cutting { eps, ..ABSOLUTE })?.bonds()[0];
     let settled = if bond.settled { "yes" } else { "no" };
     let (rank, sweeps, dropped) = (bond.rank, bond.sweeps, bond.dropped);
     print_numbers("rounded", chain.numbers());
@@ -29,10 +39,44 @@ fn print_rounding(mut chain: Chain, weights: &[f64], eps: f64) -> Result<(), Ref
     Ok(())
 }
 
+// A chance of 2^-104 beside a sure one: in absolute mode it is below 1e-30, and vanishes.
+fn print_rare(name: &str, cutting: Cutting) -> Result<(), Refusal> {
+    let small = 2f64.powi(-104);
+    let mut chain = Chain::new(Shape::new(&[(1, 1, 1); 2])?, vec![small, 1.0])?;
+    chain.round(&cutting)?;
+    let figure = chain.inner(&[1.0; 2])? / small;
+    println!("{name}: figure {figure} times 2^-104");
+    Ok(())
+}
+
+// Two columns of 2^-27 are the same, and one would do: what they have in common is 2^-54, whose square is below 1e-30, so that in
+// absolute mode they aren't turned.
+fn print_alike(name: &str, cutting: Cutting) -> Result<(), Refusal> {
+    let small = 2f64.powi(-27);
+    let shape = Shape::new(&[(1, 1, 2), (2, 1, 1)])?;
+    let mut chain = Chain::new(shape, vec![small, small, 1.0, 1.0])?;
+    let bond = chain.round(&cutting)?.bonds()[0];
+    println!("{name}: rank {}, sweeps {}", bond.rank, bond.sweeps);
+    Ok(())
+}
+
+// As with a boundary below, C's program has a mode refused that isn't known, where here eps is below zero.
+fn print_modes() -> Result<(), Refusal> {
+    print_rare("absolute", ABSOLUTE)?;
+    print_rare("scaled", SCALED)?;
+    print_alike("absolute", ABSOLUTE)?;
+    print_alike("scaled", SCALED)?;
+    let (eps, mode) = (-1.0, Mode::Scaled);
+    if let Err(refusal) = print_rare("below zero", Cutting { eps, mode }) {
+        println!("{refusal}");
+    }
+    Ok(())
+}
+
 const SETTINGS: Settings = Settings {
     tau: 1.0,
     c: 0.0,
-    cutting: Cutting { eps: 0.0 },
+    cutting: ABSOLUTE,
 };
 
 const AXIS: Axis = Axis {
@@ -108,6 +152,7 @@ fn main() -> Result<(), Refusal> {
     print_file(&chain)?;
     print_rounding(chain.clone(), &weights, 0.0)?;
     print_rounding(chain, &weights, 0.75)?;
+    print_modes()?;
     let (one_zone, numbers) = (Shape::new(&[(1, 4, 1)])?, [4.0, 8.0, 16.0, 0.0]);
     print_steps(one_zone, &numbers)?;
     print_run(one_zone, &numbers)?;

@@ -59,7 +59,7 @@ pub fn tt_round(
     chain: &mut [f64],
     scratch: &mut [f64],
 ) -> Result<Rounded, Refusal> {
-    Rounded::of(raw::tt_round(shape.raw, *cutting, chain, scratch))
+    Rounded::of(raw::tt_round(shape.raw, cutting.raw(), chain, scratch))
 }
 
 /// One step of a chain, with one record per axis.
@@ -72,7 +72,7 @@ pub fn step(
 ) -> Result<Rounded, Refusal> {
     let told = raw::step(
         shape.raw,
-        *settings,
+        settings.raw(),
         listed(axes),
         axes.len(),
         chain,
@@ -90,7 +90,14 @@ pub fn evolve(
     chain: &mut [f64],
     scratch: &mut [f64],
 ) -> Result<Rounded, Refusal> {
-    let told = raw::evolve(shape.raw, *course, listed(axes), axes.len(), chain, scratch);
+    let told = raw::evolve(
+        shape.raw,
+        course.raw(),
+        listed(axes),
+        axes.len(),
+        chain,
+        scratch,
+    );
     Rounded::of(told)
 }
 

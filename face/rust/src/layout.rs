@@ -1,5 +1,5 @@
 //! The records as C has them, with the layout that face/layout.c states too.
-use crate::records::{Bond, Course, Cutting, Settings};
+use crate::records::Bond;
 use std::mem::{offset_of, size_of};
 
 pub const MOST_AXES: usize = 16;
@@ -40,6 +40,34 @@ pub const REFLECTING: usize = 1;
 #[derive(Clone, Copy)]
 pub struct Axes {
     pub axis: [Axis; MOST_AXES],
+}
+
+/// The mode is a number here, as a boundary is.
+#[repr(C)]
+#[derive(Clone, Copy, Debug)]
+pub struct Cutting {
+    pub eps: f64,
+    pub mode: usize,
+}
+
+pub const ABSOLUTE: usize = 0;
+pub const SCALED: usize = 1;
+
+#[repr(C)]
+#[derive(Clone, Copy, Debug)]
+pub struct Settings {
+    pub tau: f64,
+    pub c: f64,
+    pub cutting: Cutting,
+}
+
+#[repr(C)]
+#[derive(Clone, Copy)]
+pub struct Course {
+    pub t_final: f64,
+    pub steps: usize,
+    pub c: f64,
+    pub cutting: Cutting,
 }
 
 #[repr(C)]
@@ -113,10 +141,13 @@ const _: () = {
     assert!(offset_of!(Axis, b) == 8 && offset_of!(Axis, xmin) == 16);
     assert!(offset_of!(Axis, xmax) == 24 && offset_of!(Axis, boundary) == 32);
     assert!(size_of::<Axes>() == 640);
-    assert!(size_of::<Settings>() == 24 && offset_of!(Settings, c) == 8);
-    assert!(offset_of!(Settings, cutting) == 16 && size_of::<Cutting>() == 8);
-    assert!(size_of::<Course>() == 32 && offset_of!(Course, steps) == 8);
-    assert!(offset_of!(Course, c) == 16 && offset_of!(Course, cutting) == 24);
+    assert!(size_of::<Cutting>() == 16 && offset_of!(Cutting, eps) == 0);
+    assert!(offset_of!(Cutting, mode) == 8);
+    assert!(size_of::<Settings>() == 32 && offset_of!(Settings, tau) == 0);
+    assert!(offset_of!(Settings, c) == 8 && offset_of!(Settings, cutting) == 16);
+    assert!(size_of::<Course>() == 40 && offset_of!(Course, t_final) == 0);
+    assert!(offset_of!(Course, steps) == 8 && offset_of!(Course, c) == 16);
+    assert!(offset_of!(Course, cutting) == 24);
     assert!(size_of::<Sizes>() == 24 && offset_of!(Sizes, n) == 8);
     assert!(offset_of!(Sizes, right) == 16);
     assert!(size_of::<Bond>() == 32 && offset_of!(Bond, rank) == 0);
@@ -129,8 +160,8 @@ const _: () = {
     assert!(size_of::<Paired>() == 40 && offset_of!(Paired, rank) == 24);
     assert!(offset_of!(Paired, passes) == 32);
     assert!(size_of::<Seen>() == 16 && offset_of!(Seen, value) == 8);
-    assert!(size_of::<Run>() == 1576 && offset_of!(Run, axes) == 392);
-    assert!(offset_of!(Run, settings) == 1032 && offset_of!(Run, bonds) == 1056);
-    assert!(offset_of!(Run, figure) == 1568);
-    assert!(size_of::<Ran>() == 1600 && offset_of!(Ran, run) == 24);
+    assert!(size_of::<Run>() == 1584 && offset_of!(Run, axes) == 392);
+    assert!(offset_of!(Run, settings) == 1032 && offset_of!(Run, bonds) == 1064);
+    assert!(offset_of!(Run, figure) == 1576);
+    assert!(size_of::<Ran>() == 1608 && offset_of!(Ran, run) == 24);
 };

@@ -20,7 +20,7 @@ pub use calls::{
     read_chain, root, step, text_of, tt_round, write_chain, PAIR_SCRATCH,
 };
 pub use chain::Chain;
-pub use records::{Axis, Bond, Boundary, Course, Cutting, Paired, Rounded, Settings};
+pub use records::{Axis, Bond, Boundary, Course, Cutting, Mode, Paired, Rounded, Settings};
 pub use refusal::Refusal;
 pub use run::Run;
 pub use shape::Shape;

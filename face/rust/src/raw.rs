@@ -1,7 +1,6 @@
 //! The functions of the archive, and all unsafe code. What a function asks is that its slices are as long as said and that a
 //! written one overlaps no other, which references ensure.
 use crate::layout::*;
-use crate::records::{Course, Cutting, Settings};
 
 mod c {
     use super::*;

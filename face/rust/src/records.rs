@@ -54,15 +54,54 @@ impl Axis {
     }
 }
 
+/// What a cut takes for nothing. A bond's columns are turned pair by pair, in sweeps, until no two have anything in common; then
+/// each that is kept is divided by its value. In the Gram matrix g is what two columns have in common, and the diagonal has what
+/// each has by itself.
+#[derive(Clone, Copy, Debug, Default, PartialEq, Eq)]
+pub enum Mode {
+    /// What is below 1e-30, whatever stands beside it: the rule of the library that this is a port of. Sweeps stop where the sum
+    /// of 2*g*g over all pairs is; a pair is skipped where g*g is; a column becomes 0 where its value isn't above 1e-30. So where
+    /// rare events are multiplied the figure can come out as 0, and columns of small numbers that are alike all stay.
+    #[default]
+    Absolute,
+    /// What is that small beside the bond's own numbers, so rare events keep their chance. Sweeps stop where the sum is below
+    /// 1e-30 times the sum of the diagonal's squares, or zero; a pair is skipped where g*g is below 1e-30 times the product of
+    /// its two diagonal entries, or g is zero; a column is divided wherever its value is above zero. Powers of small
+    /// numbers end up as zero here too: below some 1e-81 columns aren't turned any more, and below some 1e-162 they become 0.
+    Scaled,
+}
+
 /// How a cut is made: kept is what lies above eps times the largest value.
-#[repr(C)]
 #[derive(Clone, Copy, Debug, PartialEq)]
 pub struct Cutting {
     pub eps: f64,
+    pub mode: Mode,
+}
+
+impl Cutting {
+    pub(crate) fn raw(&self) -> layout::Cutting {
+        layout::Cutting {
+            eps: self.eps,
+            mode: match self.mode {
+                Mode::Absolute => layout::ABSOLUTE,
+                Mode::Scaled => layout::SCALED,
+            },
+        }
+    }
+
+    // As with a boundary, no number that means neither comes here.
+    fn of(told: layout::Cutting) -> Cutting {
+        Cutting {
+            eps: told.eps,
+            mode: match told.mode {
+                layout::SCALED => Mode::Scaled,
+                _ => Mode::Absolute,
+            },
+        }
+    }
 }
 
 /// The lone settings of a step.
-#[repr(C)]
 #[derive(Clone, Copy, Debug, PartialEq)]
 pub struct Settings {
     pub tau: f64,
@@ -70,14 +109,42 @@ pub struct Settings {
     pub cutting: Cutting,
 }
 
+impl Settings {
+    pub(crate) fn raw(&self) -> layout::Settings {
+        layout::Settings {
+            tau: self.tau,
+            c: self.c,
+            cutting: self.cutting.raw(),
+        }
+    }
+
+    pub(crate) fn of(told: layout::Settings) -> Settings {
+        Settings {
+            tau: told.tau,
+            c: told.c,
+            cutting: Cutting::of(told.cutting),
+        }
+    }
+}
+
 /// Steps one after another: how far, in how many (1 to 10,000), and the lone settings of each.
-#[repr(C)]
 #[derive(Clone, Copy, Debug, PartialEq)]
 pub struct Course {
     pub t_final: f64,
     pub steps: usize,
     pub c: f64,
     pub cutting: Cutting,
+}
+
+impl Course {
+    pub(crate) fn raw(&self) -> layout::Course {
+        layout::Course {
+            t_final: self.t_final,
+            steps: self.steps,
+            c: self.c,
+            cutting: self.cutting.raw(),
+        }
+    }
 }
 
 /// What is said of a bond.
@@ -88,7 +155,8 @@ pub struct Bond {
     pub rank: usize,
     /// The sweeps made.
     pub sweeps: usize,
-    /// Whether the sum is below 1e-30 at their end.
+    /// Whether the sum was small at their end, by the mode's own test: below 1e-30, or below 1e-30 times the sum of the
+    /// diagonal's squares, or zero.
     pub settled: bool,
     /// The largest singular value that was dropped, +0 if all were kept; `evolve` answers the greatest of all its steps. The
     /// values are those of the bond's matrix as rounding meets it, which is its left core with what the bond before handed on.

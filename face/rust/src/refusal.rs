@@ -27,7 +27,7 @@ impl Refusal {
             4 => "there is no such zone",
             5 => "a lent length is wrong",
             6 => "an input number isn't finite",
-            7 => "a setting is below zero, a boundary isn't known, or steps are outside their limits",
+            7 => "a setting is below zero, a boundary or a mode isn't known, or steps are outside their limits",
             8 => "a shift is too far",
             9 => "a shifted or scaled entry, or an entry of a pair's slab, isn't finite",
             10 => "a pair's kept rank is above 8",

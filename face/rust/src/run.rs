@@ -42,8 +42,9 @@ impl Slices {
 #[derive(Clone, Debug)]
 pub struct Run {
     record: layout::Run,
-    // The record's own axes, whose boundaries are numbers there.
+    // The record's own axes and settings, whose boundaries and mode are numbers there.
     axes: [Axis; MOST_AXES],
+    settings: Settings,
     source: Vec<f64>,
     weights: Vec<f64>,
     kept: Slices,
@@ -66,11 +67,12 @@ impl Run {
             });
         }
         let mut kept = Slices::new(shape);
-        let axes = listed(axes);
-        let told = raw::fresh_run(shape.raw, axes, *settings, &source, &weights, kept.lent());
+        let (axes, settings) = (listed(axes), settings.raw());
+        let told = raw::fresh_run(shape.raw, axes, settings, &source, &weights, kept.lent());
         let run = Run {
             record: told.run,
             axes: told.run.axes.map(Axis::of),
+            settings: Settings::of(told.run.settings),
             source,
             weights,
             kept,
@@ -105,6 +107,7 @@ impl Run {
     fn answered(&mut self, told: layout::Ran) -> Result<f64, Refusal> {
         self.record = told.run;
         self.axes = told.run.axes.map(Axis::of);
+        self.settings = Settings::of(told.run.settings);
         Refusal::or(told.refusal, told.run.figure)
     }
 
@@ -120,7 +123,7 @@ impl Run {
     }
 
     pub fn settings(&self) -> &Settings {
-        &self.record.settings
+        &self.settings
     }
 
     pub fn axes(&self) -> &[Axis] {

@@ -7,6 +7,11 @@ fn shape_of_d() -> Shape {
     Shape::new(&[(1, 2, 2), (2, 1, 1)]).unwrap()
 }
 
+fn absolute(eps: f64) -> Cutting {
+    let mode = Mode::Absolute;
+    Cutting { eps, mode }
+}
+
 // A number to be stored isn't finite.
 fn stored(number: u8, place: usize, index: usize) -> Refusal {
     Refusal {
@@ -51,7 +56,7 @@ fn a_rounding() {
     let shape = shape_of_d();
     let mut chain = D;
     let mut scratch = vec![7.5; shape.scratch()];
-    let rounded = tt_round(&shape, &Cutting { eps: 0.0 }, &mut chain, &mut scratch).unwrap();
+    let rounded = tt_round(&shape, &absolute(0.0), &mut chain, &mut scratch).unwrap();
     assert_eq!(chain, [0.0, 1.0, 1.0, 0.0, 4.0, 3.0]);
     let bond = Bond {
         rank: 2,
@@ -66,7 +71,7 @@ fn a_rounding() {
 #[test]
 fn a_rounding_that_cuts() {
     let mut chain = Chain::new(shape_of_d(), D.to_vec()).unwrap();
-    let rounded = chain.round(&Cutting { eps: 0.75 }).unwrap();
+    let rounded = chain.round(&absolute(0.75)).unwrap();
     // The bond's values are 4 and 3, and 3 isn't above 0.75*4.
     let bond = Bond {
         rank: 1,
@@ -89,8 +94,90 @@ fn the_largest_value_dropped() {
     // The bond's values are 2, 4 and 3, of which those above eps times 4 are kept.
     for (eps, rank, dropped) in [(0.75, 1, 3.0), (0.5, 2, 2.0), (0.25, 3, 0.0)] {
         let mut chain = Chain::new(shape, numbers.to_vec()).unwrap();
-        let bond = chain.round(&Cutting { eps }).unwrap().bonds()[0];
+        let bond = chain.round(&absolute(eps)).unwrap().bonds()[0];
         assert_eq!((bond.rank, bond.dropped), (rank, dropped));
+    }
+}
+
+// The chain rounded in this mode with eps 0, and what is said of its first bond.
+fn rounded(cores: &[(usize, usize, usize)], numbers: &[f64], mode: Mode) -> (Vec<f64>, Bond) {
+    let mut chain = Chain::new(Shape::new(cores).unwrap(), numbers.to_vec()).unwrap();
+    let bond = chain.round(&Cutting { eps: 0.0, mode }).unwrap().bonds()[0];
+    (chain.numbers().to_vec(), bond)
+}
+
+fn bond(rank: usize, sweeps: usize, settled: bool) -> Bond {
+    Bond {
+        rank,
+        sweeps,
+        settled,
+        dropped: 0.0,
+    }
+}
+
+#[test]
+fn a_small_value() {
+    let (cores, small) = ([(1, 1, 1); 2], 2f64.powi(-104));
+    for (mode, divided) in [(Mode::Absolute, 0.0), (Mode::Scaled, 1.0)] {
+        let told = rounded(&cores, &[small, 1.0], mode);
+        assert_eq!(told, (vec![divided, small], bond(1, 0, true)));
+    }
+}
+
+#[test]
+fn small_columns_that_are_alike() {
+    let (cores, small) = ([(1, 1, 2), (2, 1, 1)], 2f64.powi(-27));
+    let told = |mode| rounded(&cores, &[small, small, 1.0, 1.0], mode);
+    let stay = vec![1.0, 1.0, small, small];
+    assert_eq!(told(Mode::Absolute), (stay, bond(2, 0, true)));
+    // They are turned once by c = 1/sqrt(2) as computed. The value is then 2^-26*c, and c*c = 1/2 - 2^-53 of 2^-26 is carried twice.
+    let one = vec![1.0, 2.0 * small * (1.0 - f64::EPSILON)];
+    assert_eq!(told(Mode::Scaled), (one, bond(1, 1, true)));
+}
+
+// The square of 2^-538 is 0, and so is what two columns of 2^-270 have in common once it is squared.
+#[test]
+fn numbers_that_are_too_small_for_the_scaled_mode() {
+    let (less, least) = (2f64.powi(-270), 2f64.powi(-538));
+    let none = rounded(&[(1, 1, 1); 2], &[least, 1.0], Mode::Scaled);
+    assert_eq!(none, (vec![0.0, 0.0], bond(1, 0, true)));
+    let cores = [(1, 1, 2), (2, 1, 1)];
+    let both = rounded(&cores, &[less, less, 1.0, 1.0], Mode::Scaled);
+    assert_eq!(both, (vec![1.0, 1.0, less, less], bond(2, 0, true)));
+}
+
+#[test]
+fn columns_that_have_little_in_common() {
+    let (cores, little) = ([(1, 2, 2), (2, 1, 1)], 2f64.powi(-50));
+    let numbers = vec![1.0, little, 0.0, 1.0, 1.0, 1.0];
+    // g*g is 2^-100 and below 1e-30, so no pair is turned; 2*g*g isn't, but is below 1e-30 times 1 + 1.
+    let told = [Mode::Absolute, Mode::Scaled].map(|mode| rounded(&cores, &numbers, mode));
+    let wanted = [bond(2, 50, false), bond(2, 0, true)].map(|bond| (numbers.clone(), bond));
+    assert_eq!(told, wanted);
+}
+
+#[test]
+fn large_columns_that_have_little_in_common() {
+    let (cores, large) = ([(1, 2, 2), (2, 1, 1)], 2f64.powi(50));
+    let numbers = [large, 1.0, 0.0, large, 1.0, 1.0];
+    // g is 2^50 beside 2^100 on the diagonal: scaled, that is as above. Absolute, the pair is turned.
+    let scaled = rounded(&cores, &numbers, Mode::Scaled);
+    let divided = vec![1.0, 1.0 / large, 0.0, 1.0, large, large];
+    assert_eq!(scaled, (divided, bond(2, 0, true)));
+    assert_ne!(rounded(&cores, &numbers, Mode::Absolute).1.sweeps, 0);
+}
+
+#[test]
+fn a_cut_is_absolute_unless_it_is_told_otherwise() {
+    assert_eq!(Mode::default(), Mode::Absolute);
+}
+
+#[test]
+fn a_setting_below_zero_is_refused_in_both_modes() {
+    for mode in [Mode::Absolute, Mode::Scaled] {
+        let mut chain = Chain::new(shape_of_d(), D.to_vec()).unwrap();
+        let refused = chain.round(&Cutting { eps: -1.0, mode });
+        assert_eq!((refused, chain.numbers()), (Err(refusal(7, 0)), &D[..]));
     }
 }
 
@@ -137,7 +224,7 @@ fn a_step() {
     let settings = Settings {
         tau: 1.0,
         c: 0.0,
-        cutting: Cutting { eps: 0.0 },
+        cutting: absolute(0.0),
     };
     let mut chain = [4.0, 8.0, 16.0, 0.0];
     let mut scratch = vec![0.0; shape.scratch()];
@@ -159,7 +246,7 @@ fn moved_by(points: f64, boundary: Boundary, numbers: &[f64]) -> Vec<f64> {
     let settings = Settings {
         tau: 1.0,
         c: 0.0,
-        cutting: Cutting { eps: 0.0 },
+        cutting: absolute(0.0),
     };
     let shape = Shape::new(&[(1, numbers.len(), 1)]).unwrap();
     let mut chain = Chain::new(shape, numbers.to_vec()).unwrap();
@@ -227,7 +314,7 @@ fn steps_of_a_course_are_single_steps() {
             t_final: 2.0,
             steps: 2,
             c: 0.5,
-            cutting: Cutting { eps: 0.0 },
+            cutting: absolute(0.0),
         },
         &[AXIS],
     )
@@ -235,7 +322,7 @@ fn steps_of_a_course_are_single_steps() {
     let settings = Settings {
         tau: 1.0,
         c: 0.5,
-        cutting: Cutting { eps: 0.0 },
+        cutting: absolute(0.0),
     };
     twice.step(&settings, &[AXIS]).unwrap();
     twice.step(&settings, &[AXIS]).unwrap();
@@ -245,7 +332,7 @@ fn steps_of_a_course_are_single_steps() {
             t_final: 2.0,
             steps: 0,
             c: 0.5,
-            cutting: Cutting { eps: 0.0 },
+            cutting: absolute(0.0),
         },
         &[AXIS],
     );
@@ -262,7 +349,7 @@ fn halving(third: f64) -> Chain {
 
 #[test]
 fn a_course_answers_the_greatest_value_that_it_dropped() {
-    let (axes, cutting) = ([AXIS, Axis::default()], Cutting { eps: 0.5 });
+    let (axes, cutting) = ([AXIS, Axis::default()], absolute(0.5));
     let (tau, c) = (1.0, 0.0);
     let course = Course {
         t_final: 3.0,
@@ -346,7 +433,7 @@ fn refused_step(
     let settings = Settings {
         tau: 1.0,
         c,
-        cutting: Cutting { eps: 0.0 },
+        cutting: absolute(0.0),
     };
     let mut chain = Chain::new(Shape::new(cores).unwrap(), numbers.to_vec()).unwrap();
     let before = chain.clone();
@@ -381,7 +468,7 @@ fn a_scaled_entry_that_is_too_large() {
 // What a rounding of these cores refuses.
 fn refused_rounding(cores: &[(usize, usize, usize)], numbers: &[f64]) -> Refusal {
     let mut chain = Chain::new(Shape::new(cores).unwrap(), numbers.to_vec()).unwrap();
-    chain.round(&Cutting { eps: 0.0 }).unwrap_err()
+    chain.round(&absolute(0.0)).unwrap_err()
 }
 
 #[test]

@@ -359,7 +359,10 @@ fn four_axis(boundary: Boundary) -> Axis {
 const FOUR_SETTINGS: Settings = Settings {
     tau: 1.0,
     c: 0.0,
-    cutting: Cutting { eps: 0.0 },
+    cutting: Cutting {
+        eps: 0.0,
+        mode: Mode::Absolute,
+    },
 };
 
 // Sixteen such zones: their axes, their numbers before a step and after it.
@@ -417,6 +420,120 @@ fn replaced_boundaries() {
     }
 }
 
+const MODES: [Mode; 2] = [Mode::Absolute, Mode::Scaled];
+
+// Three zones in which nothing moves. The columns of zone 0 have 2^-50 in common, of which g*g is below 1e-30 and 2*g*g isn't, but is
+// below 1e-30 times 1 + 1. Zone 1 has the value 2^-104, which is below 1e-30.
+fn small() -> (Shape, Vec<f64>) {
+    let shape = Shape::new(&[(1, 2, 2), (2, 1, 1), (1, 1, 1)]).unwrap();
+    let (little, rare) = (2f64.powi(-50), 2f64.powi(-104));
+    (shape, vec![1.0, little, 0.0, 1.0, rare, 0.0, 1.0])
+}
+
+fn small_settings(mode: Mode) -> Settings {
+    Settings {
+        tau: 0.0,
+        c: 3.0,
+        cutting: Cutting {
+            eps: 1.0 / 32.0,
+            mode,
+        },
+    }
+}
+
+// What they become, and what is said of their bonds. Absolute: all sweeps are made, and the column of zone 1 becomes 0; scaled: none is,
+// and it is divided by its value.
+fn small_after(mode: Mode) -> (Vec<f64>, [Bond; 2]) {
+    let scaled = mode == Mode::Scaled;
+    let mut after = small().1;
+    (after[4], after[6]) = (f64::from(scaled), after[4]);
+    let bond = |rank, settled: bool| Bond {
+        rank,
+        sweeps: if settled { 0 } else { 50 },
+        settled,
+        dropped: 0.0,
+    };
+    (after, [bond(2, scaled), bond(1, true)])
+}
+
+#[test]
+fn modes_in_steps() {
+    let (shape, before) = small();
+    for mode in MODES {
+        let (after, bonds) = small_after(mode);
+        let (settings, records) = (small_settings(mode), [Axis::default(); 3]);
+        let mut chains = [0; 3].map(|_| Chain::new(shape, before.clone()).unwrap());
+        let course = Course {
+            t_final: 0.0,
+            steps: 2,
+            c: settings.c,
+            cutting: settings.cutting,
+        };
+        let told = [
+            chains[0].round(&settings.cutting),
+            chains[1].step(&settings, &records),
+            chains[2].evolve(&course, &records),
+        ];
+        for rounded in told {
+            assert_bonds(rounded.unwrap().bonds(), &bonds);
+        }
+        assert_eq!(
+            (chains[0].numbers(), chains[1].numbers()),
+            (&after[..], &after[..])
+        );
+        // A second step finds 0 where the first has left it, and hands that on.
+        let mut twice = after;
+        twice[6] *= twice[4];
+        assert_eq!(chains[2].numbers(), twice);
+    }
+}
+
+fn small_run(mode: Mode) -> Run {
+    let ((shape, source), records) = (small(), [Axis::default(); 3]);
+    Run::fresh(
+        &shape,
+        &records,
+        &small_settings(mode),
+        source,
+        vec![1.0; 4],
+    )
+    .unwrap()
+}
+
+fn assert_small(run: &Run, mode: Mode) {
+    let (after, bonds) = small_after(mode);
+    let (little, rare) = (2f64.powi(-50), 2f64.powi(-104));
+    assert_bonds(run.bonds(), &bonds);
+    assert_eq!(run.settings(), &small_settings(mode));
+    assert_eq!(run.stepped(), after);
+    assert_eq!(run.carries(), [1.0, 0.0, 0.0, 1.0, rare]);
+    assert_eq!(run.sums(), [1.0, 1.0 + little, after[4], after[4] * rare]);
+    assert_eq!(run.figure(), after[4] * rare);
+}
+
+// A replacement by what stands there makes anew what a fresh run made in the same mode.
+#[test]
+fn modes_in_runs() {
+    for mode in MODES {
+        let mut run = small_run(mode);
+        assert_small(&run, mode);
+        run.replace_core(0, &[1.0; 4]).unwrap();
+        assert_ne!(run.stepped(), small_after(mode).0);
+        run.replace_core(0, &small().1[..4]).unwrap();
+        assert_small(&run, mode);
+        for zone in 0..3 {
+            run.replace_core(1, &[1.0, 0.0]).unwrap();
+            assert_eq!(run.figure(), 1.0);
+            run.replace_core(1, &small().1[4..6]).unwrap();
+            run.replace_axis(zone, &Axis::default()).unwrap();
+            assert_small(&run, mode);
+        }
+        run.replace_weights(1, &[0.5]).unwrap();
+        run.replace_weights(1, &[1.0]).unwrap();
+        assert_small(&run, mode);
+    }
+}
+
 // As in the figure and in the rounding above; a run has zone 0 with another sign, and point 6 of zone 2 is point 25 of all.
 #[test]
 fn refused_runs() {
@@ -443,8 +560,7 @@ fn a_run_of_slices_of_one_length() {
     let shape = Shape::new(&[(1, 2, 2), (2, 1, 1)]).unwrap();
     let settings = Settings {
         tau: 0.0,
-        c: 0.0,
-        cutting: Cutting { eps: 0.0 },
+        ..FOUR_SETTINGS
     };
     let source = vec![3.0, 0.0, 0.0, 4.0, 1.0, 1.0];
     let mut run = Run::fresh(

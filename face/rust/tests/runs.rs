@@ -1,10 +1,18 @@
 //! Kept runs: what a replacement leaves is the fresh run on the present inputs.
-use uyavsker::{Axis, Bond, Boundary, Cutting, Refusal, Run, Settings, Shape};
+use uyavsker::{Axis, Bond, Boundary, Cutting, Mode, Refusal, Run, Settings, Shape};
 
 const SETTINGS: Settings = Settings {
     tau: 0.5,
     c: 0.25,
-    cutting: Cutting { eps: 1e-12 },
+    cutting: Cutting {
+        eps: 1e-12,
+        mode: Mode::Absolute,
+    },
+};
+
+const KEEP_ALL: Cutting = Cutting {
+    eps: 0.0,
+    mode: Mode::Absolute,
 };
 
 const AXES: [Axis; 3] = [
@@ -73,7 +81,7 @@ fn a_fresh_run_is_a_step_and_its_figure() {
     let settings = Settings {
         tau: 1.0,
         c: 0.0,
-        cutting: Cutting { eps: 0.0 },
+        cutting: KEEP_ALL,
     };
     let axis = Axis {
         a: 0.25,
@@ -184,24 +192,59 @@ fn a_replaced_boundary_of_one_point() {
     }
 }
 
-// With eps 1 a bond keeps its largest value alone, and drops the next.
-#[test]
-fn a_replacement_drops_what_a_fresh_run_drops() {
-    let (s, cutting) = (shape(), Cutting { eps: 1.0 });
+fn made_with(cutting: Cutting, source: &[f64]) -> Run {
     let settings = Settings {
         cutting,
         ..SETTINGS
     };
-    let made = |source| Run::fresh(&s, &AXES, &settings, source, numbers(s.points(), 2)).unwrap();
-    for (zone, range) in [(0, 0..8), (1, 8..26), (2, 26..41)] {
-        let mut source = numbers(s.entries(), 1);
-        let part = numbers(range.len(), 3);
-        let mut run = made(source.clone());
-        run.replace_core(zone, &part).unwrap();
-        source[range].copy_from_slice(&part);
-        assert_same(&run, &made(source));
-        assert!(run.bonds().iter().all(|bond| bond.dropped > 0.0));
+    let weights = numbers(shape().points(), 2);
+    Run::fresh(&shape(), &AXES, &settings, source.to_vec(), weights).unwrap()
+}
+
+// The run of this source, with a core replaced and held to a fresh run.
+fn replaced_with(cutting: Cutting, source: &[f64], zone: usize, part: &[f64]) -> Run {
+    let start = [0, 8, 26][zone];
+    let (mut run, mut source) = (made_with(cutting, source), source.to_vec());
+    run.replace_core(zone, part).unwrap();
+    source[start..start + part.len()].copy_from_slice(part);
+    assert_same(&run, &made_with(cutting, &source));
+    run
+}
+
+// With eps 1 a bond keeps its largest value alone, and drops the next.
+#[test]
+fn a_replacement_drops_what_a_fresh_run_drops() {
+    for mode in [Mode::Absolute, Mode::Scaled] {
+        for (zone, count) in [8, 18, 15].into_iter().enumerate() {
+            let (cutting, part) = (Cutting { eps: 1.0, mode }, numbers(count, 3));
+            let run = replaced_with(cutting, &numbers(41, 1), zone, &part);
+            assert!(run.bonds().iter().all(|bond| bond.dropped > 0.0));
+        }
     }
+}
+
+fn times(factor: f64, numbers: &[f64]) -> Vec<f64> {
+    numbers.iter().map(|x| x * factor).collect()
+}
+
+// Every number of the source is 2^-60 of another's. Scaled, that alone is what the step and the figure of three cores have of it.
+#[test]
+fn a_run_of_small_numbers() {
+    let (small, source, part) = (2f64.powi(-60), numbers(41, 1), numbers(18, 3));
+    let [absolute, scaled] =
+        [Mode::Absolute, Mode::Scaled].map(|mode| Cutting { eps: 1e-12, mode });
+    let run = replaced_with(scaled, &source, 1, &part);
+    let (tiny, less) = (times(small, &source), times(small, &part));
+    let rare = replaced_with(scaled, &tiny, 1, &less);
+    let said = |run: &Run| -> Vec<_> {
+        let of = |bond: &Bond| (bond.rank, bond.sweeps, bond.settled);
+        run.bonds().iter().map(of).collect()
+    };
+    assert_eq!(said(&rare), said(&run));
+    assert_eq!(rare.stepped()[..26], run.stepped()[..26]);
+    assert_eq!(rare.figure(), small * small * small * run.figure());
+    assert_ne!(rare.figure(), 0.0);
+    assert_eq!(replaced_with(absolute, &tiny, 1, &less).figure(), 0.0);
 }
 
 fn stored(number: u8, place: usize, index: usize) -> Result<f64, Refusal> {
@@ -243,7 +286,7 @@ fn still(cores: &[(usize, usize, usize)], source: &[f64], weights: &[f64]) -> Ru
     let settings = Settings {
         tau: 1.0,
         c: 0.0,
-        cutting: Cutting { eps: 0.0 },
+        cutting: KEEP_ALL,
     };
     Run::fresh(&shape, &axes, &settings, source.to_vec(), weights.to_vec()).unwrap()
 }

@@ -1,6 +1,6 @@
 //! What others write to a run's record, as they can from C: here alone the record is within reach.
 use super::*;
-use crate::records::Cutting;
+use crate::records::{Cutting, Mode};
 use crate::MOST_AXES;
 
 const SOURCE: [f64; 14] = [
@@ -14,7 +14,10 @@ fn cut_run() -> Run {
     let settings = Settings {
         tau: 1.0,
         c: 0.0,
-        cutting: Cutting { eps: 0.75 },
+        cutting: Cutting {
+            eps: 0.75,
+            mode: Mode::Absolute,
+        },
     };
     let axes = [Axis::default(); 3];
     Run::fresh(&shape, &axes, &settings, SOURCE.to_vec(), vec![1.0; 5]).unwrap()
@@ -95,5 +98,35 @@ fn a_boundary_that_is_not_known_is_refused_at_its_axis() {
             assert_eq!(run.record.axes[k].boundary, unknown);
             assert_eq!(run.axes(), [Axis::default(); 3]);
         }
+    }
+}
+
+// The same of a mode.
+#[test]
+fn a_mode_that_is_not_known_is_refused_at_0() {
+    for replace in REPLACEMENTS {
+        for unknown in [2, 1 << 32, usize::MAX] {
+            let mut run = cut_run();
+            run.record.settings.cutting.mode = unknown;
+            let refused = Refusal {
+                number: 7,
+                place: 0,
+                index: 0,
+            };
+            assert_eq!(replace(&mut run), Err(refused));
+            assert_eq!(run.record.settings.cutting.mode, unknown);
+            assert_eq!(run.settings(), cut_run().settings());
+            assert_eq!(run.stepped(), cut_run().stepped());
+        }
+    }
+}
+
+#[test]
+fn a_mode_that_others_wrote_is_answered() {
+    for replace in REPLACEMENTS {
+        let mut run = cut_run();
+        run.record.settings.cutting.mode = layout::SCALED;
+        assert_eq!(replace(&mut run), Ok(8.0));
+        assert_eq!(run.settings().cutting.mode, Mode::Scaled);
     }
 }

@@ -1,6 +1,6 @@
 //! A chain of 16 zones whose rounding and step can be done by hand, and in which no two zones, and no two places of a record, are
 //! alike; face/ladder.h has the same and says why.
-use uyavsker::{Axis, Boundary, Cutting, Settings, Shape};
+use uyavsker::{Axis, Boundary, Cutting, Mode, Settings, Shape};
 
 pub const ZONES: usize = 16;
 pub const LAST: usize = ZONES - 1;
@@ -10,7 +10,10 @@ pub const LAST_POINTS: usize = 24;
 pub const SETTINGS: Settings = Settings {
     tau: 4.0,
     c: -0.5,
-    cutting: Cutting { eps: 1.0 / 32.0 },
+    cutting: Cutting {
+        eps: 1.0 / 32.0,
+        mode: Mode::Absolute,
+    },
 };
 
 pub type Entry = fn(usize, (usize, usize, usize)) -> f64;
