@@ -108,7 +108,8 @@ fn lent_wrong(r: runform::Run, held: [f64; calls::HELD], t: Tally) -> Tally {
 // A day whose fresh run is refused counts as a turn that does not agree.
 fn day(seed: usize, s: shape::Shape, t: Tally) -> Tally {
     let mut held = [calls::MARK; calls::HELD];
-    chance::fill(seed ^ 1, 1.0, &mut held[..calls::CHAIN]);
+    let scale = plans::scale(chance::next(seed ^ 64));
+    chance::fill(seed ^ 1, scale, &mut held[..calls::CHAIN]);
     let none = bond::no_bond();
     let run = runform::Run {
         shape: s,

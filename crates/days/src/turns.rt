@@ -213,7 +213,8 @@ fn same_run(a: runform::Run, b: runform::Run) -> bool {
     let times = comparing::same_number(s.tau, t.tau) & comparing::same_number(s.c, t.c);
     let way = s.cutting;
     let other_way = t.cutting;
-    let settings = times & comparing::same_number(way.eps, other_way.eps);
+    let cut = comparing::same_number(way.eps, other_way.eps) & (way.mode == other_way.mode);
+    let settings = times & cut;
     settings & same_zones(a, b) & comparing::same_record(a, b)
 }
 

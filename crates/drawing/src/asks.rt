@@ -65,10 +65,10 @@ const MORE_HELD: usize = 33;
 // ---- more flaws of a run that others wrote to, drawn for turns of their own, each by the refusal that it is to bring
 pub const SPOILT: usize = 45;
 
-// 6, 7: a lone setting that isn't finite, or below zero
+// 6, 7: a lone setting that isn't finite, or one below zero or a mode that isn't known
 pub const LONE_NOT_FINITE: usize = SPOILT;
 
-pub const LONE_BELOW_ZERO: usize = 46;
+pub const LONE_OUT_OF_ORDER: usize = 46;
 
 // 6, 7, 7: an axis record that isn't finite, with an a below zero, or with a boundary that isn't known
 pub const OLD_NOT_FINITE: usize = 47;
@@ -77,7 +77,7 @@ pub const OLD_BELOW_ZERO: usize = 48;
 
 pub const OLD_UNKNOWN: usize = 49;
 
-// 6: a lone setting below zero, and an axis record that isn't finite
+// 6: a lone setting that is out of order so, and an axis record that isn't finite
 pub const TWO_SETTINGS: usize = 50;
 
 // 2: a size of 0, and a zone number of d or more
@@ -297,7 +297,7 @@ pub fn write_part(q: Ask, part: &mut [f64]) {
 }
 
 // ---- the record as others wrote to it
-// One lone setting: tau, eps, or c where it isn't finite.
+// One lone setting: tau or eps; c where it isn't finite, the mode where it is out of order.
 pub fn spoilt_settings(q: Ask, set: stepform::Settings) -> stepform::Settings {
     let mut t = set;
     let mut cutting = set.cutting;
@@ -313,11 +313,15 @@ pub fn spoilt_settings(q: Ask, set: stepform::Settings) -> stepform::Settings {
             cutting.eps = q.wrong;
         }
     }
-    if (q.flaw == LONE_BELOW_ZERO) | (q.flaw == TWO_SETTINGS) {
+    if (q.flaw == LONE_OUT_OF_ORDER) | (q.flaw == TWO_SETTINGS) {
         if k == 0 {
             t.tau = -0.5;
-        } else {
+        }
+        if k == 1 {
             cutting.eps = -0.5;
+        }
+        if k == 2 {
+            cutting.mode = 2;
         }
     }
     t.cutting = cutting;

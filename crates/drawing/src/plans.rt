@@ -48,14 +48,24 @@ pub fn records(seed: usize) -> [stepform::Axis; shape::MOST_AXES] {
     list
 }
 
-// eps of 0 keeps every rank that it can, a large one cuts most.
+// What the numbers of a day are scaled by: mostly 1, else so little that only scaled mode keeps them.
+pub fn scale(x: usize) -> f64 {
+    let scales = [1.0, 1.0, 1.0, 1e-40];
+    let k = chance::below(x, 4);
+    scales[k]
+}
+
+// eps of 0 keeps every rank that it can, a large one cuts most; one cut in two is scaled.
 pub fn settings(x: usize) -> stepform::Settings {
     let cutoffs = [0.0, -0.0, 1e-12, 0.125, 0.5];
     let k = chance::below(x / 16, 5);
     stepform::Settings {
         tau: chance::whole(x, 9) / 8.0,
         c: chance::number(x / 128),
-        cutting: cutform::Cutting { eps: cutoffs[k] },
+        cutting: cutform::Cutting {
+            eps: cutoffs[k],
+            mode: chance::below(x / 4096, 2),
+        },
     }
 }
 

@@ -13,6 +13,8 @@ pub const SUMS: usize = 10;
 
 pub const SCRATCH: usize = shape::SCRATCH_TIMES * ENTRIES + shape::SCRATCH_BESIDE;
 
+pub const HARBOUR_NUMBERS: usize = 8;
+
 // What the day's plan is rounded by.
 pub const MILLIONTH: f64 = 0.000001;
 
@@ -155,7 +157,7 @@ pub fn axis(a: f64, boundary: usize) -> stepform::Axis {
 
 // Hospital's axis reflects. Two kinds of weather between neighbours, mild and cold, and between Old Town and Mill also severe. A step of a quarter of an hour,
 // nothing added; what is not above eps times the largest is rounded off. The run keeps nothing yet.
-pub fn plan(eps: f64) -> crate::plans::Plan {
+pub fn plan(eps: f64, mode: usize) -> crate::plans::Plan {
     let shape = shape::Shape {
         d: ZONES,
         left: [1, 2, 3, 2, 2, 0, 0, 0, 0, 0, 0, 0, 0, 0, 0, 0],
@@ -171,7 +173,7 @@ pub fn plan(eps: f64) -> crate::plans::Plan {
         set: stepform::Settings {
             tau: 0.25,
             c: 0.0,
-            cutting: cutform::Cutting { eps },
+            cutting: cutform::Cutting { eps, mode },
         },
         bonds: [none; shape::MOST_AXES],
         figure: 0.0,
@@ -184,6 +186,19 @@ pub fn plan(eps: f64) -> crate::plans::Plan {
         carries: [0.0; CARRIES],
         sums: [0.0; SUMS],
     }
+}
+
+// The morning's plan in weather of one chance in 10^32: so much less are Harbour's.
+pub fn rare_plan(mode: usize) -> crate::plans::Plan {
+    let mut p = plan(MILLIONTH, mode);
+    let mut source = CORES;
+    let mut i = 0;
+    while i < HARBOUR_NUMBERS {
+        source[i] = source[i] * 1e-32;
+        i += 1;
+    }
+    p.source = source;
+    p
 }
 
 // A new forecast for Old Town, in which severe weather always has a quarter of the chance of cold weather.

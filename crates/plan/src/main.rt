@@ -71,7 +71,7 @@ fn morning() -> State {
         b"reflected. The figure is the chance that every zone is within its limit, a quarter of an hour on.\n\n",
     );
     say(b"The fresh run:\n");
-    let a = plans::fresh(inputs::plan(inputs::MILLIONTH));
+    let a = plans::fresh(inputs::plan(inputs::MILLIONTH, cutform::ABSOLUTE));
     told(true, a, b"cores, carries and sums", 0)
 }
 
@@ -146,7 +146,7 @@ fn show(now: State) {
 
 // The morning's plan at another eps.
 fn at_eps(eps: f64) {
-    let a = plans::fresh(inputs::plan(eps));
+    let a = plans::fresh(inputs::plan(eps, cutform::ABSOLUTE));
     let plan = a.plan;
     let run = plan.run;
     table::at_eps(eps, run);
@@ -163,6 +163,22 @@ fn three_eps() {
     say(b"\n");
 }
 
+// How many 10^-32 the chance is in rare weather, in one mode.
+fn rare(mode: usize) {
+    let a = plans::fresh(inputs::rare_plan(mode));
+    let plan = a.plan;
+    let run = plan.run;
+    print::small(run.figure * 1e32, 0);
+}
+
+fn both_modes() {
+    say(b"In weather of one chance in 10^32 the morning's chance, in 10^-32, is ");
+    rare(cutform::ABSOLUTE);
+    say(b" in absolute mode, ");
+    rare(cutform::SCALED);
+    say(b" in scaled mode.\n\n");
+}
+
 fn main() {
     let a = morning();
     show(a);
@@ -173,6 +189,7 @@ fn main() {
     say(b"At the end of the day:\n\n");
     show(e);
     three_eps();
+    both_modes();
     say(b"Every run had the bits of a fresh run: ");
     print::yes(e.same);
     say(b"\n");

@@ -25,8 +25,9 @@ pub fn column(n: usize, width: usize) {
     say(&digits[..k]);
 }
 
-// The largest value that a bond dropped, at the right end of a column: none, one too small for six decimals, or the value.
-pub fn dropped(x: f64, width: usize) {
+// The largest value that a bond dropped, or a small chance, at the right end of a column: none, one too small for six decimals, or the
+// value.
+pub fn small(x: f64, width: usize) {
     if x == 0.0 {
         blanks(width, 7);
         say(b"nothing");

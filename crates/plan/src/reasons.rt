@@ -11,7 +11,7 @@ fn of_work(number: u8) {
 fn of_settings(number: u8) {
     match number {
         7 => crate::print::say(
-            b"eps, a, tau or t_final below zero, a boundary that isn't known, or steps outside limits",
+            b"eps, a, tau or t_final below zero, a boundary or a mode that isn't known, or steps outside limits",
         ),
         8 => crate::print::say(b"a shift over dx above 2^31 in size, or not a number"),
         _ => of_work(number),

@@ -23,7 +23,7 @@ fn bond(r: runform::Run, z: usize)
     print::column(b.sweeps, 8);
     say(b"  ");
     print::yes(b.settled);
-    print::dropped(b.dropped, 21);
+    print::small(b.dropped, 21);
 }
 
 fn row(r: runform::Run, z: usize)
@@ -58,7 +58,7 @@ pub fn at_eps(eps: f64, r: runform::Run) {
     while z + 1 < inputs::ZONES {
         let b = r.bonds[z];
         print::column(b.rank, 3);
-        print::dropped(b.dropped, 10);
+        print::small(b.dropped, 10);
         z += 1;
     }
     say(b"  ");
