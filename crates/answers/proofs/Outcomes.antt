@@ -1,5 +1,5 @@
 -- Laws of outcomes and of going on from one. Assumes nothing.
-use mathlib.Core.Path.{_≡_, refl, sym, ap}
+use mathlib.Core.Path.{_≡_, refl, sym, ap, _∙_}
 use Prim.Native.Nat.{ℕ}
 use native.Mathlib.Omega.{arith}
 use Rattle.answers.specs.declared.Part.{Part}
@@ -29,6 +29,10 @@ module _ {E A B : Type 0} where
   pub bind-cong : (o : Outcome E A) (k l : A → Outcome E B) → ((a : A) → o ≡ done a → k a ≡ l a) → bind o k ≡ bind o l
   bind-cong (done a) k l h = h a refl
   bind-cong (refused e) k l h = refl
+
+  -- two parts that are the same, one after the other
+  pub bind-same : (o u : Outcome E A) (k l : A → Outcome E B) → o ≡ u → ((a : A) → k a ≡ l a) → bind o k ≡ bind u l
+  bind-same o u k l e h = ap (λ (x : Outcome E A). bind x k) e ∙ bind-cong u k l (λ a d. h a)
 
   -- an answer of a bind has an answer of its first part behind it
   pub bind-done : (o : Outcome E A) (k : A → Outcome E B) (b : B) → bind o k ≡ done b → (a : A) × (o ≡ done a) × (k a ≡ done b)

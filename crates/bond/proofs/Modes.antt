@@ -1,5 +1,5 @@
 -- Which test a mode makes, in the form that proofs of code cite: the scaled one where it is `scaledMode`, the absolute one where it isn't. Assumes nothing.
-use mathlib.Core.Path.{_≡_, sym, ap, _∙_}
+use mathlib.Core.Path.{_≡_, _∙_}
 use Prim.Native.Nat.{ℕ}
 use mathlib.Core.Bool.{Bool}
 use mathlib.Core.List.{List}

@@ -1,7 +1,7 @@
 -- Chains cut in scaled mode, worked out by hand: the scope's P12 and P13, and a chain whose figure is lost in absolute mode (request W8). Definitions only.
 use Prim.Native.Nat.{ℕ}
-use mathlib.Core.List.{List, [], _∷_, _++_}
-use lib.IntN.{pos, negsuc}
+use mathlib.Core.List.{List, [], _∷_}
+use lib.IntN.{negsuc}
 use lib.ListN.{length}
 use lib.Ieee.{Float}
 use Rattle.numbers.specs.Arithmetic.{zero64, one64}
@@ -16,7 +16,7 @@ use Rattle.stepform.specs.declared.Axis.{Axis}
 use Rattle.stepform.specs.declared.Settings.{Settings}
 use Rattle.stepform.specs.Boundaries.{periodic}
 use Rattle.stepform.specs.Call.{stepCall, evolveCall}
-use Rattle.hand_sums.specs.Cases.{bits, power, whole, two-cores, endedBits, figureBits, Case, case}
+use Rattle.hand_sums.specs.Cases.{bits, power, two-cores, endedBits, figureBits, Case, case}
 
 abbrev rounded : Shape → List Float → List ℕ
 rounded s l = endedBits 2 (roundCall s (scaledCut zero64) l (zeros (scratchFor (length l))))

@@ -6,7 +6,7 @@ use native.Mathlib.Omega.{arith}
 use mathlib.Core.List.{List, [], _∷_, _++_}
 use lib.ListN.{length, take, getD}
 use Rattle.answers.specs.Outcome.{Outcome, done, bind}
-use Rattle.answers.proofs.Outcomes.{bind-assoc, bind-done, bind-eta, done-inj}
+use Rattle.answers.proofs.Outcomes.{bind-assoc, bind-done, bind-eta, bind-same, done-inj}
 use Rattle.lists.specs.Lists.{listed}
 use Rattle.lists.specs.Walks.{every, walk, stateAt}
 
@@ -41,6 +41,13 @@ module _ {E S X Y : Type 0} (f : ℕ → S → X → Outcome E (S × Y)) where
       ∙ bind-assoc (walk f (suc k + z) (stateAt (r .0) rs z) ys) (λ q. done (take z rs ++ q)) (λ q. done (r ∷ q))
       ∙ ap (λ (j : ℕ). bind (walk f j (stateAt (r .0) rs z) ys) (λ q. done (r ∷ (take z rs ++ q)))) (suc-add k z ∙ sym (add-suc k z))
       ∙ ap (λ (t : List (S × Y)). bind (walk f (k + suc z) (stateAt s t (suc z)) ys) (λ q. done (take (suc z) t ++ q))) (w .2 .2)
+
+-- two rules that do the same make the same walk
+module _ {E S X Y : Type 0} (f g : ℕ → S → X → Outcome E (S × Y)) (h : (k : ℕ) (s : S) (x : X) → f k s x ≡ g k s x) where
+  pub walk-cong : (k : ℕ) (s : S) (xs : List X) → walk f k s xs ≡ walk g k s xs
+  unfolding walk
+  walk-cong k s [] = refl
+  walk-cong k s (x ∷ xs) = bind-same (f k s x) (g k s x) _ _ (h k s x) (λ r. bind-same _ _ _ _ (walk-cong (suc k) (r .0) xs) (λ rs. refl))
 
 -- P holds of each, the first being number k
 module _ {R : Type 0} (P : ℕ → R → Type 0) where
