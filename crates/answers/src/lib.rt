@@ -5,7 +5,7 @@ ghost use Rattle.answers.specs.Outcome.{stored_in};
 ghost use Rattle.answers.specs.Table.{part_number, number_of, place_of, index_of, before_work};
 
 // What was being made where a number to be stored isn't finite.
-#[derive(Drop)]
+#[derive(Clone, Copy)]
 pub enum Part {
     // a shifted or scaled entry, or a pair's slab
     Entry,
@@ -17,7 +17,7 @@ pub enum Part {
     Sum,
 }
 
-#[derive(Drop)]
+#[derive(Clone, Copy)]
 pub enum Refusal {
     // d is outside its limits
     Axes,
@@ -44,14 +44,14 @@ pub enum Refusal {
     File(usize),
 }
 
-#[derive(Drop)]
+#[derive(Clone, Copy)]
 pub enum Verdict {
     Fits,
     Refused(Refusal),
 }
 
 // What a stage of the work answers of the numbers it made: all are finite, or the index of the first that isn't.
-#[derive(Drop)]
+#[derive(Clone, Copy)]
 pub enum Stage {
     Whole,
     Spilt(usize),

@@ -64,7 +64,7 @@ fn swept_within(
 }
 
 // What a cut came to, and where it fits what is said of its bond.
-#[derive(Drop)]
+#[derive(Clone, Copy)]
 pub struct BondCut {
     pub verdict: answers::Verdict,
     pub bond: cutform::Bond,

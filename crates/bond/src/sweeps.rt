@@ -226,7 +226,7 @@ fn still(mode: usize, g: &[f64], n: usize) -> bool
 const MOST_SWEEPS: usize = 50;
 
 // What the sweeps came to: whether all numbers stayed finite, how many were made, and whether the matrix is settled at the end.
-#[derive(Drop)]
+#[derive(Clone, Copy)]
 pub struct Sweeps {
     pub stage: answers::Stage,
     pub count: usize,

@@ -124,7 +124,7 @@ fn dropped(ss: &[f64], r: usize) -> f64
 }
 
 // Whether all values are finite, how many are kept, and the largest that is not.
-#[derive(Drop)]
+#[derive(Clone, Copy)]
 pub struct Kept {
     pub stage: answers::Stage,
     pub rank: usize,

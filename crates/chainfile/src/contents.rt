@@ -6,7 +6,7 @@ ghost use Rattle.lists.specs.Slots.{fit};
 ghost use Rattle.lists.specs.Walks.{turning};
 ghost use Rattle.shape.specs.Limits.{most_axes, most_core};
 ghost use Rattle.shape.specs.Shapes.{size_ok, core_size};
-ghost use Rattle.words.specs.Bytes.{u16At};
+ghost use Rattle.words.specs.Bytes.{u16_at};
 ghost use Rattle.fileform.specs.File.{entry_start, body_start};
 ghost use Rattle.fileform.specs.Reading.{read_header, shape_in, entry_ok, table_ok, read_table, read_contents, read_by};
 
@@ -62,7 +62,7 @@ pub fn header_ok(bytes: &[u8]) -> Verdict
 // The field at `at` of each of d entries.
 fn sizes_at(bytes: &[u8], d: usize, at: usize) -> [usize; shape::MOST_AXES]
     requires { (d ≤ most_axes) × (entry_start d ≤ length bytes.now) × (at ≤ 10) }
-    ensures { result ≡ fit 0 most_axes (tab d (λ (k : ℕ). u16At bytes.now (entry_start k + at))) }
+    ensures { result ≡ fit 0 most_axes (tab d (λ (k : ℕ). u16_at bytes.now (entry_start k + at))) }
 {
     let mut sizes = [0; shape::MOST_AXES];
     let mut k = 0;

@@ -29,7 +29,7 @@ pub fn square(a: &[f64], m: usize, n: usize, ss: &mut [f64])
 }
 
 // Two sums.
-#[derive(Drop)]
+#[derive(Clone, Copy)]
 struct Sums {
     first: f64,
     second: f64,

@@ -2,7 +2,7 @@
 
 // What is said of a bond once it is cut: the rank kept, the sweeps made, whether its matrix is settled at their end, and the
 // largest singular value that was not kept, +0 if all were.
-#[derive(Drop)]
+#[derive(Clone, Copy)]
 pub struct Bond {
     pub rank: usize,
     pub sweeps: usize,
@@ -17,14 +17,14 @@ pub const ABSOLUTE: usize = 0;
 pub const SCALED: usize = 1;
 
 // How a cut is made: kept is what lies above eps times the largest value; the mode says what is small enough to be let be.
-#[derive(Drop)]
+#[derive(Clone, Copy)]
 pub struct Cutting {
     pub eps: f64,
     pub mode: usize,
 }
 
 // The chain's shape at the end, and what is said of each bond.
-#[derive(Drop)]
+#[derive(Clone, Copy)]
 pub struct Rounded {
     pub verdict: answers::Verdict,
     pub shape: shape::Shape,

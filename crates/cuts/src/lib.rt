@@ -37,7 +37,7 @@ pub fn carry_offset(s: shape::Shape, k: usize) -> usize
 }
 
 // What a rounding from some zone on came to: the chain's shape, and what is said of each bond.
-#[derive(Drop)]
+#[derive(Clone, Copy)]
 pub struct Walked {
     pub verdict: answers::Verdict,
     pub shape: shape::Shape,
@@ -69,7 +69,7 @@ fn left_rank(k: usize, w: Walked) -> usize
 }
 
 // Where zone k stands: its core from `at` to `end`, the carry on its left from `from` to `mid`, its own from `mid` to `to`.
-#[derive(Drop)]
+#[derive(Clone, Copy)]
 struct Places {
     at: usize,
     end: usize,

@@ -25,7 +25,7 @@ pub const KEPT: usize = HELD - CHAIN;
 const SCRATCH: usize = shape::SCRATCH_TIMES * ROOM + shape::SCRATCH_BESIDE;
 
 // What a verdict tells: all 0 where there is no refusal.
-#[derive(Drop)]
+#[derive(Clone, Copy)]
 pub struct Told {
     pub number: usize,
     pub place: usize,
@@ -57,7 +57,7 @@ pub fn reading(v: answers::Verdict) -> Told {
 }
 
 // How many numbers of each list a call is lent.
-#[derive(Drop)]
+#[derive(Clone, Copy)]
 pub struct Lengths {
     source: usize,
     weights: usize,
@@ -114,7 +114,7 @@ pub fn all_are(list: &[f64], x: f64) -> bool {
 }
 
 // What a call answered, and whether it left alone what it must.
-#[derive(Drop)]
+#[derive(Clone, Copy)]
 pub struct Ended {
     pub ran: runform::Ran,
     pub clean: bool,

@@ -34,7 +34,7 @@ const SPOILT: usize = 18;
 
 const COUNTS: usize = 36;
 
-#[derive(Drop)]
+#[derive(Clone, Copy)]
 struct Tally {
     counts: [usize; COUNTS],
 }

@@ -218,7 +218,7 @@ fn same_run(a: runform::Run, b: runform::Run) -> bool {
 }
 
 // What was found of the lists: as the fresh run's, as they were, and what is kept of the zones before z as it was.
-#[derive(Drop)]
+#[derive(Clone, Copy)]
 struct Found {
     fresh: bool,
     still: bool,
@@ -270,7 +270,7 @@ fn right(q: asks::Ask, r: runform::Run, got: runform::Ran, want: runform::Ran, f
 }
 
 // The run after a turn and its lists, the number of its refusal, 0 for none, and whether all was as it must be.
-#[derive(Drop)]
+#[derive(Clone, Copy)]
 pub struct Turned {
     pub run: runform::Run,
     pub held: [f64; calls::HELD],

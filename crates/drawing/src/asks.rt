@@ -90,7 +90,7 @@ pub const OLD_TOO_FAR: usize = 53;
 
 pub const KINDS_SPOILT: usize = 9;
 
-#[derive(Drop)]
+#[derive(Clone, Copy)]
 pub struct Ask {
     pub kind: usize,
     pub flaw: usize,

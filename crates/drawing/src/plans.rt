@@ -70,7 +70,7 @@ pub fn settings(x: usize) -> stepform::Settings {
 }
 
 // Where what belongs to one zone starts in the source and the chain, in the weights, the carries and the sums.
-#[derive(Drop)]
+#[derive(Clone, Copy)]
 pub struct Places {
     pub core: usize,
     pub weights: usize,

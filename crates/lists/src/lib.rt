@@ -40,7 +40,7 @@ pub fn fit(s: &[f64], n: usize, d: &mut [f64])
 }
 
 // Eight sums.
-#[derive(Drop)]
+#[derive(Clone, Copy)]
 struct Eight {
     a: f64,
     b: f64,

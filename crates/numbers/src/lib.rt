@@ -19,7 +19,7 @@ pub fn is_finite(x: f64) -> bool
 }
 
 // A whole root and what its square leaves.
-#[derive(Drop)]
+#[derive(Clone, Copy)]
 struct Rooted {
     q: u64,
     rem: u64,
@@ -164,7 +164,7 @@ fn half_root(m: u64, g: u64) -> u64
 }
 
 // A number m * 2^(e - 1126) with an m of 53 digits.
-#[derive(Drop)]
+#[derive(Clone, Copy)]
 struct Split {
     m: u64,
     e: u64,
@@ -276,7 +276,7 @@ pub fn floor(x: f64) -> f64
 }
 
 // A whole number by its sign and its size.
-#[derive(Drop)]
+#[derive(Clone, Copy)]
 pub struct WholeNumber {
     pub below: bool,
     pub size: usize,

@@ -1,7 +1,7 @@
 // What the pair is: two neighbours joined to a slab and split again. Definitions stand in specs/; here are its records.
 
 // The kept rank and the passes made, the quiet one included; both are 0 after a refusal.
-#[derive(Drop)]
+#[derive(Clone, Copy)]
 pub struct Paired {
     pub verdict: answers::Verdict,
     pub rank: usize,
@@ -9,7 +9,7 @@ pub struct Paired {
 }
 
 // The sizes of one core.
-#[derive(Drop)]
+#[derive(Clone, Copy)]
 pub struct Sizes {
     pub rl: usize,
     pub n: usize,

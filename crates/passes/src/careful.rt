@@ -7,7 +7,7 @@ ghost use Rattle.pairform.specs.Passes.{svd, turned_svd, passed, rotate, pass, m
 ghost use Rattle.passes.specs.Loops.{pass_row, Held};
 
 // What a turn came to: whether all numbers stayed finite, and whether no pair has been turned yet.
-#[derive(Drop)]
+#[derive(Clone, Copy)]
 struct Turn {
     stage: answers::Stage,
     quiet: bool,

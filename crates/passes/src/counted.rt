@@ -2,7 +2,7 @@
 ghost use Rattle.std.specs.Prelude.{◌≡◌};
 
 // What the passes came to: whether all numbers stayed finite, and how many were made.
-#[derive(Drop)]
+#[derive(Clone, Copy)]
 pub struct Passes {
     pub stage: answers::Stage,
     pub count: usize,

@@ -17,7 +17,7 @@ ghost use Rattle.passes.specs.Loops.{Held};
 ghost use Rattle.passes.specs.Free.{rotate_free, row_free, pass_free, Squared, Beside, Planned, PlannedAt, by_plan, in_step, Paced};
 
 // Whether a pair is skipped, and the angle by which it is turned else.
-#[derive(Drop)]
+#[derive(Clone, Copy)]
 pub struct Plan {
     pub skip: bool,
     pub c: f64,
@@ -60,7 +60,7 @@ fn plan_at(a: &[f64], ss: &[f64], m: usize, n: usize, p: usize, w: usize) -> Pla
 }
 
 // The plans of two pairs that go in step, and whether no pair has been turned yet.
-#[derive(Drop)]
+#[derive(Clone, Copy)]
 pub struct Pace {
     pub first: Plan,
     pub second: Plan,
@@ -129,7 +129,7 @@ fn two_planned(
 }
 
 // Three sums.
-#[derive(Drop)]
+#[derive(Clone, Copy)]
 struct Sums {
     first: f64,
     second: f64,
@@ -361,7 +361,7 @@ fn two_rows(
 }
 
 // How many rows of a pass were made, and whether no pair of them was turned.
-#[derive(Drop)]
+#[derive(Clone, Copy)]
 struct Rows {
     p: usize,
     quiet: bool,
@@ -434,7 +434,7 @@ fn pass(a: &mut [f64], v: &mut [f64], ss: &mut [f64], m: usize, n: usize) -> boo
 }
 
 // Whether all numbers stayed finite, and how many passes were made.
-#[derive(Drop)]
+#[derive(Clone, Copy)]
 struct Quick {
     fine: bool,
     count: usize,

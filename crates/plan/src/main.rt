@@ -8,7 +8,7 @@ mod table;
 use print::say;
 
 // The plan so far, and whether it had the bits of a fresh run each time.
-#[derive(Drop)]
+#[derive(Clone, Copy)]
 struct State {
     plan: plans::Plan,
     same: bool,

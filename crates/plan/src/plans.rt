@@ -5,7 +5,7 @@ ghost use Rattle.runform.specs.Slices.{outputs};
 ghost use Rattle.comparing.specs.Same.{Tells, SameKept};
 ghost use Rattle.plan.specs.Answers.{fresh_end, core_end, weights_end, axis_end, answer_of, AsFresh};
 
-#[derive(Drop)]
+#[derive(Clone, Copy)]
 pub struct Plan {
     pub run: runform::Run,
     pub source: [f64; crate::inputs::ENTRIES],
@@ -16,7 +16,7 @@ pub struct Plan {
 }
 
 // What a call answered, and the plan after it.
-#[derive(Drop)]
+#[derive(Clone, Copy)]
 pub struct Answer {
     pub verdict: answers::Verdict,
     pub plan: Plan,

@@ -6,7 +6,7 @@ ghost use Rattle.records.specs.Given.{shape_in, axis_in, lent_of, cutting_in, se
 
 // d cores; core k has the sizes left[k], n[k], right[k].
 #[repr(C)]
-#[derive(Drop)]
+#[derive(Clone, Copy)]
 pub struct CShape {
     pub d: usize,
     pub left: [usize; shape::MOST_AXES],
@@ -16,7 +16,7 @@ pub struct CShape {
 
 // The settings of one axis.
 #[repr(C)]
-#[derive(Drop)]
+#[derive(Clone, Copy)]
 pub struct CAxis {
     pub a: f64,
     pub b: f64,
@@ -27,14 +27,14 @@ pub struct CAxis {
 
 // Room for the records of as many axes as a chain can have.
 #[repr(C)]
-#[derive(Drop)]
+#[derive(Clone, Copy)]
 pub struct CAxes {
     pub axis: [CAxis; shape::MOST_AXES],
 }
 
 // How a cut is made.
 #[repr(C)]
-#[derive(Drop)]
+#[derive(Clone, Copy)]
 pub struct CCutting {
     pub eps: f64,
     pub mode: usize,
@@ -42,7 +42,7 @@ pub struct CCutting {
 
 // The lone settings of a step.
 #[repr(C)]
-#[derive(Drop)]
+#[derive(Clone, Copy)]
 pub struct CSettings {
     pub tau: f64,
     pub c: f64,
@@ -51,7 +51,7 @@ pub struct CSettings {
 
 // Steps one after another: how far, in how many, and the lone settings of each.
 #[repr(C)]
-#[derive(Drop)]
+#[derive(Clone, Copy)]
 pub struct CCourse {
     pub t_final: f64,
     pub steps: usize,
@@ -61,7 +61,7 @@ pub struct CCourse {
 
 // The sizes of one core.
 #[repr(C)]
-#[derive(Drop)]
+#[derive(Clone, Copy)]
 pub struct CSizes {
     pub left: usize,
     pub n: usize,

@@ -6,7 +6,7 @@ use crate::{given, told};
 
 // Its inputs but for the source chain and the weights; then what is said of bond k, at place k; and the figure.
 #[repr(C)]
-#[derive(Drop)]
+#[derive(Clone, Copy)]
 pub struct CRun {
     pub shape: given::CShape,
     pub axes: [given::CAxis; shape::MOST_AXES],
@@ -16,7 +16,7 @@ pub struct CRun {
 }
 
 #[repr(C)]
-#[derive(Drop)]
+#[derive(Clone, Copy)]
 pub struct CRan {
     pub refusal: told::CRefusal,
     pub run: CRun,

@@ -7,7 +7,7 @@ use crate::given;
 
 // A refusal by its number in the scope's table, its place, and the index inside what was being stored; number 0 is none.
 #[repr(C)]
-#[derive(Drop)]
+#[derive(Clone, Copy)]
 pub struct CRefusal {
     pub number: u8,
     pub place: usize,
@@ -16,7 +16,7 @@ pub struct CRefusal {
 
 // What is said of a bond: the rank kept, the sweeps made, whether its matrix is settled at their end, and the largest value not kept.
 #[repr(C)]
-#[derive(Drop)]
+#[derive(Clone, Copy)]
 pub struct CBond {
     pub rank: usize,
     pub sweeps: usize,
@@ -26,7 +26,7 @@ pub struct CBond {
 
 // The chain's shape at the end, and what is said of each bond.
 #[repr(C)]
-#[derive(Drop)]
+#[derive(Clone, Copy)]
 pub struct CRounded {
     pub refusal: CRefusal,
     pub shape: given::CShape,
@@ -35,7 +35,7 @@ pub struct CRounded {
 
 // The figure, +0 where it is refused.
 #[repr(C)]
-#[derive(Drop)]
+#[derive(Clone, Copy)]
 pub struct CFigure {
     pub refusal: CRefusal,
     pub value: f64,
@@ -43,7 +43,7 @@ pub struct CFigure {
 
 // The shape of the chain that a separable start makes, or that a file holds.
 #[repr(C)]
-#[derive(Drop)]
+#[derive(Clone, Copy)]
 pub struct CFormed {
     pub refusal: CRefusal,
     pub shape: given::CShape,
@@ -51,7 +51,7 @@ pub struct CFormed {
 
 // The rank that a pair keeps, and the passes made.
 #[repr(C)]
-#[derive(Drop)]
+#[derive(Clone, Copy)]
 pub struct CPaired {
     pub refusal: CRefusal,
     pub rank: usize,
@@ -60,7 +60,7 @@ pub struct CPaired {
 
 // A number of a core, or +0 outside of it.
 #[repr(C)]
-#[derive(Drop)]
+#[derive(Clone, Copy)]
 pub struct CSeen {
     pub inside: bool,
     pub value: f64,

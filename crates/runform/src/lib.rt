@@ -2,7 +2,7 @@
 
 // Its inputs but for the source chain and the weights; then what it keeps: what is said of bond k, at
 // place k; and the figure.
-#[derive(Drop)]
+#[derive(Clone, Copy)]
 pub struct Run {
     pub shape: shape::Shape,
     pub axes: [stepform::Axis; shape::MOST_AXES],
@@ -18,7 +18,7 @@ pub const SLICES: usize = 5;
 pub const BEHIND_PART: usize = SLICES + 1;
 
 // The lengths of a run's slices, in their order.
-#[derive(Drop)]
+#[derive(Clone, Copy)]
 pub struct Lengths {
     pub source: usize,
     pub weights: usize,
@@ -27,7 +27,7 @@ pub struct Lengths {
     pub sums: usize,
 }
 
-#[derive(Drop)]
+#[derive(Clone, Copy)]
 pub struct Ran {
     pub verdict: answers::Verdict,
     pub run: Run,

@@ -6,7 +6,7 @@ pub const PERIODIC: usize = 0;
 pub const REFLECTING: usize = 1;
 
 // The settings of one axis.
-#[derive(Drop)]
+#[derive(Clone, Copy)]
 pub struct Axis {
     pub a: f64,
     pub b: f64,
@@ -16,14 +16,14 @@ pub struct Axis {
 }
 
 // A core stays, or is shifted by a ratio along an axis of such a boundary.
-#[derive(Drop)]
+#[derive(Clone, Copy)]
 pub enum Shift {
     Stay,
     By(f64, usize),
 }
 
 // One step of a plan: its lone settings.
-#[derive(Drop)]
+#[derive(Clone, Copy)]
 pub struct Settings {
     pub tau: f64,
     pub c: f64,
@@ -31,7 +31,7 @@ pub struct Settings {
 }
 
 // Steps one after another: how far, in how many, and the lone settings of each.
-#[derive(Drop)]
+#[derive(Clone, Copy)]
 pub struct Course {
     pub t_final: f64,
     pub steps: usize,

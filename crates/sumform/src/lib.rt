@@ -1,14 +1,14 @@
 // What the inner product, the partial sums and the separable start are. Definitions stand in specs/; here are the records that calls answer.
 
 // The shape of the chain that a separable start makes.
-#[derive(Drop)]
+#[derive(Clone, Copy)]
 pub struct Started {
     pub verdict: answers::Verdict,
     pub shape: shape::Shape,
 }
 
 // The figure, +0 where it is refused.
-#[derive(Drop)]
+#[derive(Clone, Copy)]
 pub struct Figure {
     pub verdict: answers::Verdict,
     pub value: f64,

@@ -5,7 +5,7 @@ ghost use Rattle.std.specs.Prelude.{◌≤◌, length};
 const ROOM: usize = listing::MOST_BYTES + 1;
 
 // How many bytes standard input gave, up to its end or to the end of the room, and whether without an error.
-#[derive(Drop)]
+#[derive(Clone, Copy)]
 struct Input {
     n: usize,
     whole: bool,

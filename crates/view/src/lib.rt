@@ -5,14 +5,14 @@ ghost use Rattle.shape.specs.Sizes.{SizesWithin};
 ghost use Rattle.view.specs.View.{nowhere, core_spot, spot_of, view_of, seen_at, seen};
 
 // What stands at three indices: a number of the core, or nothing, where they lie outside of it or of the chain.
-#[derive(Drop)]
+#[derive(Clone, Copy)]
 pub enum Seen {
     Number(f64),
     Outside,
 }
 
 // Where a core stands in its chain, and its sizes.
-#[derive(Drop)]
+#[derive(Clone, Copy)]
 pub struct Spot {
     pub start: usize,
     pub rl: usize,
@@ -20,7 +20,7 @@ pub struct Spot {
     pub rr: usize,
 }
 
-#[derive(Drop)]
+#[derive(Clone, Copy)]
 pub struct CoreView<'a> {
     pub chain: &'a [f64],
     pub start: usize,

@@ -2,7 +2,7 @@
 ghost use Rattle.std.specs.Prelude.{◌≡◌, true, ◌+◌, ◌*◌, ◌%◌, ◌≤◌, ◌<◌, length};
 ghost use Rattle.numbers.specs.Finite.{finite};
 ghost use Rattle.lists.specs.Floats.{all_finite};
-ghost use Rattle.words.specs.Bytes.{bytes_of, f64, u16At, u32_at, number_at, f64At, numbers_from, bytes_of_all};
+ghost use Rattle.words.specs.Bytes.{bytes_of, f64, u16_at, u32_at, number_at, f64_at, numbers_from, bytes_of_all};
 ghost use Rattle.words.specs.Placed.{placed};
 
 // ---- from bytes
@@ -17,7 +17,7 @@ fn wide(b: u8) -> usize
 // The number in two bytes from p on.
 pub fn u16_at(bytes: &[u8], p: usize) -> usize
     requires { p + 2 ≤ length bytes.now }
-    ensures { (result ≡ u16At bytes.now p) × (result < 65536) }
+    ensures { (result ≡ u16_at bytes.now p) × (result < 65536) }
 {
     wide(bytes[p]) + 256 * wide(bytes[p + 1])
 }
@@ -41,7 +41,7 @@ fn u64_at(bytes: &[u8], p: usize) -> usize
 // Whether the f64 in eight bytes from p on is finite: the digits of its exponent aren't all one.
 pub fn finite_at(bytes: &[u8], p: usize) -> bool
     requires { p + 8 ≤ length bytes.now }
-    ensures { result ≡ finite (f64At bytes.now p) }
+    ensures { result ≡ finite (f64_at bytes.now p) }
 {
     u64_at(bytes, p) % 0x8000_0000_0000_0000 < 0x7ff0_0000_0000_0000
 }
@@ -63,8 +63,8 @@ pub fn all_finite(bytes: &[u8], p: usize, m: usize) -> bool
 
 // The f64 in eight bytes from p on, which is finite.
 fn f64_at(bytes: &[u8], p: usize) -> f64
-    requires { (p + 8 ≤ length bytes.now) × (finite (f64At bytes.now p) ≡ true) }
-    ensures { result ≡ f64At bytes.now p }
+    requires { (p + 8 ≤ length bytes.now) × (finite (f64_at bytes.now p) ≡ true) }
+    ensures { result ≡ f64_at bytes.now p }
 {
     f64::from_bits(u64_at(bytes, p) as u64)
 }

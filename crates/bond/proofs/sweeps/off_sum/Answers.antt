@@ -1,0 +1,23 @@
+use Prim.Native.Nat.{◌-◌}
+use mathlib.Core.Path.{sym, ◌∙◌}
+use Rattle.lists.proofs.Turns.{turns, iter_done}
+use Rattle.bond.proofs.Swept.{off_rows}
+use Rattle.bond.proofs.sweeps.off_sum.Goals as goal
+
+pub loop-p-init : goal.loop-p-init
+loop-p-init c = search turns
+
+pub off_row-sum-requires : goal.off_row-sum-requires
+off_row-sum-requires c = search turns
+
+pub overflow_step-p : goal.overflow_step-p
+overflow_step-p c = search turns
+
+pub loop-p-smaller : goal.loop-p-smaller
+loop-p-smaller c = search turns
+
+pub loop-p-preserved : goal.loop-p-preserved
+loop-p-preserved c = search turns
+
+pub returns : goal.returns
+returns c = iter_done _ _ _ _ _ c.loop-p.invariant.1 c.loop-p.invariant.0 c.loop-p-test.false ∙ sym (off_rows _ _)

@@ -1,0 +1,13 @@
+-- `bond::swept_gram`: a Gram matrix that is not finite stops it (swept_stop); any other is diagonalized from the unit matrix on (swept_end).
+use Rattle.bond.proofs.Staged.{swept_stop, swept_end}
+use Rattle.bond.proofs.swept_gram.Goals as goal
+
+pub returns-in-Spilt : goal.returns-in-Spilt
+returns-in-Spilt c = rw c.sweeps_are.ensures (swept_stop _ _ _ _ c.gram.ensures c.stored-made.ensures _ _ c.in-Spilt.is)
+
+pub returns : goal.returns
+returns c = swept_end _ _ _ _
+    c.gram.ensures
+    c.stored-made.ensures
+    c.in_default.is _ _
+    c.eye.ensures c.diagonalize.ensures

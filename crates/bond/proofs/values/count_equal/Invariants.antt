@@ -1,0 +1,13 @@
+-- `bond::values::count_equal`: the invariant: k counts the first j numbers that are equal to x (count_more).
+use Prim.Native.Nat.{ℕ, ◌-◌, ◌≤◌}
+use mathlib.Core.Path.{◌≡◌}
+use lib.Ieee.{eq}
+use Rattle.lists.specs.Lists.{count}
+use Rattle.lists.specs.Floats.{at}
+use Rattle.bond.proofs.values.count_equal.Given as goal
+
+abbrev pub invariant-loop-j : goal.invariant-loop-j
+invariant-loop-j l = (l.j ≤ l.n) × (l.k ≤ l.j) × (l.k ≡ count (λ (i : ℕ). eq (at l.l i) l.x) l.j)
+
+abbrev pub decreases-loop-j : goal.decreases-loop-j
+decreases-loop-j l = l.n - l.j

@@ -1,0 +1,34 @@
+-- `chainfile::read_ok`: contents, lengths, numbers: the first check that refuses is the answer, and one that passed gives the next what it asks.
+use Rattle.chainfile.proofs.Accepts.{contents_refused, found_sized, lengths_refused, found_long, numbers_refused, all_passed}
+use Rattle.chainfile.proofs.read_ok.Goals as goal
+
+pub returns-in-Refused : goal.returns-in-Refused
+returns-in-Refused c = contents_refused _ _ _ c.read_contents-found.ensures _ _ c.in-Refused.is c.refused_read.ensures
+
+pub lengths_ok-lent-requires : goal.lengths_ok-lent-requires
+lengths_ok-lent-requires c = found_sized _ 0 _ c.read_contents-found.ensures c.read_contents-found.result c.in_default.is
+
+pub returns-in-Refused-lent : goal.returns-in-Refused-lent
+returns-in-Refused-lent c = lengths_refused _ _ _ c.read_contents-found.ensures _
+    c.in_default.is _ c.lengths_ok-lent.ensures _
+    c.in-Refused-lent.is c.refused_read-in-Refused-lent.ensures
+
+pub numbers_ok-ok-requires : goal.numbers_ok-ok-requires
+numbers_ok-ok-requires c = record {
+      sizes_within = found_sized _ 0 _ c.read_contents-found.ensures c.read_contents-found.result c.in_default.is;
+      bytes_len = found_long _ _ _
+    c.read_contents-found.ensures c.read_contents-found.result c.in_default.is _ c.lengths_ok-lent.ensures
+    c.in_default-lent.is;
+    }
+
+pub returns-in-Refused-ok : goal.returns-in-Refused-ok
+returns-in-Refused-ok c = numbers_refused _ _ _ c.read_contents-found.ensures _
+    c.in_default.is _
+    c.lengths_ok-lent.ensures c.in_default-lent.is _
+    c.numbers_ok-ok.ensures _ c.in-Refused-ok.is c.refused_read-in-Refused-ok.ensures
+
+pub returns : goal.returns
+returns c = all_passed _ _ _ c.read_contents-found.ensures _
+    c.in_default.is _
+    c.lengths_ok-lent.ensures c.in_default-lent.is _
+    c.numbers_ok-ok.ensures c.in_default-ok.is c.read_as.ensures

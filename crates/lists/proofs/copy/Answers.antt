@@ -1,0 +1,22 @@
+use Prim.Native.Nat.{◌-◌}
+use mathlib.Core.Path.{refl, ◌∙◌}
+use lib.ListN.{length-set}
+use Rattle.lists.proofs.Over.{over_more, over_all}
+use borrow.Author.Rules.{rules}
+use Rattle.lists.proofs.copy.Goals as goal
+
+pub loop-i-init : goal.loop-i-init
+loop-i-init c = (search rules, (refl, refl))
+
+pub loop-i-preserved : goal.loop-i-preserved
+loop-i-preserved c = (
+    search rules,
+    (
+    simp length-set c.loop-i.invariant.1.0,
+    rw c.loop-i.invariant.1.1
+    (over_more _ _ _ _ c.requires c.loop-i-test.true),
+    ),
+    )
+
+pub returns : goal.returns
+returns c = c.loop-i.invariant.1.1 ∙ over_all _ _ _ c.requires c.loop-i-test.false
