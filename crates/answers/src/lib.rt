@@ -1,4 +1,6 @@
 // What a call answers: the refusals of the scope's table, one case a row, and whether there was one.
+#![tactic(auto)]
+
 ghost use Rattle.std.specs.Prelude.{◌≡◌};
 ghost use Rattle.answers.specs.declared.Refusal.TheVariants.{Stored};
 ghost use Rattle.answers.specs.Outcome.{stored_in};
