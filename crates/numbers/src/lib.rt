@@ -1,5 +1,7 @@
 // What the work needs of single numbers: whether an f64 is finite, its square root, magnitude and floor by the
 // digits of its bit pattern, the floor as an integer with what is left above it, and integers modulo n.
+#![tactic(auto)]
+
 ghost use Rattle.std.specs.Prelude.{◌≡◌, true, ◌+◌, ◌*◌, ◌^◌, ◌≤◌, ◌<◌, pos, ◌+ℤ◌, ◌-ℤ◌};
 ghost use Rattle.std.specs.Float.{binary64};
 ghost use Rattle.std.specs.Float.Ieee.{of_bits};
