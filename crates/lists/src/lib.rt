@@ -1,4 +1,6 @@
 // Lists of numbers in lent slices: fill, copy, and the search for a number that isn't finite.
+#![tactic(auto)]
+
 ghost use Rattle.std.specs.Prelude.{◌≡◌, true, ℕ, ◌+◌, ◌*◌, ◌≤◌, ◌<◌, length, take, replicate};
 ghost use Rattle.numbers.specs.Finite.{finite};
 ghost use Rattle.numbers.specs.Arithmetic.{zero64};

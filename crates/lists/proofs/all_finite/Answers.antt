@@ -1,4 +1,3 @@
-use Prim.Native.Nat.{◌-◌}
 use Rattle.lists.proofs.Turns.{turns}
 use Rattle.lists.proofs.Seen.{flags}
 use Rattle.lists.proofs.Eighths.{flag_from}

@@ -1,4 +1,3 @@
-use Prim.Native.Nat.{◌-◌}
 use mathlib.Core.Path.{refl, ◌∙◌}
 use lib.ListN.{length-set}
 use Rattle.lists.proofs.Over.{over_more, over_all}
@@ -10,13 +9,13 @@ loop-i-init c = (search rules, (refl, refl))
 
 pub loop-i-preserved : goal.loop-i-preserved
 loop-i-preserved c = (
-    search rules,
-    (
+  search rules,
+  (
     simp length-set c.loop-i.invariant.1.0,
     rw c.loop-i.invariant.1.1
-    (over_more _ _ _ _ c.requires c.loop-i-test.true),
-    ),
-    )
+        (over_more _ _ _ _ c.requires c.loop-i-test.true),
+  ),
+)
 
 pub returns : goal.returns
 returns c = c.loop-i.invariant.1.1 ∙ over_all _ _ _ c.requires c.loop-i-test.false

@@ -1,4 +1,3 @@
-use Prim.Native.Nat.{◌-◌}
 use Rattle.lists.specs.Floats.{sum_on, sum_to}
 use Rattle.lists.proofs.Turns.{turns}
 use Rattle.lists.proofs.eight_sums.Goals as goal

@@ -1,4 +1,3 @@
-use Prim.Native.Nat.{◌-◌}
 use mathlib.Core.Path.{refl, ◌∙◌}
 use native.Mathlib.Omega.{arith}
 use lib.ListN.{length-set}
@@ -14,13 +13,13 @@ loop-i-smaller c = simp length-set (omega arith)
 
 pub loop-i-preserved : goal.loop-i-preserved
 loop-i-preserved c = (
-    simp length-set (omega arith),
-    (
+  simp length-set (omega arith),
+  (
     simp length-set c.loop-i.invariant.1.0,
     rw c.loop-i.invariant.1.1
-    (fills_more c.args.v c.args.s.now c.loop-i.i (omega arith)),
-    ),
-    )
+        (fills_more c.args.v c.args.s.now c.loop-i.i (omega arith)),
+  ),
+)
 
 pub returns : goal.returns
 returns c = c.loop-i.invariant.1.1 ∙ fills_all c.args.v c.args.s.now c.loop-i.i (omega arith)

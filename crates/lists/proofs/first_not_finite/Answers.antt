@@ -1,4 +1,3 @@
-use Prim.Native.Nat.{◌-◌}
 use Rattle.lists.proofs.Turns.{turns}
 use Rattle.lists.proofs.Seen.{sounds}
 use Rattle.lists.proofs.first_not_finite.Goals as goal

@@ -1,4 +1,3 @@
-use Prim.Native.Nat.{◌-◌}
 use Rattle.lists.specs.Strips.{stored_from}
 use Rattle.lists.proofs.Turns.{turns}
 use Rattle.lists.proofs.store_sums.Goals as goal
