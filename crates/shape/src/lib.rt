@@ -1,4 +1,6 @@
 // The shape of a chain: how many cores it has, and the ranks and sizes of each.
+#![tactic(auto)]
+
 ghost use Rattle.std.specs.Prelude.{◌≡◌, ℕ, ◌+◌, ◌*◌, ◌≤◌, ◌<◌, min, [], length, replicate};
 ghost use Rattle.answers.specs.Outcome.{verdict_of};
 ghost use Rattle.lists.specs.Lists.{first_not};

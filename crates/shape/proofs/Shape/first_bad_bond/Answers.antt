@@ -1,4 +1,3 @@
-use Prim.Native.Nat.{◌-◌}
 use borrow.Author.Rules.{rules}
 use Rattle.lists.proofs.Demands.{passing}
 use Rattle.shape.proofs.Shape.first_bad_bond.Goals as goal

@@ -1,4 +1,3 @@
-use Prim.Native.Nat.{◌-◌}
 use borrow.Author.Rules.{rules}
 use Rattle.shape.proofs.Offsets.{offsets}
 use Rattle.shape.proofs.Shape.offset.Goals as goal

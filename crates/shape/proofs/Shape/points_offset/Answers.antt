@@ -1,4 +1,3 @@
-use Prim.Native.Nat.{◌-◌}
 use borrow.Author.Rules.{rules}
 use Rattle.shape.specs.Shapes.{point_size}
 use Rattle.shape.proofs.Offsets.{offsets}
