@@ -1,5 +1,4 @@
 use borrow.Author.Rules.{rules}
-use Prim.Native.Nat.{◌-◌}
 use Rattle.lists.proofs.Seen.{flag_none}
 use Rattle.words.proofs.Runs.{numbers-read}
 use Rattle.words.proofs.all_finite.Goals as goal

@@ -1,7 +1,5 @@
 use borrow.Author.Rules.{rules}
-use Prim.Native.Nat.{◌-◌}
 use Rattle.lists.proofs.Over.{tabs_more}
-use Rattle.words.specs.Bytes.{f64_at}
 use native.Mathlib.Omega.{arith}
 use Rattle.words.proofs.Runs.{number_finite, numbers_done}
 use Rattle.words.proofs.numbers.Goals as goal

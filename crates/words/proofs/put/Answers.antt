@@ -1,5 +1,4 @@
 use borrow.Author.Rules.{rules}
-use Prim.Native.Nat.{◌-◌}
 use Rattle.words.proofs.Placing.{placed_none, puts_more, puts_done}
 use mathlib.Core.Path.{refl}
 use Rattle.words.proofs.put.Goals as goal

@@ -1,5 +1,4 @@
 use borrow.Author.Rules.{rules}
-use Prim.Native.Nat.{◌-◌}
 use native.Mathlib.Omega.{arith}
 use lib.Ieee.{nan}
 use mathlib.Core.Path.{◌∙◌}
@@ -41,12 +40,12 @@ loop-i-smaller c = search ways
 
 pub loop-i-preserved : goal.loop-i-preserved
 loop-i-preserved c = let start = c.args in (
-      search rules,
-      c.put.auto.out ∙ c.loop-i.invariant.1,
-      write_more start.list.now start.p start.out.now c.loop-i.i _ _ _
-          c.loop-i.invariant.2 c.f64_bytes.ensures
-          (omega (arith, c.requires.0)) c.put.ensures,
-    )
+  search rules,
+  c.put.auto.out ∙ c.loop-i.invariant.1,
+  write_more start.list.now start.p start.out.now c.loop-i.i _ _ _
+      c.loop-i.invariant.2 c.f64_bytes.ensures
+      (omega (arith, c.requires.0)) c.put.ensures,
+)
 
 pub shape_of-out : goal.shape_of-out
 shape_of-out c = search ways
