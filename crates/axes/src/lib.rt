@@ -1,4 +1,6 @@
 // The settings of one axis, what is asked of them, and a record out of a lent list.
+#![tactic(auto)]
+
 ghost use Rattle.std.specs.Prelude.{◌≡◌, ◌<◌, set};
 ghost use Rattle.shape.specs.Limits.{most_axes};
 ghost use Rattle.stepform.specs.Boundaries.{boundary_ok};
@@ -77,7 +79,8 @@ pub fn gather(xs: &[Axis]) -> [Axis; shape::MOST_AXES]
     let mut k: usize = 0;
     while k < list.len() {
         let x = axis_at(xs, k);
-        list = put(list, k, x);
+        let next = put(list, k, x);
+        list = next;
         k = k + 1;
     }
     list
