@@ -132,3 +132,8 @@ module _ (final : Float) (steps : ℕ) (c : Float) (cutting : Cutting) (s : Shap
 
   pub evolve_goes : v ≡ Fits → (r : Rounded) (l' v' : List Float) → Answers (ended_as s l x (all set)) r l' v' → Answers (evolve_over final steps c cutting s count xs l x) r l' v'
   evolve_goes h r l' v' A = subst (λ (y : Ended). Answers y r l' v') evolve_opened (over_goes lone mild set s count xs l (length x) v e (all set) x h r l' v' A)
+
+-- ---- records that were lent
+-- a call over records by value, which is another over those that were lent
+pub ends_as : (e f : Ended) → e ≡ f → (r : Rounded) (l v : List Float) → Answers e r l v → (r ≡ f.result) × (l ≡ f.chain) × (v ≡ f.scratch)
+ends_as e f p r l v A = (A.result ∙ ap (λ (y : Ended). y.result) p, A.chain ∙ ap (λ (y : Ended). y.chain) p, A.scratch ∙ ap (λ (y : Ended). y.scratch) p)

@@ -1,4 +1,6 @@
 // The calls `step` and `evolve`. Work is done in scratch, and the chain is written once, at the very end.
+#![tactic(auto)]
+
 ghost use Rattle.std.specs.Prelude.{◌≡◌, true, ℕ, ◌≤◌, ◌<◌, length};
 ghost use Rattle.answers.specs.Outcome.{done};
 ghost use Rattle.shape.specs.Shapes.{chain_ok, entries_of};
