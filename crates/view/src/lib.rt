@@ -1,5 +1,7 @@
 // One core of a lent chain, read through a view that holds the chain and the core's place. Each function over the view is
 // thin: it takes the view apart, or puts it together, and leaves the work to a function over a plain slice and numbers.
+#![tactic(auto)]
+
 ghost use Rattle.std.specs.Prelude.{◌≡◌, ◌<◌};
 ghost use Rattle.shape.specs.Sizes.{SizesWithin};
 ghost use Rattle.view.specs.View.{nowhere, core_spot, spot_of, view_of, seen_at, seen};
