@@ -1,49 +1,46 @@
 // Lists the chain file on standard input. Only reading and writing stand here; the text is made by `listing`.
+#![tactic(auto)]
+
 ghost use Rattle.std.specs.Prelude.{◌≤◌, length};
+
+use anyhow::Context;
+use std::io;
+use std::io::Read;
 
 // One byte more than the largest file that is listed.
 const ROOM: usize = listing::MOST_BYTES + 1;
 
 // How many bytes standard input gave, up to its end or to the end of the room, and whether without an error.
-#[derive(Clone, Copy)]
+#[derive(Drop)]
 struct Input {
     n: usize,
-    whole: bool,
+    whole: io::Result<()>,
 }
 
-fn given(bytes: &mut [u8]) -> Input
+fn given(input: &mut impl Read, bytes: &mut [u8]) -> Input
     ensures { result.n ≤ length bytes.new }
 {
     let mut n = 0;
     while n < bytes.len() {
-        let got = libc::read(libc::STDIN_FILENO, &mut bytes[n..]);
-        if got < 0 {
-            return Input { n, whole: false };
+        match input.read(&mut bytes[n..]) {
+            Ok(0) => return Input { n, whole: Ok(()) },
+            Ok(more) => n += more,
+            Err(e) => return Input { n, whole: Err(e) },
         }
-        let more = io::count(got, &bytes[n..]);
-        if more == 0 {
-            return Input { n, whole: true };
-        }
-        n += more;
     }
-    Input { n, whole: true }
+    Input { n, whole: Ok(()) }
 }
 
-fn list(bytes: &[u8]) {
+fn list(rt: &impl Print, bytes: &[u8]) -> io::Result<()> {
     let mut text = [0u8; listing::TEXT];
     let n = listing::text_of(bytes, &mut text);
-    if !io::write_all(libc::STDOUT_FILENO, &text[..n]) {
-        os::fail(b"ttlist: standard output");
-    }
+    rt.write_all(&text[..n])
 }
 
-fn main() {
+fn main(rt: HostRuntime) -> anyhow::Result<()> {
     let mut bytes = [0u8; ROOM];
-    let input = given(&mut bytes);
-    if !input.whole {
-        os::fail(b"ttlist: standard input");
-        return;
-    }
+    let input = given(&mut rt.stdin(), &mut bytes);
+    input.whole.context("ttlist: standard input")?;
     let n = input.n;
-    list(&bytes[..n]);
+    list(&rt, &bytes[..n]).context("ttlist: standard output")
 }
