@@ -4,64 +4,67 @@ ghost use Rattle.shape.specs.Limits.{most_axes};
 
 use crate::print::say;
 use crate::{inputs, print};
+use std::io::Result;
 
-fn name(z: usize) {
+fn name(rt: &impl Print, z: usize) -> Result<()> {
     match z {
-        0 => say(b"0 Harbour "),
-        1 => say(b"1 Old Town"),
-        2 => say(b"2 Mill    "),
-        3 => say(b"3 Station "),
-        _ => say(b"4 Hospital"),
+        0 => say(rt, b"0 Harbour "),
+        1 => say(rt, b"1 Old Town"),
+        2 => say(rt, b"2 Mill    "),
+        3 => say(rt, b"3 Station "),
+        _ => say(rt, b"4 Hospital"),
     }
 }
 
-fn bond(r: runform::Run, z: usize)
+fn bond(rt: &impl Print, r: runform::Run, z: usize) -> Result<()>
     requires { z < most_axes }
 {
     let b = r.bonds[z];
-    print::column(b.rank, 11);
-    print::column(b.sweeps, 8);
-    say(b"  ");
-    print::yes(b.settled);
-    print::small(b.dropped, 21);
+    print::column(rt, b.rank, 11)?;
+    print::column(rt, b.sweeps, 8)?;
+    say(rt, b"  ")?;
+    print::yes(rt, b.settled)?;
+    print::small(rt, b.dropped, 21)
 }
 
-fn row(r: runform::Run, z: usize)
+fn row(rt: &impl Print, r: runform::Run, z: usize) -> Result<()>
     requires { z < most_axes }
 {
-    name(z);
+    name(rt, z)?;
     let s = r.shape;
-    print::column(s.left[z], 12);
-    print::column(s.n[z], 8);
-    print::column(s.right[z], 12);
+    print::column(rt, s.left[z], 12)?;
+    print::column(rt, s.n[z], 8)?;
+    print::column(rt, s.right[z], 12)?;
     if z + 1 < inputs::ZONES {
-        bond(r, z);
+        bond(rt, r, z)?;
     }
-    say(b"\n");
+    say(rt, b"\n")
 }
 
-pub fn zones(r: runform::Run) {
+pub fn zones(rt: &impl Print, r: runform::Run) -> Result<()> {
     say(
+        rt,
         b"zone         left rank  points  right rank  kept rank  sweeps  settled  largest dropped\n",
-    );
+    )?;
     let mut z = 0;
     while z < inputs::ZONES {
-        row(r, z);
+        row(rt, r, z)?;
         z += 1;
     }
+    Ok(())
 }
 
 // What each bond keeps and drops at one eps, and the figure.
-pub fn at_eps(eps: f64, r: runform::Run) {
-    say(&digits::chance(eps));
+pub fn at_eps(rt: &impl Print, eps: f64, r: runform::Run) -> Result<()> {
+    say(rt, &digits::chance(eps))?;
     let mut z = 0;
     while z + 1 < inputs::ZONES {
         let b = r.bonds[z];
-        print::column(b.rank, 3);
-        print::small(b.dropped, 10);
+        print::column(rt, b.rank, 3)?;
+        print::small(rt, b.dropped, 10)?;
         z += 1;
     }
-    say(b"  ");
-    say(&digits::chance(r.figure));
-    say(b"\n");
+    say(rt, b"  ")?;
+    say(rt, &digits::chance(r.figure))?;
+    say(rt, b"\n")
 }
