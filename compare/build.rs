@@ -1,4 +1,4 @@
-//! Links the archive that `rt staticlib zones` writes.
+//! Links the archive that `face/archive` writes.
 fn main() {
     let here = std::env::var("CARGO_MANIFEST_DIR").expect("a folder");
     println!("cargo:rustc-link-search=native={here}/../target/staticlib");

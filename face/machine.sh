@@ -1,5 +1,5 @@
-# What face/test, oracle/prepare and compare/run need of the machine; they read it with `.`. The archive is for x86-64 Linux: on a machine
-# of another kind a cross compiler links what calls it, and an emulator runs that. UYAVSKER_EMULATE=1 does so on x86-64 too.
+# What face/archive, face/test, oracle/prepare and compare/run need of the machine; they read it with `.`. The archive is for x86-64 Linux:
+# on a machine of another kind a cross compiler links what calls it, and an emulator runs that. UYAVSKER_EMULATE=1 does so on x86-64 too.
 #
 #   compiler   the C compiler for x86-64, with what it is always told
 #   emulator   the command that runs a program for x86-64; empty where there's no need of one

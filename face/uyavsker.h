@@ -1,6 +1,6 @@
 /* Zone chains: the proved numeric core of a district heating plan, for C.
  *
- * Link with libzones.a, which `rt staticlib zones` writes to target/staticlib (x86-64 Linux).
+ * Link with libzones.a, which `face/archive` writes to target/staticlib (x86-64 Linux).
  *
  * Records go in and out by value; a slice is a pointer and how many elements it has. No pointer is null, each leads to as
  * many elements as the length beside it says, and a slice that a call writes overlaps no other slice of that call. That is

@@ -1,4 +1,4 @@
-//! Links the archive that `rt staticlib zones` writes. `UYAVSKER_LIB` names another folder that holds `libzones.a`.
+//! Links the archive that `face/archive` writes. `UYAVSKER_LIB` names another folder that holds `libzones.a`.
 use std::env;
 use std::path::PathBuf;
 
