@@ -297,15 +297,6 @@ class Function:
             rest = re.sub(r"^\s*%s" % re.escape(name), "", rest)
             dm = re.match(r"((?:\s+[^\s=]+)*?)\s*=\s*(.*)$", rest, re.S)
             found[new] = (dm.group(1).strip(), dm.group(2).rstrip(), unfold)
-        # an answer that cites another has its text
-        texts = {name: None for name in answers}
-        for name, (old, b) in answers.items():
-            new = self.goal(old, old_to_new) or old
-            texts[name] = found[new][1] if new in found else None
-        for new, (params, body, unfold) in list(found.items()):
-            for _ in range(4):
-                body = self.expanded(body, texts, new)
-            found[new] = (params, body, unfold)
         # answers by their position
         lams = [a for a in args]
         if len(lams) == len(order):
@@ -325,6 +316,15 @@ class Function:
                 for n in order:
                     if n not in found:
                         found[n] = ("c", searches[0], unfold_all)
+        # an answer that cites another has its text
+        texts = {name: None for name in answers}
+        for name, (old, b) in answers.items():
+            new = self.goal(old, old_to_new) or old
+            texts[name] = found[new][1] if new in found else None
+        for new, (params, body, unfold) in list(found.items()):
+            for _ in range(4):
+                body = self.expanded(body, texts, new)
+            found[new] = (params, body, unfold)
         self.write(uses, comments, helpers, inv, found, place_of, order)
         return True
 

@@ -22,12 +22,12 @@ starts_of-ahead-requires c = let l : length c.args.block.now < 2 ^ 64 = search r
     )
 
 pub starts_of-behind-requires : goal.starts_of-behind-requires
-starts_of-behind-requires c = let r = (let l : length c.args.block.now < 2 ^ 64 = search rules in (
+starts_of-behind-requires c = let l : length c.args.block.now < 2 ^ 64 = search rules in (
       period_some _ _ _ c.period-period.ensures c.requires.0.some,
       period_few _ _ _ c.period-period.ensures c.requires.0.few,
       period_fits _ _ _ c.period-period.ensures c.args.rr (length c.args.block.now) c.requires.0.room l,
-      c.requires.1,
-    )) in (r.0, r.1, r.2, reach_neg _ r.3)
+      reach_neg _ c.requires.1,
+    )
 
 pub overflow_add-room : goal.overflow_add-room
 overflow_add-room c = record { fits = omega (arith, period_few _ _ _ c.period-period.ensures c.requires.0.few, c.requires.0.few) }

@@ -64,7 +64,7 @@ unfolding backwards_of
 slice_bounds-copy-end-in-loop-q c = search (turns, at_least)
 
 pub copy-requires : goal.copy-requires
-copy-requires c = let e = sub-from c.before.before in
+copy-requires c = let e = row_end c.loop-q.q c.args.n c.args.rr (length c.args.s.now) c.loop-q-test.true (at_least _ _ c.requires.0) in
     let f = row_end c.loop-q.q c.args.n c.args.rr (length c.loop-q.d) c.loop-q-test.true (at_least _ _ (c.loop-q.invariant.1 ∙ c.requires.1)) in
     search (turns, even_parts, e, f)
 

@@ -11,7 +11,7 @@ pub slice_bounds-copy-end-2 : goal.slice_bounds-copy-end-2
 slice_bounds-copy-end-2 c = part_count (length c.args.s.now) c.args.d.now (omega (arith, c.requires.1))
 
 pub copy-requires : goal.copy-requires
-copy-requires c = slice-aggregate-copy c
+copy-requires c = (part_count (length c.args.s.now) c.args.d.now (omega (arith, c.requires.1)))
 
 pub back_and_again-requires : goal.back_and_again-requires
 back_and_again-requires c = let h = length c.args.s.now in

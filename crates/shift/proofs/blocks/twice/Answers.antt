@@ -10,7 +10,7 @@ pub slice_bounds-copy-end-2 : goal.slice_bounds-copy-end-2
 slice_bounds-copy-end-2 c = part_count (length c.args.s.now) c.args.d.now (omega arith)
 
 pub copy-requires : goal.copy-requires
-copy-requires c = slice-aggregate-copy c
+copy-requires c = (part_count (length c.args.s.now) c.args.d.now (omega arith))
 
 pub returns : goal.returns
 returns c = parts_are _ _ _ _ _ _ refl c.copy.ensures c.copy-2.ensures
