@@ -136,6 +136,45 @@ def tuple_parts(body):
     return text[:at], parts
 
 
+def by_clause(parts, fields):
+    """`1.0.x` of three clauses is `second.x`: they were pairs to the right."""
+    k = 0
+    while k < len(fields) - 1 and parts and parts[0] == "1":
+        k, parts = k + 1, parts[1:]
+    if k < len(fields) - 1:
+        if not parts or parts[0] != "0":
+            return None
+        parts = parts[1:]
+    return [fields[k]] + parts
+
+
+def clauses_of_source():
+    """The names of each function's `ensures`, by its path."""
+    table = {}
+    for path in glob.glob("crates/*/src/**/*.rt", recursive=True):
+        crate = path.split("/")[1]
+        inner = path.split("/src/", 1)[1][:-3].replace("/", "::")
+        module = crate if inner in ("lib", "main") else f"{crate}::{inner}"
+        owner, name = None, None
+        for line in open(path):
+            m = re.match(r"impl(?:<[^>]*>)? (\w+)", line)
+            if m:
+                owner = m.group(1)
+            elif line.startswith("}"):
+                owner = None
+            m = re.match(r"\s*(?:pub )?(?:extern \"C\" )?fn (\w+)", line)
+            if m:
+                name = f"{module}::{owner}::{m.group(1)}" if owner and line[0] == " " else f"{module}::{m.group(1)}"
+                table[name] = []
+            m = re.match(r"\s*ensures (\w+) \{", line)
+            if m and name:
+                table[name].append(m.group(1))
+    return table
+
+
+CLAUSES = {}
+
+
 class Function:
     def __init__(self, crate, path, entry, log):
         self.crate, self.path, self.names, self.log = crate, path, Names(entry), log
@@ -165,16 +204,7 @@ class Function:
 
     def paths(self, body, place, goal):
         """The body with today's paths: `.before` goes, and a step has its new name."""
-        # a name for a place or for what stands there is written out: let start = c.before.before.args in
-        names = {}
-        while True:
-            m = re.search(r"let ([\w'-]+) = (c|%s)((?:\.[^\s(){},;@\]]+)*) in\s*" % ("|".join(map(re.escape, names)) or "c"), body)
-            if not m:
-                break
-            names[m.group(1)] = names.get(m.group(2), "c") + m.group(3)
-            body = body[:m.start()] + body[m.end():]
-        if names:
-            body = re.sub(r"(?<![\w.'-])(%s)(?![\w'-])" % "|".join(re.escape(n) for n in sorted(names, key=len, reverse=True)), lambda m: names[m.group(1)], body)
+        body = self.named(body)
 
         def path(m):
             head, befores, rest = m.group(1), m.group(2).count(".before"), m.group(3)
@@ -213,7 +243,7 @@ class Function:
                     parts[2:] = [params[ones]] + rest_of[1:]
                 else:
                     self.say(f"{goal}: {m.group(0)} of {callee} {params}")
-            return "c." + ".".join(parts)
+            return "c." + ".".join(parts[:1] + [norm(p) for p in parts[1:]])
 
         return re.sub(r"(?<![\w.'-])(c)((?:\.before)*)((?:\.[^\s(){},;.@\]]+)*)(?![\w'-])", path, body)
 
@@ -221,22 +251,18 @@ class Function:
         """`requires.1.0` by the names of the clauses, where there are several."""
         if parts[0] != word or not named or len(parts) < 2 or not re.fullmatch(r"\d+", parts[1]):
             return parts
-        fields = named["fields"]
-        k = int(parts[1])
-        if k < len(fields):
-            return [parts[0], fields[k]] + parts[2:]
-        self.say(f"{goal}: {'.'.join(parts)} of {fields}")
-        return parts
+        rest = by_clause(parts[1:], named["fields"])
+        if rest is None:
+            self.say(f"{goal}: {'.'.join(parts)} of {named['fields']}")
+            return parts
+        return [parts[0]] + rest
 
     def of_ensures(self, parts, place, depth, first, goal):
-        for i, p in enumerate(self.names.up(place)):
-            if i >= depth and norm(p[2][0]) == norm(first):
-                named = self.names.clauses.get(p[0])
-                if named and len(parts) > 2 and parts[1] == "ensures" and re.fullmatch(r"\d+", parts[2]):
-                    fields = named["fields"] if isinstance(named, dict) else named
-                    if int(parts[2]) < len(fields):
-                        return parts[:2] + [fields[int(parts[2])]] + parts[3:]
-                break
+        fields = CLAUSES.get(self.names.callee(place, depth, first) or "", [])
+        if len(fields) > 1 and len(parts) > 2 and parts[1] == "ensures" and re.fullmatch(r"[01]", parts[2]):
+            rest = by_clause(parts[2:], fields)
+            if rest:
+                return parts[:2] + rest
         return parts
 
     def turn(self):
@@ -329,9 +355,11 @@ class Function:
         return True
 
     def expanded(self, body, texts, goal):
+        body = self.named(body)
         for name, text in texts.items():
             if text is None:
                 continue
+            text = self.named(text)
 
             def put(m, text=text):
                 at = m.group(1)
@@ -367,6 +395,30 @@ class Function:
             if n == new:
                 return o
         return new
+
+    def inlined(self, body, helpers):
+        """What a helper says of a whole place is written out where it is used."""
+        for h in helpers:
+            m = re.match(r"abbrev (\S+) : tie\.\S+ → [^\n]*\n\1 (\w+) =\s*(.*)$", h, re.S)
+            if not m:
+                continue
+            name, var, text = m.group(1), m.group(2), re.sub(r"\s*\n\s*", " ", m.group(3)).strip()
+            body = self.named(body)
+            body = re.sub(r"\(%s (c(?:\.before)*)\)" % re.escape(name), lambda u: "(" + re.sub(r"(?<![\w.'-])%s(?=\.)" % re.escape(var), lambda _: u.group(1), text) + ")", body)
+        return body
+
+    def named(self, body):
+        """Names for places, written out."""
+        names = {}
+        while True:
+            m = re.search(r"let ([\w'-]+) = (c|%s)((?:\.[^\s(){},;@\]]+)*) in\s*" % ("|".join(map(re.escape, names)) or "c"), body)
+            if not m:
+                break
+            names[m.group(1)] = names.get(m.group(2), "c") + m.group(3)
+            body = body[:m.start()] + body[m.end():]
+        if names:
+            body = re.sub(r"(?<![\w.'-])(%s)(?![\w'-])" % "|".join(re.escape(n) for n in sorted(names, key=len, reverse=True)), lambda m: names[m.group(1)], body)
+        return body
 
     def invariants(self, inv, uses):
         out, done = [], {}
@@ -435,16 +487,25 @@ class Function:
             params, body, unfold = found[n]
             if re.fullmatch(r"search rules", body.strip()) and not unfold:
                 continue
-            body = self.paths(body, place_of.get(n, None), n)
+            body = self.paths(self.inlined(body, helpers), place_of.get(n, None), n)
             body = re.sub(r"\n {4,}", "\n    ", body) if body.count("\n") and body.startswith("(") else body
             params = "c" if params in ("c", "c κs") else params
             fields = self.names.entry["asked"].get(self.old_of(n))
             if fields:
                 split = tuple_parts(body)
+                while split and 1 < len(split[1]) < len(fields):
+                    last = split[1][-1]
+                    inner = tuple_parts(last)
+                    if inner and inner[0] == "":
+                        split = (split[0], split[1][:-1] + inner[1])
+                    elif re.fullmatch(r"[\w'.-]+", last) and len(split[1]) == len(fields) - 1:
+                        split = (split[0], split[1][:-1] + [last + ".0", last + ".1"])
+                    else:
+                        break
                 if split and len(split[1]) == len(fields):
                     body = split[0] + "record {\n      " + ";\n      ".join(f"{f} = {part}" for f, part in zip(fields, split[1])) + ";\n    }"
                 elif not re.search(r"(?:^|in\s+)search ", body):
-                    body = f"let q = {body} in record {{ " + "; ".join(f"{f} = q.{i}" for i, f in enumerate(fields)) + " }"
+                    body = f"let q = {body} in record {{ " + "; ".join(f"{f} = q" + ".1" * i + (".0" if i < len(fields) - 1 else "") for i, f in enumerate(fields)) + " }"
             text = f"pub {n} : goal.{n}\n"
             if unfold:
                 text += f"unfolding {unfold}\n"
@@ -477,6 +538,8 @@ class Function:
 
     def needed(self, uses, text):
         out = []
+        if sum(bool(re.search(r"[{ ]rules[,}]", u)) for u in uses) > 1:
+            uses = [u for u in uses if not u.startswith("use borrow.Author.Rules.")]
         for u in uses:
             m = re.match(r"use ([^\s{]+)\.\{(.*)\}$", u, re.S)
             if not m:
@@ -502,6 +565,7 @@ class Function:
 
 def main(argv):
     crate = argv[0]
+    CLAUSES.update(clauses_of_source())
     names = generated(crate)
     by = {}
     for key, entry in names.items():

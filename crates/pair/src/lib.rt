@@ -91,8 +91,8 @@ pub fn contract_and_split(
     rights: &mut [f64],
     scratch: &mut [f64],
 ) -> pairform::Paired
-    ensures* { λ w. ⌜ record { result = w; left = lefts.new; right = rights.new; scratch = scratch.new }
-        ≡ pair_call (core_of l left.now) (core_of r right.now) eps lefts.old rights.old scratch.old ⌝ }
+    ensures { record { result = result; left = lefts.new; right = rights.new; scratch = scratch.new }
+        ≡ pair_call (core_of l left.now) (core_of r right.now) eps lefts.old rights.old scratch.old }
 {
     let ok = refusals::pair_ok(
         l,

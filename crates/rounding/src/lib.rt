@@ -43,8 +43,8 @@ fn rounded_of(w: cuts::Walked) -> Rounded
 pub fn finish(s: shape::Shape, w: cuts::Walked, chain: &mut [f64], scratch: &mut [f64]) -> Rounded
     requires sizes_within { SizesWithin s }
     requires inside { (w.verdict ≡ Fits → Inside s w.shape) × (entries_of s ≤ length chain.old) × (entries_of s ≤ length scratch.old) }
-    ensures* { λ r. ⌜ record { result = r; chain = chain.new; scratch = scratch.new }
-        ≡ finished s w chain.old scratch.old ⌝ }
+    ensures { record { result = result; chain = chain.new; scratch = scratch.new }
+        ≡ finished s w chain.old scratch.old }
 {
     let verdict = w.verdict;
     let t = w.shape;
@@ -73,8 +73,8 @@ fn round_all(
 ) -> Rounded
     requires s_value { chain_ok s ≡ done tt }
     requires chain_len { (length chain.old ≡ entries_of s) × (entries_of s ≤ length scratch.old) }
-    ensures* { λ r. ⌜ record { result = r; chain = chain.new; scratch = scratch.new }
-        ≡ ended_by s chain.old scratch.old (rounding cutting (cores_of s chain.old)) ⌝ }
+    ensures { record { result = result; chain = chain.new; scratch = scratch.new }
+        ≡ ended_by s chain.old scratch.old (rounding cutting (cores_of s chain.old)) }
 {
     let mut carries = [0.0; shape::MOST_CARRIES];
     let mut room = [0.0; shape::MOST_CORE];
@@ -98,8 +98,8 @@ pub fn tt_round(
     chain: &mut [f64],
     scratch: &mut [f64],
 ) -> Rounded
-    ensures* { λ r. ⌜ record { result = r; chain = chain.new; scratch = scratch.new }
-        ≡ round_call s cutting chain.old scratch.old ⌝ }
+    ensures { record { result = result; chain = chain.new; scratch = scratch.new }
+        ≡ round_call s cutting chain.old scratch.old }
 {
     let ok = checks::round_ok(s, cutting, chain, scratch.len());
     if let answers::Verdict::Refused(r) = ok {

@@ -92,13 +92,13 @@ pub fn resummed(
 ) -> runform::Ran
     requires bonds_value { shape_ok r.shape (rank_ok r.shape r.bonds) ≡ done tt }
     requires lent { Lent r.shape z part.now weights.old chain.now sums.old }
-    ensures* { λ a. ⌜ ((source carries scratch : List Float) →
+    ensures { ((source carries scratch : List Float) →
         record {
-          result = a;
+          result = result;
           slices = slices source weights.new chain.now carries sums.new;
           scratch = zeros (length scratch);
         }
-        ≡ weights_end r z (slices source weights.old chain.now carries sums.old) part.now scratch) ⌝ }
+        ≡ weights_end r z (slices source weights.old chain.now carries sums.old) part.now scratch) }
 {
     let s = r.shape;
     let bonds = r.bonds;

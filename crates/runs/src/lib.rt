@@ -36,13 +36,13 @@ pub fn fresh_run(
     sums: &mut [f64],
     scratch: &mut [f64],
 ) -> runform::Ran
-    ensures* { λ a. ⌜ record {
-      result = a;
+    ensures { record {
+      result = result;
       slices = slices source.now weights.now chain.new carries.new sums.new;
       scratch = scratch.new;
     }
         ≡ fresh_call s xs set (slices source.now weights.now chain.old carries.old sums.old)
-        scratch.old ⌝ }
+        scratch.old }
 {
     let r = blank_run(s, xs, set);
     let ok = run_checks::calls::fresh_ok(
@@ -75,13 +75,13 @@ pub fn replace_core(
     part: &[f64],
     scratch: &mut [f64],
 ) -> runform::Ran
-    ensures* { λ a. ⌜ record {
-      result = a;
+    ensures { record {
+      result = result;
       slices = slices source.new weights.now chain.new carries.new sums.new;
       scratch = scratch.new;
     }
         ≡ replace_core_call r z (slices source.old weights.now chain.old carries.old sums.old)
-        part.now scratch.old ⌝ }
+        part.now scratch.old }
 {
     let ok = run_checks::calls::core_ok(
         r,
@@ -131,13 +131,13 @@ pub fn replace_axis(
     sums: &mut [f64],
     scratch: &mut [f64],
 ) -> runform::Ran
-    ensures* { λ a. ⌜ record {
-      result = a;
+    ensures { record {
+      result = result;
       slices = slices source.now weights.now chain.new carries.new sums.new;
       scratch = scratch.new;
     }
         ≡ replace_axis_call r z x (slices source.now weights.now chain.old carries.old sums.old)
-        scratch.old ⌝ }
+        scratch.old }
 {
     let ok = run_checks::new_axis::axis_ok(
         r,
@@ -176,13 +176,13 @@ pub fn replace_weights(
     part: &[f64],
     scratch: &mut [f64],
 ) -> runform::Ran
-    ensures* { λ a. ⌜ record {
-      result = a;
+    ensures { record {
+      result = result;
       slices = slices source.now weights.new chain.now carries.now sums.new;
       scratch = scratch.new;
     }
         ≡ replace_weights_call r z (slices source.now weights.old chain.now carries.now sums.old)
-        part.now scratch.old ⌝ }
+        part.now scratch.old }
 {
     let ok = run_checks::calls::weights_ok(
         r,

@@ -1,0 +1,18 @@
+-- `passes::three_sums`: the invariant: each sum is that of the rows passed.
+use Prim.Native.Nat.{ℕ, ◌-◌, ◌≤◌}
+use mathlib.Core.Path.{◌≡◌}
+use lib.Ieee.{Float}
+use Rattle.numbers.specs.Arithmetic.{plus, times}
+use Rattle.lists.specs.Lists.{iter}
+use Rattle.lists.specs.Floats.{cell}
+use Rattle.passes.proofs.three_sums.Given as goal
+
+abbrev pub invariant-loop-row : goal.invariant-loop-row
+invariant-loop-row l =
+    (l.row ≤ l.m)
+    × (l.first ≡ iter l.row (λ (i : ℕ) (s : Float). plus s (times (cell l.m l.a l.p i) (cell l.m l.a l.p i))) l.initial.first)
+    × (l.second ≡ iter l.row (λ (i : ℕ) (s : Float). plus s (times (cell l.m l.a l.q i) (cell l.m l.a l.q i))) l.initial.second)
+    × (l.third ≡ iter l.row (λ (i : ℕ) (s : Float). plus s (times (cell l.m l.a l.p i) (cell l.m l.a l.w i))) l.initial.third)
+
+abbrev pub decreases-loop-row : goal.decreases-loop-row
+decreases-loop-row l = l.m - l.row
