@@ -1,0 +1,19 @@
+-- `pair::refusals::pair_ok`: sizes, lengths, numbers: the first check that refuses is the answer (size_stops, length_stops, finite_ends).
+use Rattle.answers.proofs.Checks.{verdict_passed}
+use Rattle.pair.proofs.Verdicts.{size_stops, length_stops, finite_ends}
+use Rattle.pair.proofs.refusals.pair_ok.Goals as goal
+
+pub returns-in-Refused : goal.returns-in-Refused
+returns-in-Refused c = size_stops c.args.l c.args.r _ _ _ _ _ _ _ c.sized-shaped.ensures _ c.in-Refused.is
+
+pub lent-long-requires : goal.lent-long-requires
+lent-long-requires c = verdict_passed _ _ c.sized-shaped.ensures c.in_default.is
+
+pub returns-in-Refused-long : goal.returns-in-Refused-long
+returns-in-Refused-long c = length_stops c.args.l c.args.r _ _ _ _ _ _ _ c.sized-shaped.ensures
+    c.in_default.is _ c.lent-long.ensures _ c.in-Refused-long.is
+
+pub returns : goal.returns
+returns c = finite_ends c.args.l c.args.r _ _ _ _ _ _ _ c.sized-shaped.ensures
+    c.in_default.is _ c.lent-long.ensures c.in_default-long.is _
+    c.finite.ensures
