@@ -2,12 +2,15 @@
 // kept is compared, bit for bit, with that of a fresh run in other slices. Then some turns on runs that others wrote to, and
 // fresh runs that are lent a wrong length. Prints how many days, replacements and refusals there were, and how many turns were as they
 // must be.
+#![tactic(auto)]
+
 ghost use Rattle.std.specs.Prelude.{◌≤◌};
 
 mod calls;
 mod turns;
 
 use drawing::{chance, plans};
+use std::io;
 
 // Every number of cores with every limit of ranks.
 const DAYS: usize = 128;
@@ -158,37 +161,37 @@ fn days() -> Tally {
 }
 
 // A line of words and a count.
-fn line(words: &[u8], t: Tally, from: usize, what: usize) {
-    io::write_all(libc::STDOUT_FILENO, words);
+fn line(rt: &impl Print, words: &[u8], t: Tally, from: usize, what: usize) -> io::Result<()> {
+    rt.write_all(words)?;
     let k = std::num::wrapping_add_usize(from, what);
     if k < COUNTS {
-        io::print_decimal(libc::STDOUT_FILENO, t.counts[k] as u64);
+        rt.print(t.counts[k])?;
     }
-    io::write_all(libc::STDOUT_FILENO, b"\n");
+    rt.write_all(b"\n")
 }
 
 // What is counted from a place on.
-fn lines(t: Tally, from: usize) {
-    line(b"replaced ", t, from, 0);
-    line(b"refused 2: ", t, from, 2);
-    line(b"refused 3: ", t, from, 3);
-    line(b"refused 4: ", t, from, 4);
-    line(b"refused 5: ", t, from, 5);
-    line(b"refused 6: ", t, from, 6);
-    line(b"refused 7: ", t, from, 7);
-    line(b"refused 8: ", t, from, 8);
-    line(b"refused 9: ", t, from, 9);
-    line(b"refused 12: ", t, from, 12);
-    line(b"refused 13: ", t, from, 13);
-    line(b"refused 14: ", t, from, 14);
-    line(b"turns ", t, from, TURN);
-    line(b"agreed ", t, from, AGREED);
+fn lines(rt: &impl Print, t: Tally, from: usize) -> io::Result<()> {
+    line(rt, b"replaced ", t, from, 0)?;
+    line(rt, b"refused 2: ", t, from, 2)?;
+    line(rt, b"refused 3: ", t, from, 3)?;
+    line(rt, b"refused 4: ", t, from, 4)?;
+    line(rt, b"refused 5: ", t, from, 5)?;
+    line(rt, b"refused 6: ", t, from, 6)?;
+    line(rt, b"refused 7: ", t, from, 7)?;
+    line(rt, b"refused 8: ", t, from, 8)?;
+    line(rt, b"refused 9: ", t, from, 9)?;
+    line(rt, b"refused 12: ", t, from, 12)?;
+    line(rt, b"refused 13: ", t, from, 13)?;
+    line(rt, b"refused 14: ", t, from, 14)?;
+    line(rt, b"turns ", t, from, TURN)?;
+    line(rt, b"agreed ", t, from, AGREED)
 }
 
-fn main() {
+fn main(rt: HostRuntime) -> io::Result<()> {
     let t = days();
-    line(b"days ", t, 0, DAY);
-    lines(t, 0);
-    io::write_all(libc::STDOUT_FILENO, b"spoilt by others, and lent wrong\n");
-    lines(t, SPOILT);
+    line(&rt, b"days ", t, 0, DAY)?;
+    lines(&rt, t, 0)?;
+    rt.write_all(b"spoilt by others, and lent wrong\n")?;
+    lines(&rt, t, SPOILT)
 }
