@@ -2,23 +2,39 @@
 ghost use Rattle.std.specs.Prelude.{◌≡◌, ◌*◌, length};
 ghost use Rattle.shape.specs.Limits.{most_core};
 
+use std::io;
+use std::io::{Read, Stdin};
+
 // What stands in an output or in scratch before a call.
 const MARK: f64 = 7.5;
 
 const ROOM: usize = 8 * shape::MOST_CORE;
 
+// Fills a list with what the input has, up to its end; a read that fails counts as the end.
+pub fn fill(input: Stdin, list: &mut [u8]) {
+    let mut from = input;
+    let mut done = 0;
+    while done < list.len() {
+        match from.read(&mut list[done..]) {
+            Ok(0) => return,
+            Ok(more) => done += more,
+            Err(_) => return,
+        }
+    }
+}
+
 // One word; bytes past the end of the input count as 0.
-pub fn word() -> usize {
+pub fn word(input: Stdin) -> usize {
     let mut b = [0u8; 8];
-    io::read_full(libc::STDIN_FILENO, &mut b);
+    fill(input, &mut b);
     let low = words::u32_at(&b, 0);
     let high = words::u32_at(&b, 4);
     low + 4294967296 * high
 }
 
 // A number by its bits; one NaN stands for all.
-pub fn number() -> f64 {
-    let bits = word() as u64;
+pub fn number(input: Stdin) -> f64 {
+    let bits = word(input) as u64;
     if bits % 0x8000_0000_0000_0000 > 0x7ff0_0000_0000_0000 {
         return 0.0 / 0.0;
     }
@@ -33,8 +49,8 @@ pub fn room() -> [f64; ROOM]
 }
 
 // As many numbers of a room as the word that follows says, or all.
-pub fn lent(room: &mut [f64]) -> &mut [f64] {
-    let n = word();
+pub fn lent(input: Stdin, room: &mut [f64]) -> &mut [f64] {
+    let n = word(input);
     if room.len() < n {
         return room;
     }
@@ -42,50 +58,50 @@ pub fn lent(room: &mut [f64]) -> &mut [f64] {
 }
 
 // How many numbers follow, then each: the front of a room that holds them.
-pub fn list(room: &mut [f64]) -> &mut [f64] {
-    let list = lent(room);
+pub fn list(input: Stdin, room: &mut [f64]) -> &mut [f64] {
+    let list = lent(input, room);
     let mut i = 0;
     while i < list.len() {
-        list[i] = number();
+        list[i] = number(input);
         i += 1;
     }
     list
 }
 
 // The word that follows while i is below n, then `rest`.
-fn wanted(i: usize, n: usize, rest: usize) -> usize {
+fn wanted(input: Stdin, i: usize, n: usize, rest: usize) -> usize {
     if i < n {
-        return word();
+        return word(input);
     }
     rest
 }
 
 // The n sizes that follow, and 0 behind them; of more than an array has, those that it has.
-fn sizes(n: usize) -> [usize; shape::MOST_AXES] {
+fn sizes(input: Stdin, n: usize) -> [usize; shape::MOST_AXES] {
     let mut list = [0; shape::MOST_AXES];
     let mut k = 0;
     while k < shape::MOST_AXES {
-        list[k] = wanted(k, n, 0);
+        list[k] = wanted(input, k, n, 0);
         k += 1;
     }
     list
 }
 
 // d, then the left ranks of the cores, their sizes, their right ranks.
-pub fn shape() -> shape::Shape {
-    let d = word();
-    let left = sizes(d);
-    let n = sizes(d);
-    let right = sizes(d);
+pub fn shape(input: Stdin) -> shape::Shape {
+    let d = word(input);
+    let left = sizes(input, d);
+    let n = sizes(input, d);
+    let right = sizes(input, d);
     shape::Shape { d, left, n, right }
 }
 
 // ---- what a call answered and left
 // Whether a call answered what a case says: thrice 0 where it is accepted, else number, place and index.
-pub fn verdict(v: answers::Verdict) -> bool {
-    let number = word();
-    let place = word();
-    let index = word();
+pub fn verdict(input: Stdin, v: answers::Verdict) -> bool {
+    let number = word(input);
+    let place = word(input);
+    let index = word(input);
     match v {
         answers::Verdict::Fits => (number == 0) & (place == 0) & (index == 0),
         answers::Verdict::Refused(r) => (number == answers::number(r) as usize)
@@ -95,30 +111,30 @@ pub fn verdict(v: answers::Verdict) -> bool {
 }
 
 // Whether a number has the bits that follow.
-pub fn is_next(x: f64) -> bool {
-    digits::pattern(x) == word() as u64
+pub fn is_next(input: Stdin, x: f64) -> bool {
+    digits::pattern(x) == word(input) as u64
 }
 
 // Whether a list holds what follows: how many numbers stand at its front, what stands behind them, then each by its bits.
-pub fn holds(list: &[f64]) -> bool {
-    let n = word();
-    let rest = word();
+pub fn holds(input: Stdin, list: &[f64]) -> bool {
+    let n = word(input);
+    let rest = word(input);
     let mut all = n <= list.len();
     let mut i = 0;
     while i < list.len() {
-        all = all & (digits::pattern(list[i]) == wanted(i, n, rest) as u64);
+        all = all & (digits::pattern(list[i]) == wanted(input, i, n, rest) as u64);
         i += 1;
     }
     all
 }
 
 // Whether the counts that follow, how many and each, are the first of an array, and 0 behind them.
-pub fn counts(list: [usize; shape::MOST_AXES]) -> bool {
-    let n = word();
+pub fn counts(input: Stdin, list: [usize; shape::MOST_AXES]) -> bool {
+    let n = word(input);
     let mut all = true;
     let mut k = 0;
     while k < shape::MOST_AXES {
-        all = all & (list[k] == wanted(k, n, 0));
+        all = all & (list[k] == wanted(input, k, n, 0));
         k += 1;
     }
     all
@@ -133,60 +149,64 @@ fn given(k: usize, n: usize, rank: usize) -> usize {
 }
 
 // Whether the sweeps that follow, how many and each, are those of the first bonds, and 0 behind them; a bond's rank is the shape's.
-pub fn sweeps(list: [cutform::Bond; shape::MOST_AXES], right: [usize; shape::MOST_AXES]) -> bool {
-    let n = word();
+pub fn sweeps(
+    input: Stdin,
+    list: [cutform::Bond; shape::MOST_AXES],
+    right: [usize; shape::MOST_AXES],
+) -> bool {
+    let n = word(input);
     let mut all = true;
     let mut k = 0;
     while k < shape::MOST_AXES {
         let b = list[k];
         let rank = b.rank == given(k, n, right[k]);
-        all = all & rank & (b.sweeps == wanted(k, n, 0));
+        all = all & rank & (b.sweeps == wanted(input, k, n, 0));
         k += 1;
     }
     all
 }
 
 // Whether the flags that follow, 1 and 0, are those of the first bonds, and none is set behind them.
-pub fn flags(list: [cutform::Bond; shape::MOST_AXES]) -> bool {
-    let n = word();
+pub fn flags(input: Stdin, list: [cutform::Bond; shape::MOST_AXES]) -> bool {
+    let n = word(input);
     let mut all = true;
     let mut k = 0;
     while k < shape::MOST_AXES {
-        all = all & (list[k].settled == (wanted(k, n, 0) == 1));
+        all = all & (list[k].settled == (wanted(input, k, n, 0) == 1));
         k += 1;
     }
     all
 }
 
 // Whether the numbers that follow, how many and each by its bits, are what the first bonds dropped, and +0 behind them.
-pub fn dropped(list: [cutform::Bond; shape::MOST_AXES]) -> bool {
-    let n = word();
+pub fn dropped(input: Stdin, list: [cutform::Bond; shape::MOST_AXES]) -> bool {
+    let n = word(input);
     let mut all = true;
     let mut k = 0;
     while k < shape::MOST_AXES {
-        all = all & (digits::pattern(list[k].dropped) == wanted(k, n, 0) as u64);
+        all = all & (digits::pattern(list[k].dropped) == wanted(input, k, n, 0) as u64);
         k += 1;
     }
     all
 }
 
 // Whether a shape is the one that follows: d, then the three arrays as counts.
-pub fn shape_is(s: shape::Shape) -> bool {
+pub fn shape_is(input: Stdin, s: shape::Shape) -> bool {
     let left = s.left;
     let n = s.n;
     let right = s.right;
-    let d = word();
-    let lefts = counts(left);
-    let points = counts(n);
-    let rights = counts(right);
+    let d = word(input);
+    let lefts = counts(input, left);
+    let points = counts(input, n);
+    let rights = counts(input, right);
     (s.d == d) & lefts & points & rights
 }
 
 // A line of standard output: words, how many cases there are, and how many agree.
-pub fn print(words: &[u8], cases: usize, good: usize) {
-    io::write_all(libc::STDOUT_FILENO, words);
-    io::print_decimal(libc::STDOUT_FILENO, cases as u64);
-    io::write_all(libc::STDOUT_FILENO, b" agree ");
-    io::print_decimal(libc::STDOUT_FILENO, good as u64);
-    io::write_all(libc::STDOUT_FILENO, b"\n");
+pub fn print(rt: &impl Print, words: &[u8], cases: usize, good: usize) -> io::Result<()> {
+    rt.write_all(words)?;
+    rt.print(cases)?;
+    rt.write_all(b" agree ")?;
+    rt.print(good)?;
+    rt.write_all(b"\n")
 }

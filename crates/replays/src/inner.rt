@@ -1,14 +1,15 @@
 // Inner products.
+use std::io::Stdin;
 
 // One case: shape, chain, weights, then the verdict and the figure, down to the sign of a zero.
-pub fn agrees() -> bool {
+pub fn agrees(input: Stdin) -> bool {
     let mut a = crate::cases::room();
     let mut b = crate::cases::room();
-    let s = crate::cases::shape();
-    let chain = crate::cases::list(&mut a);
-    let weights = crate::cases::list(&mut b);
+    let s = crate::cases::shape(input);
+    let chain = crate::cases::list(input, &mut a);
+    let weights = crate::cases::list(input, &mut b);
     let figure = product::inner_separable(s, chain, weights);
     let verdict = figure.verdict;
-    let told = crate::cases::verdict(verdict);
-    told & crate::cases::is_next(figure.value)
+    let told = crate::cases::verdict(input, verdict);
+    told & crate::cases::is_next(input, figure.value)
 }

@@ -1,14 +1,15 @@
 // Steps and evolves.
+use std::io::Stdin;
 
 // Above the records of any case: a count that is out of step is cut down, so that the program ends.
 const MOST_RECORDS: usize = 64;
 
-fn record() -> stepform::Axis {
-    let a = crate::cases::number();
-    let b = crate::cases::number();
-    let xmin = crate::cases::number();
-    let xmax = crate::cases::number();
-    let boundary = crate::cases::word();
+fn record(input: Stdin) -> stepform::Axis {
+    let a = crate::cases::number(input);
+    let b = crate::cases::number(input);
+    let xmin = crate::cases::number(input);
+    let xmax = crate::cases::number(input);
+    let boundary = crate::cases::word(input);
     stepform::Axis {
         a,
         b,
@@ -19,11 +20,11 @@ fn record() -> stepform::Axis {
 }
 
 // The axis records that follow; one too many is refused by its count, wherever it stands.
-fn records(count: usize) -> [stepform::Axis; shape::MOST_AXES] {
+fn records(input: Stdin, count: usize) -> [stepform::Axis; shape::MOST_AXES] {
     let mut list = [axes::BLANK; shape::MOST_AXES];
     let mut k = 0;
     while k < count {
-        list[k % shape::MOST_AXES] = record();
+        list[k % shape::MOST_AXES] = record(input);
         k += 1;
     }
     list
@@ -52,26 +53,26 @@ fn call(
 }
 
 // One case: kind, shape, axis records, c, eps, mode, chain, tau or t_final, steps, the length of scratch, then the answer of a rounding.
-pub fn agrees() -> bool {
+pub fn agrees(input: Stdin) -> bool {
     let mut a = crate::cases::room();
     let mut b = crate::cases::room();
-    let kind = crate::cases::word();
-    let s = crate::cases::shape();
-    let count = crate::cases::word() / 5 % MOST_RECORDS;
-    let xs = records(count);
-    let c = crate::cases::number();
-    let eps = crate::cases::number();
-    let mode = crate::cases::word();
-    let chain = crate::cases::list(&mut a);
-    let t_final = crate::cases::number();
-    let steps = crate::cases::word();
+    let kind = crate::cases::word(input);
+    let s = crate::cases::shape(input);
+    let count = crate::cases::word(input) / 5 % MOST_RECORDS;
+    let xs = records(input, count);
+    let c = crate::cases::number(input);
+    let eps = crate::cases::number(input);
+    let mode = crate::cases::word(input);
+    let chain = crate::cases::list(input, &mut a);
+    let t_final = crate::cases::number(input);
+    let steps = crate::cases::word(input);
     let p = stepform::Course {
         t_final,
         steps,
         c,
         cutting: cutform::Cutting { eps, mode },
     };
-    let scratch = crate::cases::lent(&mut b);
+    let scratch = crate::cases::lent(input, &mut b);
     let r = call(kind, s, p, xs, count, chain, scratch);
-    crate::round::ended(r, chain, scratch)
+    crate::round::ended(input, r, chain, scratch)
 }
