@@ -1,4 +1,6 @@
 // The listing of a chain file, as text in a lent array.
+#![tactic(auto)]
+
 ghost use Rattle.std.specs.Prelude.{◌≡◌, ◌+◌, ◌≤◌, ◌<◌, length};
 ghost use Rattle.answers.specs.declared.Verdict.TheVariants.{Fits};
 ghost use Rattle.lists.specs.Lists.{joined};
