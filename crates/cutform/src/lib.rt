@@ -1,4 +1,5 @@
 // What the cut of a bond is, and what a rounding is: definitions and examples worked out; the code is in `bond`, `cuts` and `rounding`.
+#![tactic(auto)]
 
 // What is said of a bond once it is cut: the rank kept, the sweeps made, whether its matrix is settled at their end, and the
 // largest singular value that was not kept, +0 if all were.
