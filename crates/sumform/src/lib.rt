@@ -1,4 +1,5 @@
 // What the inner product, the partial sums and the separable start are. Definitions stand in specs/; here are the records that calls answer.
+#![tactic(auto)]
 
 // The shape of the chain that a separable start makes.
 #[derive(Clone, Copy)]
