@@ -1,4 +1,5 @@
 // What a step is: one axis shifted, core 0 scaled, the chain rounded. Definitions stand in specs/; here are the records that calls are given.
+#![tactic(auto)]
 
 // The boundaries that an axis can have. They are numbers, so that one that isn't known can be lent, and refused.
 pub const PERIODIC: usize = 0;
