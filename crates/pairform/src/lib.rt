@@ -1,4 +1,5 @@
 // What the pair is: two neighbours joined to a slab and split again. Definitions stand in specs/; here are its records.
+#![tactic(auto)]
 
 // The kept rank and the passes made, the quiet one included; both are 0 after a refusal.
 #[derive(Clone, Copy)]
