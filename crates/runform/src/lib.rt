@@ -1,4 +1,5 @@
 // A kept run: what it holds beside the slices that it is lent, and what its calls answer.
+#![tactic(auto)]
 
 // Its inputs but for the source chain and the weights; then what it keeps: what is said of bond k, at
 // place k; and the figure.
