@@ -1,4 +1,6 @@
 // A Jacobi rotation: its angle, pairs of numbers turned by it, and the basis as it starts.
+#![tactic(auto)]
+
 ghost use Rattle.std.specs.Prelude.{◌≡◌, ◌+◌, ◌*◌, ◌<◌, length};
 ghost use Rattle.cutform.specs.Rotation.{tangent_of, slope_of, cosine_of, eye};
 ghost use Rattle.rotation.specs.Pairs.{turn_pair, turn_pairs};

@@ -1,4 +1,3 @@
-use Prim.Native.Nat.{◌-◌}
 use Rattle.lists.proofs.Turns.{turns}
 use Rattle.rotation.specs.Pairs.{turn_pairs}
 use Rattle.lists.proofs.Cells.{strides}
