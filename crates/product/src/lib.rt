@@ -1,4 +1,6 @@
 // The inner product with the zones' weights.
+#![tactic(auto)]
+
 pub mod contraction;
 pub mod start;
 pub mod sums;

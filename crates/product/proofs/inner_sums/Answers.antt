@@ -1,7 +1,6 @@
 use native.Mathlib.Omega.{arith}
 use Prim.Native.Nat.{◌*◌, ◌^◌, ◌<◌}
 use lib.ListN.{length}
-use Prim.Native.Nat.{◌-◌}
 use mathlib.Core.Path.{refl, ap, ◌∙◌}
 use borrow.Author.Rules.{rules}
 use Rattle.answers.specs.declared.Refusal.{Refusal}
@@ -24,9 +23,9 @@ bounds-s-k c = let h = shaped c.args.s _ c.requires.s_value in search (rules, of
 
 pub core_size-requires : goal.core_size-requires
 core_size-requires c = let h = shaped c.args.s _ c.requires.s_value in record {
-      sizes_within = h.sizes;
-      k_lt_d = c.loop-k-test.true;
-    }
+  sizes_within = h.sizes;
+  k_lt_d = c.loop-k-test.true;
+}
 
 pub overflow_add-end : goal.overflow_add-end
 overflow_add-end c = search (rules, offsets, slotwise)

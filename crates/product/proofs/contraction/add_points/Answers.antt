@@ -1,4 +1,3 @@
-use Prim.Native.Nat.{◌-◌}
 use Rattle.lists.proofs.Turns.{turns}
 use Rattle.product.specs.ContractLoops.{points_in}
 use Rattle.product.proofs.Strips.{points}

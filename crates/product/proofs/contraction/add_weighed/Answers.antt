@@ -1,4 +1,3 @@
-use Prim.Native.Nat.{◌-◌}
 use Rattle.lists.specs.Strips.{added_in}
 use Rattle.lists.proofs.Turns.{turns}
 use Rattle.product.proofs.contraction.add_weighed.Goals as goal

@@ -1,4 +1,3 @@
-use Prim.Native.Nat.{◌-◌}
 use native.Mathlib.Omega.{arith}
 use Rattle.lists.proofs.Turns.{turns}
 use Rattle.lists.proofs.Strips.{front_more, row_on}
@@ -22,12 +21,12 @@ loop-j-smaller c = search turns
 
 pub loop-j-preserved : goal.loop-j-preserved
 loop-j-preserved c = (
-    search turns,
-    search turns,
-    search turns,
-    front_more _ _ _ 8 _ _ _ c.loop-j.invariant.3
-    c.loop-j.invariant.0 c.strip.ensures,
-    )
+  search turns,
+  search turns,
+  search turns,
+  front_more _ _ _ 8 _ _ _ c.loop-j.invariant.3
+      c.loop-j.invariant.0 c.strip.ensures,
+)
 
 pub loop-j-2-init : goal.loop-j-2-init
 loop-j-2-init c = search turns
@@ -46,12 +45,12 @@ loop-j-2-smaller c = search turns
 
 pub loop-j-2-preserved : goal.loop-j-2-preserved
 loop-j-2-preserved c = (
-    search turns,
-    search turns,
-    search turns,
-    front_more _ _ _ 4 _ _ _ c.loop-j-2.invariant.3
-    c.loop-j-2.invariant.0 c.strip-in-loop-j-2.ensures,
-    )
+  search turns,
+  search turns,
+  search turns,
+  front_more _ _ _ 4 _ _ _ c.loop-j-2.invariant.3
+      c.loop-j-2.invariant.0 c.strip-in-loop-j-2.ensures,
+)
 
 pub loop-j-3-init : goal.loop-j-3-init
 loop-j-3-init c = search turns
@@ -67,12 +66,12 @@ loop-j-3-smaller c = search turns
 
 pub loop-j-3-preserved : goal.loop-j-3-preserved
 loop-j-3-preserved c = (
-    search turns,
-    search turns,
-    search turns,
-    front_more _ _ _ 1 _ _ _ c.loop-j-3.invariant.3
-    c.loop-j-3.invariant.0 c.strip-in-loop-j-3.ensures,
-    )
+  search turns,
+  search turns,
+  search turns,
+  front_more _ _ _ 1 _ _ _ c.loop-j-3.invariant.3
+      c.loop-j-3.invariant.0 c.strip-in-loop-j-3.ensures,
+)
 
 pub shape_of-out : goal.shape_of-out
 shape_of-out c = search turns

@@ -1,4 +1,3 @@
-use Prim.Native.Nat.{◌-◌}
 use Rattle.lists.proofs.Turns.{turns}
 use Rattle.product.proofs.Strips.{blocks, strip_end}
 use Rattle.product.proofs.contraction.strip.Goals as goal

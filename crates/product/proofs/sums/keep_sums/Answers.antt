@@ -19,14 +19,14 @@ slice_bounds-fit-end c = slot_ends c.args.s c.args.k c.args.sums.now c.requires.
 
 pub fit-requires : goal.fit-requires
 fit-requires c = (
-    c.requires.k_lt_d.2,
-    omega (
+  c.requires.k_lt_d.2,
+  omega (
     arith,
     c.requires.k_lt_d.3,
     slot_lent c.args.s c.args.k c.args.sums.now c.requires.k_lt_d.0 c.requires.k_lt_d.1 _
-    c.sum_offset-at.ensures,
-    ),
-    )
+        c.sum_offset-at.ensures,
+  ),
+)
 
 pub returns : goal.returns
 returns c = slot_kept c.args.s c.args.k c.args.sums.now c.requires.k_lt_d.0 c.requires.k_lt_d.1 _ c.sum_offset-at.ensures _

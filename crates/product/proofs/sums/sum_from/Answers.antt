@@ -1,6 +1,5 @@
 use Rattle.product.proofs.Turning.{sums_turn}
 use mathlib.Core.Path.{refl, ◌∙◌}
-use Prim.Native.Nat.{◌-◌}
 use native.Mathlib.Omega.{arith}
 use Rattle.lists.proofs.Stages.{answer_more, answer_stop, answer_done}
 use Rattle.product.proofs.sums.sum_from.Goals as goal
@@ -17,11 +16,11 @@ returns-in-Refused c = answer_stop _ _ _ _ _ c.loop-k.invariant.2 c.loop-k-test.
 
 pub loop-k-preserved : goal.loop-k-preserved
 loop-k-preserved c = (
-    c.sum_zone-done.auto.sums ∙ c.loop-k.invariant.0,
-    omega (arith, c.loop-k-test.true),
-    answer_more _ _ _ _ _ c.loop-k.invariant.2 c.loop-k-test.true _ _ c.sum_zone-done.ensures
-    c.in_default.is,
-    )
+  c.sum_zone-done.auto.sums ∙ c.loop-k.invariant.0,
+  omega (arith, c.loop-k-test.true),
+  answer_more _ _ _ _ _ c.loop-k.invariant.2 c.loop-k-test.true _ _ c.sum_zone-done.ensures
+      c.in_default.is,
+)
 
 pub returns : goal.returns
 returns c = answer_done _ _ _ _ _ c.loop-k.invariant.2 c.loop-k-test.false

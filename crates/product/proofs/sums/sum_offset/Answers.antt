@@ -1,7 +1,6 @@
 use borrow.Author.Rules.{rules}
 use Rattle.product.proofs.Slotted.{sum-slots}
 use Rattle.shape.proofs.Offsets.{offsets}
-use Prim.Native.Nat.{◌-◌}
 use Rattle.product.proofs.sums.sum_offset.Goals as goal
 
 ruleset ways = (rules, sum-slots, offsets)
