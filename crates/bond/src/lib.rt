@@ -1,4 +1,6 @@
 // One bond of a chain: its left core cut to a left factor and a carry, and a carry absorbed.
+#![tactic(auto)]
+
 pub mod factors;
 pub mod strips;
 pub mod sweeps;

@@ -4,13 +4,13 @@ use Rattle.bond.proofs.cut_bond.Goals as goal
 
 pub cut-requires : goal.cut-requires
 cut-requires c = (
-    c.requires.0,
-    c.requires.1,
-    c.requires.2,
-    c.requires.3,
-    c.requires.4,
-    mul-le-mul c.requires.4 c.requires.4,
-    mul-le-mul c.requires.4 c.requires.4,
-    c.requires.5,
-    c.requires.6,
-    )
+  c.requires.0,
+  c.requires.1,
+  c.requires.2,
+  c.requires.3,
+  c.requires.4,
+  mul-le-mul c.requires.4 c.requires.4,
+  mul-le-mul c.requires.4 c.requires.4,
+  c.requires.5,
+  c.requires.6,
+)

@@ -9,17 +9,17 @@ returns-in-Spilt c = rw c.cut_refused.ensures (rest_first _ _ _ _ _ _ c.keep-kep
 
 pub factor-made-requires : goal.factor-made-requires
 factor-made-requires c = (
-    c.requires.0,
-    c.requires.1,
-    c.requires.3,
-    search rules,
-    chosen_columns _ _ _ _ _ c.keep-kept.ensures c.in_default.is c.requires.1,
-    search rules,
-    chosen_most _ _ _ _ _ c.keep-kept.ensures c.in_default.is c.requires.1,
-    c.requires.4,
-    c.requires.5,
-    c.requires.6,
-    )
+  c.requires.0,
+  c.requires.1,
+  c.requires.3,
+  search rules,
+  chosen_columns _ _ _ _ _ c.keep-kept.ensures c.in_default.is c.requires.1,
+  search rules,
+  chosen_most _ _ _ _ _ c.keep-kept.ensures c.in_default.is c.requires.1,
+  c.requires.4,
+  c.requires.5,
+  c.requires.6,
+)
 
 pub returns-in-Spilt-made : goal.returns-in-Spilt-made
 returns-in-Spilt-made c = rw c.cut_refused-in-Spilt-made.ensures

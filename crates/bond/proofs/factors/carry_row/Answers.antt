@@ -1,4 +1,3 @@
-use Prim.Native.Nat.{◌-◌}
 use Rattle.lists.proofs.Cells.{exacts}
 use Rattle.lists.proofs.Turns.{turns}
 use Rattle.lists.specs.Strips.{stored_from}

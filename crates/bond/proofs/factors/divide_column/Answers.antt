@@ -1,4 +1,3 @@
-use Prim.Native.Nat.{◌-◌}
 use Rattle.lists.proofs.Cells.{exacts}
 use Rattle.lists.proofs.Turns.{turns}
 use Rattle.bond.proofs.factors.divide_column.Goals as goal

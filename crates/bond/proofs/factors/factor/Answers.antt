@@ -17,18 +17,18 @@ slice_bounds-left_and_carry-end-5 c = columns_room _ _ _ c.requires.6 c.requires
 
 pub left_and_carry-requires : goal.left_and_carry-requires
 left_and_carry-requires c = (
-    c.requires.0,
-    c.requires.1,
-    span_length _ _ c.requires.2,
-    span_some _ _ c.requires.3 _ c.requires.6,
-    columns_front _ _ _ c.requires.4,
-    span_some _ _ c.requires.5 _ c.requires.6,
-    c.requires.6,
-    span_length _ _ (columns_room _ _ _ c.requires.6 c.requires.7),
-    span_length _ _
-    (columns_room _ _ _ c.requires.6 c.requires.8) ∙ mul_comm _ _,
-    c.requires.9,
-    )
+  c.requires.0,
+  c.requires.1,
+  span_length _ _ c.requires.2,
+  span_some _ _ c.requires.3 _ c.requires.6,
+  columns_front _ _ _ c.requires.4,
+  span_some _ _ c.requires.5 _ c.requires.6,
+  c.requires.6,
+  span_length _ _ (columns_room _ _ _ c.requires.6 c.requires.7),
+  span_length _ _
+      (columns_room _ _ _ c.requires.6 c.requires.8) ∙ mul_comm _ _,
+  c.requires.9,
+)
 
 pub returns : goal.returns
 returns c = factor_front _ _ _ _ _ _ c.args.carry.now c.args.ss.now c.args.v.now c.args.js.now c.args.r c.args.rr

@@ -1,4 +1,3 @@
-use Prim.Native.Nat.{◌-◌}
 use Rattle.lists.proofs.Turns.{turns}
 use Rattle.bond.proofs.Finished.{finish_done}
 use Rattle.bond.proofs.factors.finish.Goals as goal

@@ -1,4 +1,3 @@
-use Prim.Native.Nat.{◌-◌}
 use Rattle.lists.proofs.Turns.{turns}
 use Rattle.bond.specs.FactorRows.{gathered}
 use Rattle.lists.proofs.Strips.{rows_whole}

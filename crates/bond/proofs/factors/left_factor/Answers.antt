@@ -11,10 +11,10 @@ overflow_mul-e c = record
 
 pub slice_bounds-finish-end : goal.slice_bounds-finish-end
 slice_bounds-finish-end c = omega (
-      arith,
-      mul-le-mul_left c.args.m
-          c.requires.2,
-    )
+  arith,
+  mul-le-mul_left c.args.m
+      c.requires.2,
+)
 
 pub slice_bounds-stored-end : goal.slice_bounds-stored-end
 slice_bounds-stored-end c = simp length-append (omega (arith, grid_long _ _ _ _ c.finish.ensures))

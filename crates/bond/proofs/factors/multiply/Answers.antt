@@ -6,10 +6,10 @@ use Rattle.bond.proofs.factors.multiply.Goals as goal
 
 pub product-requires : goal.product-requires
 product-requires c = omega (
-      arith,
-      mul-le-mul_left c.args.m
-          c.requires.2,
-    )
+  arith,
+  mul-le-mul_left c.args.m
+      c.requires.2,
+)
 
 pub returns : goal.returns
 returns c = multiply_is _ _ _ _ _ _ _ _ c.copy.ensures c.product.ensures

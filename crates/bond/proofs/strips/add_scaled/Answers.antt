@@ -1,4 +1,3 @@
-use Prim.Native.Nat.{◌-◌}
 use Rattle.lists.proofs.Turns.{turns}
 use Rattle.lists.specs.Strips.{added_in}
 use Rattle.bond.proofs.strips.add_scaled.Goals as goal

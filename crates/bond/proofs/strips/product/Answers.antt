@@ -1,4 +1,3 @@
-use Prim.Native.Nat.{◌-◌}
 use Rattle.lists.proofs.Turns.{turns}
 use Rattle.bond.proofs.StripProducts.{start_ok_lem, rows_done}
 use Rattle.bond.proofs.strips.product.Goals as goal

@@ -1,4 +1,3 @@
-use Prim.Native.Nat.{◌-◌}
 use native.Mathlib.Omega.{arith}
 use Rattle.lists.proofs.Turns.{turns}
 use Rattle.lists.proofs.Strips.{row_more, row_on, row_whole}

@@ -1,4 +1,3 @@
-use Prim.Native.Nat.{◌-◌}
 use Rattle.lists.proofs.Turns.{turns}
 use Rattle.lists.proofs.Cells.{strides}
 use Rattle.bond.proofs.StripProducts.{strip_end}

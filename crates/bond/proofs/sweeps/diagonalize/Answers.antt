@@ -1,4 +1,3 @@
-use Prim.Native.Nat.{◌-◌}
 use Rattle.lists.proofs.Turns.{turns}
 use Rattle.bond.proofs.Swept.{sweeps_start, sweeps_settled, sweeps_idle, sweeps_stop, sweeps_more, sweeps_done}
 use Rattle.bond.proofs.sweeps.diagonalize.Goals as goal
@@ -80,11 +79,11 @@ loop-count-preserved c = (
   search turns,
   c.settled-settles-in-loop-count.ensures,
   sweeps_more _ _ _ _ _ _ _
-    c.loop-count.invariant.4
-    c.loop-count-test.true
-    c.if-settles.false _ _
-    c.jacobi_sweep-made.ensures c.in_default.is _
-    c.settled-settles-in-loop-count.ensures,
+      c.loop-count.invariant.4
+      c.loop-count-test.true
+      c.if-settles.false _ _
+      c.jacobi_sweep-made.ensures c.in_default.is _
+      c.settled-settles-in-loop-count.ensures,
 )
 
 pub sweeps_are-requires-2 : goal.sweeps_are-requires-2

@@ -1,4 +1,3 @@
-use Prim.Native.Nat.{◌-◌}
 use Rattle.lists.proofs.Turns.{turns}
 use Rattle.lists.proofs.Stages.{stagings}
 use Rattle.bond.proofs.Swept.{sweep_rows}

@@ -1,4 +1,3 @@
-use Prim.Native.Nat.{◌-◌}
 use Rattle.lists.proofs.Turns.{turns, from_more}
 use Rattle.bond.specs.SweepRows.{off_row}
 use Rattle.bond.proofs.sweeps.off_row.Goals as goal

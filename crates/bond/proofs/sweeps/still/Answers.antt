@@ -1,4 +1,3 @@
-use Prim.Native.Nat.{◌-◌}
 use mathlib.Core.Path.{sym, ◌∙◌}
 use Rattle.lists.proofs.Turns.{turns, iter_done}
 use Rattle.bond.proofs.Swept.{still_rows}

@@ -1,4 +1,3 @@
-use Prim.Native.Nat.{◌-◌}
 use Rattle.lists.proofs.Turns.{turns, from_more}
 use Rattle.bond.specs.SweepRows.{still_row}
 use Rattle.bond.proofs.sweeps.still_row.Goals as goal

@@ -1,4 +1,3 @@
-use Prim.Native.Nat.{◌-◌}
 use Rattle.lists.proofs.Turns.{turns}
 use Rattle.bond.specs.SweepRows.{sweep_row}
 use Rattle.lists.proofs.Stages.{stagings}

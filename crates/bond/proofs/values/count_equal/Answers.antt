@@ -1,4 +1,3 @@
-use Prim.Native.Nat.{◌-◌}
 use Rattle.lists.proofs.Turns.{turns}
 use Rattle.lists.proofs.Counts.{count_start, count_more, count_done}
 use Rattle.bond.proofs.values.count_equal.Goals as goal

@@ -15,8 +15,8 @@ sorted-requires c = (
   search rules,
   search rules,
   stored_finite _ _
-    c.stored-made.ensures
-    c.in_default.is,
+      c.stored-made.ensures
+      c.in_default.is,
   search rules,
 )
 
