@@ -1,4 +1,6 @@
 // The chain file, read and written.
+#![tactic(auto)]
+
 pub mod body;
 pub mod contents;
 pub mod making;

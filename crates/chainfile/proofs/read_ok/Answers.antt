@@ -15,11 +15,11 @@ returns-in-Refused-lent c = lengths_refused _ _ _ c.read_contents-found.ensures 
 
 pub numbers_ok-ok-requires : goal.numbers_ok-ok-requires
 numbers_ok-ok-requires c = record {
-      sizes_within = found_sized _ 0 _ c.read_contents-found.ensures c.read_contents-found.result c.in_default.is;
-      bytes_len = found_long _ _ _
-    c.read_contents-found.ensures c.read_contents-found.result c.in_default.is _ c.lengths_ok-lent.ensures
-    c.in_default-lent.is;
-    }
+  sizes_within = found_sized _ 0 _ c.read_contents-found.ensures c.read_contents-found.result c.in_default.is;
+  bytes_len = found_long _ _ _
+      c.read_contents-found.ensures c.read_contents-found.result c.in_default.is _ c.lengths_ok-lent.ensures
+      c.in_default-lent.is;
+}
 
 pub returns-in-Refused-ok : goal.returns-in-Refused-ok
 returns-in-Refused-ok c = numbers_refused _ _ _ c.read_contents-found.ensures _

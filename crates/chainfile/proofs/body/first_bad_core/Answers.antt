@@ -1,5 +1,4 @@
 use borrow.Author.Rules.{rules}
-use Prim.Native.Nat.{◌-◌}
 use Rattle.lists.proofs.Demands.{passing}
 use Rattle.chainfile.proofs.Bodies.{bodywise}
 use Rattle.chainfile.proofs.body.first_bad_core.Goals as goal

@@ -1,5 +1,4 @@
 use borrow.Author.Rules.{rules}
-use Prim.Native.Nat.{◌-◌}
 use Rattle.chainfile.proofs.Tables.{entries_none, entries_stop, entry_sized, entries_more, entries_done, start_fits}
 use Rattle.chainfile.proofs.contents.entries_ok.Goals as goal
 

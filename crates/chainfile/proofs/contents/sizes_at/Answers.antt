@@ -1,6 +1,4 @@
 use borrow.Author.Rules.{rules}
-use Prim.Native.Nat.{◌-◌}
-use Rattle.words.specs.Bytes.{u16_at}
 use Rattle.chainfile.proofs.Tables.{fit_none, fit_more, fit_done}
 use Rattle.chainfile.proofs.contents.sizes_at.Goals as goal
 

@@ -8,10 +8,10 @@ put-requires c = header_room c.args.s c.args.chain.now c.args.out.now c.requires
 
 pub put_table-requires : goal.put_table-requires
 put_table-requires c = record {
-      sizes_within = c.requires.sizes_within;
-      d_in_bounds = table_room _ c.args.chain.now c.args.out.now c.requires.chain_len.1 _ _
-    c.header_bytes.ensures c.put.ensures;
-    }
+  sizes_within = c.requires.sizes_within;
+  d_in_bounds = table_room _ c.args.chain.now c.args.out.now c.requires.chain_len.1 _ _
+      c.header_bytes.ensures c.put.ensures;
+}
 
 pub put_numbers-requires : goal.put_numbers-requires
 put_numbers-requires c = bodies_room _ _ _ c.requires.chain_len.1 _ _ c.header_bytes.ensures

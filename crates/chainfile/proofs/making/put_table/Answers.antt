@@ -1,6 +1,5 @@
 use borrow.Author.Rules.{rules}
 use native.Mathlib.Omega.{arith}
-use Prim.Native.Nat.{◌-◌}
 use mathlib.Core.Path.{ap, ◌∙◌}
 use mathlib.Core.List.{[]}
 use lib.ListN.{length}
@@ -52,14 +51,14 @@ loop-k-smaller c = search ways
 
 pub loop-k-preserved : goal.loop-k-preserved
 loop-k-preserved c = (
-    search rules,
-    bodies_more [] _ _ _ _ c.loop-k.invariant.1 c.core_size.ensures,
-    c.put.auto.out ∙ c.loop-k.invariant.2,
-    table_more _ _
-    c.loop-k.k _ _ _ c.loop-k.invariant.3 c.entry_bytes.ensures
-    c.loop-k-test.true
-    c.requires.d_in_bounds c.put.ensures,
-    )
+  search rules,
+  bodies_more [] _ _ _ _ c.loop-k.invariant.1 c.core_size.ensures,
+  c.put.auto.out ∙ c.loop-k.invariant.2,
+  table_more _ _
+      c.loop-k.k _ _ _ c.loop-k.invariant.3 c.entry_bytes.ensures
+      c.loop-k-test.true
+      c.requires.d_in_bounds c.put.ensures,
+)
 
 pub shape_of-out : goal.shape_of-out
 shape_of-out c = search ways
