@@ -3,7 +3,7 @@ use mathlib.Core.Path.{◌≡◌, sym, ap, ◌∙◌}
 use Prim.Native.Nat.{ℕ, ◌*◌, ◌≤◌}
 use native.Mathlib.Nat.{mul-le-mul}
 use native.Mathlib.Omega.{arith}
-use mathlib.Core.Bool.{Bool, true, false, not, ◌&&◌}
+use mathlib.Core.Bool.{Bool, true, false, ◌&&◌}
 use mathlib.Core.List.{List, []}
 use lib.Dec.{eqb}
 use lib.Ieee.{Float}
@@ -15,18 +15,18 @@ use Rattle.answers.specs.declared.Verdict.{Verdict}
 use Rattle.answers.specs.declared.Verdict.TheVariants as verdict
 use Rattle.answers.specs.Outcome.{done, verdict_of, Check, demand, ◌then◌}
 use Rattle.answers.proofs.Checks.{demand_yes, demand_no, then_stops, then_passes}
-use Rattle.lists.proofs.Tests.{eqb_yes, eqb_no, not_yes, not_no, both}
+use Rattle.lists.proofs.Tests.{eqb_yes, eqb_no, both}
 use Rattle.pairform.specs.declared.Sizes as given
 use Rattle.pairform.specs.Call.{core_of, sizes_ok, pair_sized, pair_lent, pair_finite, pair_ok}
 use Rattle.pair.proofs.Checked.{Sizes, sizes_are, demand_then}
 
 -- ---- one demand of several: by a test, and by two counts that are equal
 module _ (t : Bool) (q : Refusal) (o : Check) (b : Bool) (e : b ≡ t) where
-  pub ask_no : not b ≡ true → verdict.Refused q ≡ verdict_of (demand t q then o)
-  ask_no h = sym (ap (λ (c : Check). verdict_of (c then o)) (demand_no t q (sym e ∙ not_yes b h)))
+  pub ask_no : b ≡ false → verdict.Refused q ≡ verdict_of (demand t q then o)
+  ask_no h = sym (ap (λ (c : Check). verdict_of (c then o)) (demand_no t q (sym e ∙ h)))
 
-  pub ask_yes : not b ≡ false → (w : Verdict) → w ≡ verdict_of o → w ≡ verdict_of (demand t q then o)
-  ask_yes h w g = g ∙ sym (ap (λ (c : Check). verdict_of (c then o)) (demand_yes t q (sym e ∙ not_no b h)))
+  pub ask_yes : b ≡ true → (w : Verdict) → w ≡ verdict_of o → w ≡ verdict_of (demand t q then o)
+  ask_yes h w g = g ∙ sym (ap (λ (c : Check). verdict_of (c then o)) (demand_yes t q (sym e ∙ h)))
 
 module _ (a b : ℕ) (q : Refusal) (o : Check) where
   pub same_no : (a ≡ b → ⊥) → verdict.Refused q ≡ verdict_of (demand (eqb a b) q then o)
@@ -36,11 +36,11 @@ module _ (a b : ℕ) (q : Refusal) (o : Check) where
   same_yes h w g = g ∙ sym (ap (λ (c : Check). verdict_of (c then o)) (demand_yes (eqb a b) q (eqb_yes a b h)))
 
 -- ---- lines are counted of sizes within their limits only
-pub lines_no : (s x : Bool) → not s ≡ true → false ≡ s && x
-lines_no s x h = rw (not_yes s h)
+pub lines_no : (s x : Bool) → s ≡ false → false ≡ s && x
+lines_no s x h = rw h
 
-pub lines_yes : (s x : Bool) → not s ≡ false → x ≡ s && x
-lines_yes s x h = rw (not_no s h)
+pub lines_yes : (s x : Bool) → s ≡ true → x ≡ s && x
+lines_yes s x h = rw h
 
 -- ---- sizes within their limits
 pub two_fit : (a b : ℕ) → a ≤ most_points → b ≤ most_points → Fits w64 (a * b)

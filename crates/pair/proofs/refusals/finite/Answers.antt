@@ -1,4 +1,6 @@
 -- `pair::refusals::finite`: the tests in the order of the definition: the first that fails is the answer (ask_no), and one that passed is left behind (ask_yes).
+use mathlib.Core.Bool.{not}
+use mathlib.Core.Path.{ap}
 use borrow.Author.Rules.{rules}
 use Rattle.lists.proofs.Asked.{test_wrong, test_right}
 use Rattle.pairform.specs.Call.{pair_finite}
@@ -29,10 +31,10 @@ pub returns-then-not-not_below_zero : goal.returns-then-not-not_below_zero
 unfolding pair_finite
 returns-then-not-not_below_zero c = ask_yes _ _ _ _ c.eps_and_left.ensures c.if-not-eps_and_left.false _
     (ask_yes _ _ _ _ c.all_finite.ensures c.if-not-all_finite.false _
-    (test_wrong _ _ _ c.not_below_zero.ensures c.if-not-not_below_zero.true))
+    (test_wrong _ _ _ c.not_below_zero.ensures (ap not c.if-not-not_below_zero.true)))
 
 pub returns : goal.returns
 unfolding pair_finite
 returns c = ask_yes _ _ _ _ c.eps_and_left.ensures c.if-not-eps_and_left.false _
     (ask_yes _ _ _ _ c.all_finite.ensures c.if-not-all_finite.false _
-    (test_right _ _ _ c.not_below_zero.ensures c.if-not-not_below_zero.false))
+    (test_right _ _ _ c.not_below_zero.ensures (ap not c.if-not-not_below_zero.false)))

@@ -1,0 +1,10 @@
+-- `records::given::axis_lent`: before the count an axis is the record's (lent_at), and from it on a blank one (lent_past).
+use borrow.Author.Rules.{rules}
+use Rattle.records.proofs.Lent.{lent_at, lent_past}
+use Rattle.records.proofs.given.axis_lent.Goals as goal
+
+pub returns-then-k-count : goal.returns-then-k-count
+returns-then-k-count c = lent_at c.args.count c.args.xs c.args.k _ _ (search rules) (search rules) c.axis_in.ensures
+
+pub returns : goal.returns
+returns c = lent_past c.args.count c.args.xs c.args.k (search rules)

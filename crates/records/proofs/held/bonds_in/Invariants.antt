@@ -1,0 +1,12 @@
+-- `records::held::bonds_in`: the invariant: the first k records are made (made-more), and after the last all are (made-all).
+use Prim.Native.Nat.{◌-◌}
+use Rattle.shape.specs.Limits.{most_axes}
+use Rattle.records.specs.Held.{bond_in}
+use Rattle.records.proofs.Mapped.{MadeUpTo}
+use Rattle.records.proofs.held.bonds_in.Given as goal
+
+abbrev pub invariant-loop-k : goal.invariant-loop-k
+invariant-loop-k l = MadeUpTo bond_in l.bs most_axes l.list l.k
+
+abbrev pub decreases-loop-k : goal.decreases-loop-k
+decreases-loop-k l = most_axes - l.k
