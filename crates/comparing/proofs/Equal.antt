@@ -26,9 +26,9 @@ tells_yes x = record { only = λ _. x; always = λ _. refl }
 pub tells_no : {X : Type 0} → (X → ⊥) → Tells false X
 tells_no h = record { only = λ e. absurd (true≢false (sym e)); always = λ x. absurd (h x) }
 
--- a test that was left says X, one that was taken its contrary
-pub refuted : {X : Type 0} {r : Bool} → Tells r X → not r ≡ true → X → ⊥
-refuted t e x = true≢false (sym (t.always x) ∙ not-true _ e)
+-- a test that failed says that X does not hold
+pub refuted : {X : Type 0} {r : Bool} → Tells r X → r ≡ false → X → ⊥
+refuted t e x = true≢false (sym (t.always x) ∙ e)
 
 pub tells_as : {X Y : Type 0} {r : Bool} → Tells r X → (X → Y) → (Y → X) → Tells r Y
 tells_as t f g = record { only = λ e. f (t.only e); always = λ y. t.always (g y) }

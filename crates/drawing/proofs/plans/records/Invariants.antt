@@ -1,0 +1,10 @@
+-- `drawing::plans::records`: memory safety alone: the list keeps its length, and no more is promised.
+use Rattle.std.proofs.Common.{◌≡◌, ◌-◌, length}
+use Rattle.shape.specs.Limits.{most_axes}
+use Rattle.drawing.proofs.plans.records.Given as goal
+
+abbrev pub invariant-loop-k : goal.invariant-loop-k
+invariant-loop-k l = length l.list ≡ most_axes
+
+abbrev pub decreases-loop-k : goal.decreases-loop-k
+decreases-loop-k l = most_axes - l.k
