@@ -52,70 +52,70 @@ use Rattle.one_end.specs.OneEnd.{Leaves, OneEnd}
 apart : {E R A : Type 0} (result : E → R) (slices : E → List (List A)) (promised x y : E) → x ≡ promised → y ≡ promised → (result x ≡ result y) × (slices x ≡ slices y)
 apart result slices promised x y p q = let s = same_end promised x y p q in (ap result s, ap slices s)
 
-pub root : OneEnd root-call.ended (λ M 𝓤. root-call.clauses 𝓤) root-reads.Post {A = Float} (λ κs e. [])
+pub root : OneEnd root-call.ended (λ M 𝓤. root-call.clauses) root-reads.Post {A = Float} (λ κs e. [])
 root = record { plain = λ w κs a. refl; one = λ κs a r r' e e' p q. (cc, cc) }
 
-pub floor : OneEnd floor-call.ended (λ M 𝓤. floor-call.clauses 𝓤) floor-reads.Post {A = Float} (λ κs e. [])
+pub floor : OneEnd floor-call.ended (λ M 𝓤. floor-call.clauses) floor-reads.Post {A = Float} (λ κs e. [])
 floor = record { plain = λ w κs a. refl; one = λ κs a r r' e e' p q. (cc, cc) }
 
-pub magnitude : OneEnd magnitude-call.ended (λ M 𝓤. magnitude-call.clauses 𝓤) magnitude-reads.Post {A = Float} (λ κs e. [])
+pub magnitude : OneEnd magnitude-call.ended (λ M 𝓤. magnitude-call.clauses) magnitude-reads.Post {A = Float} (λ κs e. [])
 magnitude = record { plain = λ w κs a. refl; one = λ κs a r r' e e' p q. (cc, cc) }
 
-pub check : OneEnd check-call.ended (λ M 𝓤. check-call.clauses 𝓤) check-reads.Post {A = Float} (λ κs e. [])
+pub check : OneEnd check-call.ended (λ M 𝓤. check-call.clauses) check-reads.Post {A = Float} (λ κs e. [])
 check = record { plain = λ w κs a. refl; one = λ κs a r r' e e' p q. (cc, cc) }
 
-pub view_of_lem : OneEnd view-of-call.ended (λ M 𝓤. view-of-call.clauses 𝓤) (λ κs a r e. r ≡ view_of a.0 a.1.0 a.1.1.0) {A = Float} (λ κs e. [])
+pub view_of_lem : OneEnd view-of-call.ended (λ M 𝓤. view-of-call.clauses) (λ κs a r e. r ≡ view_of a.0 a.1.0 a.1.1.0) {A = Float} (λ κs e. [])
 view_of_lem = record { plain = λ w κs a. refl; one = λ κs a r r' e e' p q. (cc, cc) }
 
-pub get : OneEnd get-call.ended (λ M 𝓤. get-call.clauses 𝓤) (λ κs a r e. r ≡ seen a.0 a.1.0 a.1.1.0 a.1.1.1.0) {A = Float} (λ κs e. [])
+pub get : OneEnd get-call.ended (λ M 𝓤. get-call.clauses) (λ κs a r e. r ≡ seen a.0 a.1.0 a.1.1.0 a.1.1.1.0) {A = Float} (λ κs e. [])
 get = record { plain = λ w κs a. refl; one = λ κs a r r' e e' p q. (cc, cc) }
 
-pub entry_of : OneEnd entry-of-call.ended (λ M 𝓤. entry-of-call.clauses 𝓤) entry-of-reads.Post {A = Float} (λ κs e. [])
+pub entry_of : OneEnd entry-of-call.ended (λ M 𝓤. entry-of-call.clauses) entry-of-reads.Post {A = Float} (λ κs e. [])
 entry_of = record { plain = λ w κs a. refl; one = λ κs a r r' e e' p q. (cc, cc) }
 
-pub inner_separable : OneEnd inner-call.ended (λ M 𝓤. inner-call.clauses 𝓤) inner-reads.Post {A = Float} (λ κs e. [])
+pub inner_separable : OneEnd inner-call.ended (λ M 𝓤. inner-call.clauses) inner-reads.Post {A = Float} (λ κs e. [])
 inner_separable = record { plain = λ w κs a. refl; one = λ κs a r r' e e' p q. (cc, cc) }
 
-pub rank1_separable : OneEnd start-call.ended (λ M 𝓤. start-call.clauses 𝓤) start-reads.Post (λ κs e. e.1.1.0.now ∷ [])
+pub rank1_separable : OneEnd start-call.ended (λ M 𝓤. start-call.clauses) start-reads.Post (λ κs e. e.1.1.0.now ∷ [])
 rank1_separable = record { plain = λ w κs a. refl; one = λ κs a r r' e e' p q. (cc, cc) }
 
-pub tt_round : OneEnd round-call.ended (λ M 𝓤. round-call.clauses 𝓤) round-reads.Post (λ κs e. e.1.1.0.now ∷ e.1.1.1.0.now ∷ [])
+pub tt_round : OneEnd round-call.ended (λ M 𝓤. round-call.clauses) round-reads.Post (λ κs e. e.1.1.0.now ∷ e.1.1.1.0.now ∷ [])
 tt_round = record { plain = λ w κs a. refl; one = λ κs a r r' e e' p q. apart {E = Ended} (λ z. z.result) (λ z. z.chain ∷ z.scratch ∷ []) _ _ _ p q }
 
-pub step : OneEnd step-call.ended (λ M 𝓤. step-call.clauses 𝓤)
+pub step : OneEnd step-call.ended (λ M 𝓤. step-call.clauses)
     (λ κs a r e. Leaves (step_call a.1.0 a.0 a.1.1.0.now a.1.1.1.0.now a.1.1.1.1.0.now) r e.1.1.1.0.now e.1.1.1.1.0.now)
     (λ κs e. e.1.1.1.0.now ∷ e.1.1.1.1.0.now ∷ [])
 step = record { plain = λ w κs a. refl; one = λ κs a r r' e e' p q. (cc, cc) }
 
-pub evolve : OneEnd evolve-call.ended (λ M 𝓤. evolve-call.clauses 𝓤)
+pub evolve : OneEnd evolve-call.ended (λ M 𝓤. evolve-call.clauses)
     (λ κs a r e. let p = a.1.0 in Leaves (evolve_call p.t_final p.steps p.c p.cutting a.0 a.1.1.0.now a.1.1.1.0.now a.1.1.1.1.0.now) r e.1.1.1.0.now e.1.1.1.1.0.now)
     (λ κs e. e.1.1.1.0.now ∷ e.1.1.1.1.0.now ∷ [])
 evolve = record { plain = λ w κs a. refl; one = λ κs a r r' e e' p q. (cc, cc) }
 
-pub contract_and_split : OneEnd pair-call.ended (λ M 𝓤. pair-call.clauses 𝓤) Pair-reads.Post (λ κs e. e.1.1.1.1.1.0.now ∷ e.1.1.1.1.1.1.0.now ∷ e.1.1.1.1.1.1.1.0.now ∷ [])
+pub contract_and_split : OneEnd pair-call.ended (λ M 𝓤. pair-call.clauses) Pair-reads.Post (λ κs e. e.1.1.1.1.1.0.now ∷ e.1.1.1.1.1.1.0.now ∷ e.1.1.1.1.1.1.1.0.now ∷ [])
 contract_and_split = record { plain = λ w κs a. refl; one = λ κs a r r' e e' p q. apart {E = PairEnded} (λ z. z.result) (λ z. z.left ∷ z.right ∷ z.scratch ∷ []) _ _ _ p q }
 
-pub fresh_run_lem : OneEnd fresh-call.ended (λ M 𝓤. fresh-call.clauses 𝓤) fresh-reads.Post
+pub fresh_run_lem : OneEnd fresh-call.ended (λ M 𝓤. fresh-call.clauses) fresh-reads.Post
     (λ κs e. e.1.1.1.1.1.0.now ∷ e.1.1.1.1.1.1.0.now ∷ e.1.1.1.1.1.1.1.0.now ∷ e.1.1.1.1.1.1.1.1.0.now ∷ [])
 fresh_run_lem = record { plain = λ w κs a. refl; one = λ κs a r r' e e' p q. apart {E = RunEnd} (λ z. z.result) (λ z. let o = z.slices.outputs in o.chain ∷ o.carries ∷ o.sums ∷ z.scratch ∷ []) _ _ _ p q }
 
-pub replace_core : OneEnd core_call.ended (λ M 𝓤. core_call.clauses 𝓤) core-reads.Post
+pub replace_core : OneEnd core_call.ended (λ M 𝓤. core_call.clauses) core-reads.Post
     (λ κs e. e.1.1.0.now ∷ e.1.1.1.1.0.now ∷ e.1.1.1.1.1.0.now ∷ e.1.1.1.1.1.1.0.now ∷ e.1.1.1.1.1.1.1.1.0.now ∷ [])
 replace_core = record { plain = λ w κs a. refl; one = λ κs a r r' e e' p q. apart {E = RunEnd} (λ z. z.result) (λ z. let o = z.slices.outputs in z.slices.source ∷ o.chain ∷ o.carries ∷ o.sums ∷ z.scratch ∷ []) _ _ _ p q }
 
-pub replace_axis : OneEnd axis_call.ended (λ M 𝓤. axis_call.clauses 𝓤) axis-reads.Post
+pub replace_axis : OneEnd axis_call.ended (λ M 𝓤. axis_call.clauses) axis-reads.Post
     (λ κs e. e.1.1.1.1.1.0.now ∷ e.1.1.1.1.1.1.0.now ∷ e.1.1.1.1.1.1.1.0.now ∷ e.1.1.1.1.1.1.1.1.0.now ∷ [])
 replace_axis = record { plain = λ w κs a. refl; one = λ κs a r r' e e' p q. apart {E = RunEnd} (λ z. z.result) (λ z. let o = z.slices.outputs in o.chain ∷ o.carries ∷ o.sums ∷ z.scratch ∷ []) _ _ _ p q }
 
-pub replace_weights : OneEnd weights_call.ended (λ M 𝓤. weights_call.clauses 𝓤) weights-reads.Post
+pub replace_weights : OneEnd weights_call.ended (λ M 𝓤. weights_call.clauses) weights-reads.Post
     (λ κs e. e.1.1.1.0.now ∷ e.1.1.1.1.1.1.0.now ∷ e.1.1.1.1.1.1.1.1.0.now ∷ [])
 replace_weights = record { plain = λ w κs a. refl; one = λ κs a r r' e e' p q. apart {E = RunEnd} (λ z. z.result) (λ z. z.slices.weights ∷ z.slices.outputs.sums ∷ z.scratch ∷ []) _ _ _ p q }
 
-pub read_chain : OneEnd read-call.ended (λ M 𝓤. read-call.clauses 𝓤) read-reads.Post (λ κs e. e.1.0.now ∷ [])
+pub read_chain : OneEnd read-call.ended (λ M 𝓤. read-call.clauses) read-reads.Post (λ κs e. e.1.0.now ∷ [])
 read_chain = record { plain = λ w κs a. refl; one = λ κs a r r' e e' p q. (cc, cc) }
 
-pub write_chain : OneEnd write-call.ended (λ M 𝓤. write-call.clauses 𝓤) write-reads.Post (λ κs e. e.1.1.0.now ∷ [])
+pub write_chain : OneEnd write-call.ended (λ M 𝓤. write-call.clauses) write-reads.Post (λ κs e. e.1.1.0.now ∷ [])
 write_chain = record { plain = λ w κs a. refl; one = λ κs a r r' e e' p q. (cc, cc) }
 
-pub text_of : OneEnd text-call.ended (λ M 𝓤. text-call.clauses 𝓤) text-reads.Post (λ κs e. e.1.0.now ∷ [])
+pub text_of : OneEnd text-call.ended (λ M 𝓤. text-call.clauses) text-reads.Post (λ κs e. e.1.0.now ∷ [])
 text_of = record { plain = λ w κs a. refl; one = λ κs a r r' e e' p q. (cc, cc) }

@@ -50,64 +50,64 @@ run_apart : {x : RunEnd} {o o' : CRan} {m m' : Slices (List Float)} {w w' : List
 run_apart {w = w} {w' = w'} written p q =
     (p.result ∙ sym q.result, ap (λ n. written n w) (p.slices ∙ sym q.slices) ∙ ap (written _) (p.scratch ∙ sym q.scratch))
 
-pub uyavsker_root : OneEnd root-call.ended (λ M 𝓤. root-call.clauses 𝓤) root-reads.Post {A = Float} (λ κs e. [])
+pub uyavsker_root : OneEnd root-call.ended (λ M 𝓤. root-call.clauses) root-reads.Post {A = Float} (λ κs e. [])
 uyavsker_root = record { plain = λ w κs a. refl; one = λ κs a r r' e e' p q. (cc, cc) }
 
-pub uyavsker_floor : OneEnd floor-call.ended (λ M 𝓤. floor-call.clauses 𝓤) floor-reads.Post {A = Float} (λ κs e. [])
+pub uyavsker_floor : OneEnd floor-call.ended (λ M 𝓤. floor-call.clauses) floor-reads.Post {A = Float} (λ κs e. [])
 uyavsker_floor = record { plain = λ w κs a. refl; one = λ κs a r r' e e' p q. (cc, cc) }
 
-pub uyavsker_magnitude : OneEnd magnitude-call.ended (λ M 𝓤. magnitude-call.clauses 𝓤) magnitude-reads.Post {A = Float} (λ κs e. [])
+pub uyavsker_magnitude : OneEnd magnitude-call.ended (λ M 𝓤. magnitude-call.clauses) magnitude-reads.Post {A = Float} (λ κs e. [])
 uyavsker_magnitude = record { plain = λ w κs a. refl; one = λ κs a r r' e e' p q. (cc, cc) }
 
-pub uyavsker_shape_check : OneEnd shape-check-call.ended (λ M 𝓤. shape-check-call.clauses 𝓤) shape-check-reads.Post {A = Float} (λ κs e. [])
+pub uyavsker_shape_check : OneEnd shape-check-call.ended (λ M 𝓤. shape-check-call.clauses) shape-check-reads.Post {A = Float} (λ κs e. [])
 uyavsker_shape_check = record { plain = λ w κs a. refl; one = λ κs a r r' e e' p q. (cc, cc) }
 
-pub uyavsker_entry_of : OneEnd entry-of-call.ended (λ M 𝓤. entry-of-call.clauses 𝓤) entry-of-reads.Post {A = Float} (λ κs e. [])
+pub uyavsker_entry_of : OneEnd entry-of-call.ended (λ M 𝓤. entry-of-call.clauses) entry-of-reads.Post {A = Float} (λ κs e. [])
 uyavsker_entry_of = record { plain = λ w κs a. refl; one = λ κs a r r' e e' p q. (cc, cc) }
 
-pub uyavsker_inner_separable : OneEnd inner-separable-call.ended (λ M 𝓤. inner-separable-call.clauses 𝓤) inner-separable-reads.Post {A = Float} (λ κs e. [])
+pub uyavsker_inner_separable : OneEnd inner-separable-call.ended (λ M 𝓤. inner-separable-call.clauses) inner-separable-reads.Post {A = Float} (λ κs e. [])
 uyavsker_inner_separable = record { plain = λ w κs a. refl; one = λ κs a r r' e e' p q. (cc, cc) }
 
-pub uyavsker_rank1_separable : OneEnd rank1-separable-call.ended (λ M 𝓤. rank1-separable-call.clauses 𝓤) rank1-separable-reads.Post (λ κs e. e.1.1.0.now ∷ [])
+pub uyavsker_rank1_separable : OneEnd rank1-separable-call.ended (λ M 𝓤. rank1-separable-call.clauses) rank1-separable-reads.Post (λ κs e. e.1.1.0.now ∷ [])
 uyavsker_rank1_separable = record { plain = λ w κs a. refl; one = λ κs a r r' e e' p q. (cc, cc) }
 
-pub uyavsker_tt_round : OneEnd tt-round-call.ended (λ M 𝓤. tt-round-call.clauses 𝓤) tt-round-reads.Post (λ κs e. e.1.1.0.now ∷ e.1.1.1.0.now ∷ [])
+pub uyavsker_tt_round : OneEnd tt-round-call.ended (λ M 𝓤. tt-round-call.clauses) tt-round-reads.Post (λ κs e. e.1.1.0.now ∷ e.1.1.1.0.now ∷ [])
 uyavsker_tt_round = record { plain = λ w κs a. refl; one = λ κs a r r' e e' p q. (cc, cc) }
 
-pub uyavsker_step : OneEnd step-call.ended (λ M 𝓤. step-call.clauses 𝓤) step-reads.Post (λ κs e. e.1.1.1.1.0.now ∷ e.1.1.1.1.1.0.now ∷ [])
+pub uyavsker_step : OneEnd step-call.ended (λ M 𝓤. step-call.clauses) step-reads.Post (λ κs e. e.1.1.1.1.0.now ∷ e.1.1.1.1.1.0.now ∷ [])
 uyavsker_step = record { plain = λ w κs a. refl; one = λ κs a r r' e e' p q. (cc, cc) }
 
-pub uyavsker_evolve : OneEnd evolve-call.ended (λ M 𝓤. evolve-call.clauses 𝓤) evolve-reads.Post (λ κs e. e.1.1.1.1.0.now ∷ e.1.1.1.1.1.0.now ∷ [])
+pub uyavsker_evolve : OneEnd evolve-call.ended (λ M 𝓤. evolve-call.clauses) evolve-reads.Post (λ κs e. e.1.1.1.1.0.now ∷ e.1.1.1.1.1.0.now ∷ [])
 uyavsker_evolve = record { plain = λ w κs a. refl; one = λ κs a r r' e e' p q. (cc, cc) }
 
-pub uyavsker_contract_and_split : OneEnd contract-and-split-call.ended (λ M 𝓤. contract-and-split-call.clauses 𝓤) contract-and-split-reads.Post
+pub uyavsker_contract_and_split : OneEnd contract-and-split-call.ended (λ M 𝓤. contract-and-split-call.clauses) contract-and-split-reads.Post
     (λ κs e. e.1.1.1.1.1.0.now ∷ e.1.1.1.1.1.1.0.now ∷ e.1.1.1.1.1.1.1.0.now ∷ [])
 uyavsker_contract_and_split = record { plain = λ w κs a. refl; one = λ κs a r r' e e' p q. (cc, cc) }
 
-pub uyavsker_fresh_run : OneEnd fresh-run-call.ended (λ M 𝓤. fresh-run-call.clauses 𝓤) fresh-run-reads.Post
+pub uyavsker_fresh_run : OneEnd fresh-run-call.ended (λ M 𝓤. fresh-run-call.clauses) fresh-run-reads.Post
     (λ κs e. e.1.1.1.1.1.0.now ∷ e.1.1.1.1.1.1.0.now ∷ e.1.1.1.1.1.1.1.0.now ∷ e.1.1.1.1.1.1.1.1.0.now ∷ [])
 uyavsker_fresh_run = record { plain = λ w κs a. refl; one = λ κs a r r' e e' p q. run_apart (λ m w. m.outputs.chain ∷ m.outputs.carries ∷ m.outputs.sums ∷ w ∷ []) p q }
 
-pub uyavsker_replace_core : OneEnd replace-core-call.ended (λ M 𝓤. replace-core-call.clauses 𝓤) replace-core-reads.Post
+pub uyavsker_replace_core : OneEnd replace-core-call.ended (λ M 𝓤. replace-core-call.clauses) replace-core-reads.Post
     (λ κs e. e.1.1.0.now ∷ e.1.1.1.1.0.now ∷ e.1.1.1.1.1.0.now ∷ e.1.1.1.1.1.1.0.now ∷ e.1.1.1.1.1.1.1.1.0.now ∷ [])
 uyavsker_replace_core = record {
   plain = λ w κs a. refl;
   one = λ κs a r r' e e' p q. run_apart (λ m w. m.source ∷ m.outputs.chain ∷ m.outputs.carries ∷ m.outputs.sums ∷ w ∷ []) p q;
 }
 
-pub uyavsker_replace_axis : OneEnd replace-axis-call.ended (λ M 𝓤. replace-axis-call.clauses 𝓤) replace-axis-reads.Post
+pub uyavsker_replace_axis : OneEnd replace-axis-call.ended (λ M 𝓤. replace-axis-call.clauses) replace-axis-reads.Post
     (λ κs e. e.1.1.1.1.1.0.now ∷ e.1.1.1.1.1.1.0.now ∷ e.1.1.1.1.1.1.1.0.now ∷ e.1.1.1.1.1.1.1.1.0.now ∷ [])
 uyavsker_replace_axis = record { plain = λ w κs a. refl; one = λ κs a r r' e e' p q. run_apart (λ m w. m.outputs.chain ∷ m.outputs.carries ∷ m.outputs.sums ∷ w ∷ []) p q }
 
-pub uyavsker_replace_weights : OneEnd replace-weights-call.ended (λ M 𝓤. replace-weights-call.clauses 𝓤) replace-weights-reads.Post
+pub uyavsker_replace_weights : OneEnd replace-weights-call.ended (λ M 𝓤. replace-weights-call.clauses) replace-weights-reads.Post
     (λ κs e. e.1.1.1.0.now ∷ e.1.1.1.1.1.1.0.now ∷ e.1.1.1.1.1.1.1.1.0.now ∷ [])
 uyavsker_replace_weights = record { plain = λ w κs a. refl; one = λ κs a r r' e e' p q. run_apart (λ m w. m.weights ∷ m.outputs.sums ∷ w ∷ []) p q }
 
-pub uyavsker_read_chain : OneEnd read-chain-call.ended (λ M 𝓤. read-chain-call.clauses 𝓤) read-chain-reads.Post (λ κs e. e.1.0.now ∷ [])
+pub uyavsker_read_chain : OneEnd read-chain-call.ended (λ M 𝓤. read-chain-call.clauses) read-chain-reads.Post (λ κs e. e.1.0.now ∷ [])
 uyavsker_read_chain = record { plain = λ w κs a. refl; one = λ κs a r r' e e' p q. (cc, cc) }
 
-pub uyavsker_write_chain : OneEnd write-chain-call.ended (λ M 𝓤. write-chain-call.clauses 𝓤) write-chain-reads.Post (λ κs e. e.1.1.0.now ∷ [])
+pub uyavsker_write_chain : OneEnd write-chain-call.ended (λ M 𝓤. write-chain-call.clauses) write-chain-reads.Post (λ κs e. e.1.1.0.now ∷ [])
 uyavsker_write_chain = record { plain = λ w κs a. refl; one = λ κs a r r' e e' p q. (cc, cc) }
 
-pub uyavsker_text_of : OneEnd text-of-call.ended (λ M 𝓤. text-of-call.clauses 𝓤) text-of-reads.Post (λ κs e. e.1.0.now ∷ [])
+pub uyavsker_text_of : OneEnd text-of-call.ended (λ M 𝓤. text-of-call.clauses) text-of-reads.Post (λ κs e. e.1.0.now ∷ [])
 uyavsker_text_of = record { plain = λ w κs a. refl; one = λ κs a r r' e e' p q. (cc, cc) }
