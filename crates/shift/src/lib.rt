@@ -1,4 +1,6 @@
 // The shift of one core along its axis, and the scaling of core 0.
+#![tactic(auto)]
+
 pub mod bands;
 pub mod blocks;
 

@@ -1,4 +1,3 @@
-use Prim.Native.Nat.{◌-◌}
 use Rattle.lists.proofs.Turns.{turns}
 use Rattle.lists.proofs.Over.{tabs}
 use Rattle.shift.proofs.Starts.{rooms}

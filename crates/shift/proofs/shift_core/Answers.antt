@@ -15,19 +15,19 @@ use Rattle.shift.proofs.shift_core.Goals as goal
 
 pub starts_of-ahead-requires : goal.starts_of-ahead-requires
 starts_of-ahead-requires c = let l : length c.args.block.now < 2 ^ 64 = search rules in (
-      period_some _ _ _ c.period-period.ensures c.requires.0.some,
-      period_few _ _ _ c.period-period.ensures c.requires.0.few,
-      period_fits _ _ _ c.period-period.ensures c.args.rr (length c.args.block.now) c.requires.0.room l,
-      c.requires.1,
-    )
+  period_some _ _ _ c.period-period.ensures c.requires.0.some,
+  period_few _ _ _ c.period-period.ensures c.requires.0.few,
+  period_fits _ _ _ c.period-period.ensures c.args.rr (length c.args.block.now) c.requires.0.room l,
+  c.requires.1,
+)
 
 pub starts_of-behind-requires : goal.starts_of-behind-requires
 starts_of-behind-requires c = let l : length c.args.block.now < 2 ^ 64 = search rules in (
-      period_some _ _ _ c.period-period.ensures c.requires.0.some,
-      period_few _ _ _ c.period-period.ensures c.requires.0.few,
-      period_fits _ _ _ c.period-period.ensures c.args.rr (length c.args.block.now) c.requires.0.room l,
-      reach_neg _ c.requires.1,
-    )
+  period_some _ _ _ c.period-period.ensures c.requires.0.some,
+  period_few _ _ _ c.period-period.ensures c.requires.0.few,
+  period_fits _ _ _ c.period-period.ensures c.args.rr (length c.args.block.now) c.requires.0.room l,
+  reach_neg _ c.requires.1,
+)
 
 pub overflow_add-room : goal.overflow_add-room
 overflow_add-room c = record { fits = omega (arith, period_few _ _ _ c.period-period.ensures c.requires.0.few, c.requires.0.few) }

@@ -1,4 +1,3 @@
-use Prim.Native.Nat.{◌-◌}
 use Rattle.lists.specs.Floats.{sum_on}
 use Rattle.lists.proofs.Turns.{turns}
 use Rattle.shift.specs.Starts.{band_in}

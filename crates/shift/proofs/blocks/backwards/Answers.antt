@@ -78,12 +78,12 @@ loop-q-smaller c = search turns
 
 pub loop-q-preserved : goal.loop-q-preserved
 loop-q-preserved c = (
-    search turns,
-    search turns,
-    joins_more c.args.rr (λ (q : ℕ). tab c.args.rr (λ (x : ℕ). at c.args.s.now ((c.args.n - suc q) * c.args.rr + x))) c.args.d.now (λ q. length_tab c.args.rr _)
-    c.loop-q.q _ _ c.loop-q.invariant.2 (row_end c.loop-q.q c.args.n c.args.rr (length c.args.d.now) c.loop-q-test.true (at_least _ _ c.requires.1))
-    (c.copy.ensures ∙ row_back c.args.s.now c.args.n c.args.rr c.loop-q.q c.requires.0 c.loop-q-test.true),
-    )
+  search turns,
+  search turns,
+  joins_more c.args.rr (λ (q : ℕ). tab c.args.rr (λ (x : ℕ). at c.args.s.now ((c.args.n - suc q) * c.args.rr + x))) c.args.d.now (λ q. length_tab c.args.rr _)
+      c.loop-q.q _ _ c.loop-q.invariant.2 (row_end c.loop-q.q c.args.n c.args.rr (length c.args.d.now) c.loop-q-test.true (at_least _ _ c.requires.1))
+      (c.copy.ensures ∙ row_back c.args.s.now c.args.n c.args.rr c.loop-q.q c.requires.0 c.loop-q-test.true),
+)
 
 pub shape_of-d : goal.shape_of-d
 unfolding backwards_of
