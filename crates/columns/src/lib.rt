@@ -1,4 +1,6 @@
 // Columns stored one after another: multiplied, turned, and looked over.
+#![tactic(auto)]
+
 ghost use Rattle.std.specs.Prelude.{◌≡◌, true, false, ℕ, ◌+◌, ◌-◌, ◌*◌, ◌<◌, ◌≤◌, length, take, drop};
 ghost use Rattle.answers.specs.Outcome.{stage_of};
 ghost use Rattle.lists.specs.Floats.{at, all_finite, stored};

@@ -1,5 +1,4 @@
 use borrow.Author.Rules.{rules}
-use Prim.Native.Nat.{◌-◌}
 use Rattle.columns.proofs.Strips.{runs}
 use Rattle.columns.proofs.turn_twos.Goals as goal
 
