@@ -1,7 +1,7 @@
 -- One zone of a rounding in its slots. Definitions for code only.
 use Rattle.std.specs.Prelude.{◌≡◌, ℕ, zero, suc, ◌-◌, ◌*◌, ◌≤◌, Bool, true, false, List, [], ◌∷◌, Float}
 use Rattle.numbers.specs.Arithmetic.{zero64}
-use Rattle.lists.specs.Slots.{slot, fit}
+use Rattle.lists.specs.Slots.{fit}
 use Rattle.shape.specs.Limits.{most_rank}
 use Rattle.cutform.specs.declared.Bond.{Bond}
 use Rattle.cutform.specs.Rounding.{Carry, none, some, Cut, numbers_in}

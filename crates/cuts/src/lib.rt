@@ -1,5 +1,7 @@
 // The rounding of the zones from one on, in place: every core stands in the room where its source begins, the carry of each bond
 // in a slot of its own.
+#![tactic(auto)]
+
 pub mod zone;
 
 ghost use Rattle.std.specs.Prelude.{◌≡◌, cond, ◌+◌, ◌-◌, ◌*◌, ◌≤◌, ◌<◌, length};

@@ -1,7 +1,6 @@
 use borrow.Author.Rules.{rules}
 use Rattle.cutform.proofs.BondSlots.{carry-slots}
 use Rattle.shape.proofs.Offsets.{offsets}
-use Prim.Native.Nat.{◌-◌}
 use Rattle.cuts.proofs.carry_offset.Goals as goal
 
 ruleset ways = (rules, carry-slots, offsets)

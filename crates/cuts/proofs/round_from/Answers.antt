@@ -1,5 +1,4 @@
 use mathlib.Core.Path.{refl, ◌∙◌}
-use Prim.Native.Nat.{◌-◌}
 use native.Mathlib.Omega.{arith}
 use Rattle.cuts.proofs.From.{from_is, at_any, loop_more, loop_stop, loop_next, loop_end, end_inside, refused_fits}
 use Rattle.cuts.proofs.Stands.{zone_turned_lem, rank_carried}
@@ -13,9 +12,9 @@ loop-k-init c = (refl, refl, refl, c.requires.z_le_d.0, λ l. c.left_rank-r.ensu
 
 pub zone_cut-cut-requires : goal.zone_cut-cut-requires
 zone_cut-cut-requires c = record {
-      sizes_within = c.requires.sizes_within;
-      k_lt_d = (c.loop-k-test.true, omega (arith, c.requires.z_le_d.1, c.loop-k.invariant.2), record { bonds = _; left = c.loop-k.invariant.4 c.loop-k-test.true; zone = at_any _ _ _ _ _ c.loop-k.invariant.5 });
-    }
+  sizes_within = c.requires.sizes_within;
+  k_lt_d = (c.loop-k-test.true, omega (arith, c.requires.z_le_d.1, c.loop-k.invariant.2), record { bonds = _; left = c.loop-k.invariant.4 c.loop-k-test.true; zone = at_any _ _ _ _ _ c.loop-k.invariant.5 });
+}
 
 pub returns-in-Refused : goal.returns-in-Refused
 returns-in-Refused c = let zone = c.zone_cut-cut.ensures (record { bonds = _; left = c.loop-k.invariant.4 c.loop-k-test.true; zone = at_any _ _ _ _ _ c.loop-k.invariant.5 }) in

@@ -36,7 +36,7 @@ shape_of-room c = search ways
 
 pub returns : goal.returns
 returns c = (
-    front_cut _ _ _ _ _ _ _ _ _ _ c.cut_bond.ensures c.requires.4 (c.cut_bond.auto.core ∙ span_length _ _ c.requires.0) _,
-    front_rank _ _ _ _ _ _ _ _ _ _ c.cut_bond.ensures
-    c.requires.4,
-    )
+  front_cut _ _ _ _ _ _ _ _ _ _ c.cut_bond.ensures c.requires.4 (c.cut_bond.auto.core ∙ span_length _ _ c.requires.0) _,
+  front_rank _ _ _ _ _ _ _ _ _ _ c.cut_bond.ensures
+      c.requires.4,
+)

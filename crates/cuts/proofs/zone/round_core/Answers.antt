@@ -22,11 +22,11 @@ taken-ready-requires c = let f = fewer_rows c.args.r c.args.rl c.args.n c.args.r
 
 pub returns-in-Refused : goal.returns-in-Refused
 returns-in-Refused c = (
-    zone_stops _ _ _ _ _ _ _ c.taken-ready.ensures _ _ _ c.in-Refused.is _
-    (ap (λ (r : BondCut). r.verdict) c.refused_cut.ensures) _,
-    part_same c.args.mid c.args.to c.args.carries.now c.requires.right
-    c.requires.held,
-    )
+  zone_stops _ _ _ _ _ _ _ c.taken-ready.ensures _ _ _ c.in-Refused.is _
+      (ap (λ (r : BondCut). r.verdict) c.refused_cut.ensures) _,
+  part_same c.args.mid c.args.to c.args.carries.now c.requires.right
+      c.requires.held,
+)
 
 pub cut_if-requires : goal.cut_if-requires
 cut_if-requires c = let f = fewer_rows c.args.r c.args.rl c.args.n c.args.rr c.requires.rows in
