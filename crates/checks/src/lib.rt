@@ -1,4 +1,6 @@
 // What a call over a chain asks before it works.
+#![tactic(auto)]
+
 pub mod settings;
 
 ghost use Rattle.std.specs.Prelude.{◌≡◌, ◌≤◌, length};

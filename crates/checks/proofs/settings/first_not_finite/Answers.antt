@@ -1,7 +1,6 @@
 use borrow.Author.Rules.{rules}
 use Rattle.lists.proofs.Demands.{passing}
 use Rattle.stepform.specs.Axes.{axis_finite}
-use Prim.Native.Nat.{◌-◌}
 use Rattle.checks.proofs.StepVerdicts.{axis_found}
 use Rattle.checks.proofs.settings.first_not_finite.Goals as goal
 

@@ -49,11 +49,11 @@ returns-then-not-lone c = search ways
 
 pub zones_finite-finite-requires : goal.zones_finite-finite-requires
 zones_finite-finite-requires c = record {
-      sizes_within = fits_sizes _ _ _ c.check-shaped.ensures
-    c.in_default.is;
-      s_in_bounds = chain_long _ _ _ _ _ _ c.lengths_ok-lent.ensures
-    c.in_default-lent.is;
-    }
+  sizes_within = fits_sizes _ _ _ c.check-shaped.ensures
+      c.in_default.is;
+  s_in_bounds = chain_long _ _ _ _ _ _ c.lengths_ok-lent.ensures
+      c.in_default-lent.is;
+}
 
 pub enum_known-finite : goal.enum_known-finite
 unfolding step_ok
