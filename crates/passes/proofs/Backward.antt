@@ -14,7 +14,7 @@ use Rattle.numbers.specs.Finite.{finite}
 use Rattle.numbers.proofs.Swaps.{times_swap}
 use Rattle.answers.specs.Outcome.{Made, done, refused, bind}
 use Rattle.lists.specs.Lists.{pick, iter, iter_from}
-use Rattle.lists.specs.Floats.{at, cell, sum_on, sum_to, all_finite}
+use Rattle.lists.specs.Floats.{cell, sum_on, sum_to, all_finite}
 use Rattle.lists.specs.Walks.{turning}
 use Rattle.lists.proofs.Cells.{cell_lt}
 use Rattle.lists.proofs.Floats.{finite_get_d_lem, stored_yes}

@@ -1,6 +1,8 @@
 // Passes over stored columns of which no number is looked at before a pass ends: what is finite then was finite all along. Where
 // something isn't, all is done again by `careful`, with a look after each rotation: so the refusal tells the first such number.
 // Two rows of a pass go in step, the second a column behind the first: their four columns differ, so neither waits for the other.
+#![tactic(auto)]
+
 pub mod careful;
 pub mod counted;
 

@@ -1,4 +1,3 @@
-use Prim.Native.Nat.{◌-◌}
 use mathlib.Core.Path.{refl}
 use Rattle.lists.proofs.Turns.{turns, iter_more, iter_done}
 use Rattle.passes.specs.Free.{row_free}
@@ -30,6 +29,6 @@ shape_of-ss c = search turns
 
 pub returns : goal.returns
 returns c = record {
-      result_after = λ x e. iter_done (row_free c.args.m c.args.n) x c.loop-p.p _ _ (c.loop-p.invariant.5 x e) c.loop-p.invariant.0 c.loop-p-test.false;
-      beside = c.loop-p.invariant.4;
-    }
+  result_after = λ x e. iter_done (row_free c.args.m c.args.n) x c.loop-p.p _ _ (c.loop-p.invariant.5 x e) c.loop-p.invariant.0 c.loop-p-test.false;
+  beside = c.loop-p.invariant.4;
+}

@@ -1,9 +1,7 @@
 use Rattle.lists.proofs.Turns.{turns}
-use Prim.Native.Nat.{◌-◌}
 use mathlib.Core.Path.{refl, sym}
 use mathlib.Core.Bool.{true≢false}
 use Rattle.answers.specs.declared.Stage.TheVariants.{Whole}
-use Rattle.lists.proofs.Tests.{not_no}
 use Rattle.passes.proofs.Rotated.{passes_start, passes_quiet, passes_more, passes_done}
 use Rattle.passes.proofs.Spun.{now_held, pass_staged, held_beside}
 use Rattle.passes.proofs.quick_passes.Goals as goal

@@ -1,4 +1,3 @@
-use Prim.Native.Nat.{◌-◌}
 use native.Mathlib.Omega.{arith}
 use mathlib.Core.Path.{refl}
 use Rattle.lists.proofs.Turns.{turns}
@@ -38,6 +37,6 @@ shape_of-ss c = search turns
 
 pub returns : goal.returns
 returns c = record {
-      quiet_after = c.loop-p.invariant.5;
-      beside = (c.loop-p.invariant.4, c.loop-p.invariant.0);
-    }
+  quiet_after = c.loop-p.invariant.5;
+  beside = (c.loop-p.invariant.4, c.loop-p.invariant.0);
+}

@@ -1,5 +1,4 @@
 use Rattle.lists.proofs.Turns.{turns}
-use Prim.Native.Nat.{◌-◌}
 use Rattle.lists.specs.Floats.{sum_on, sum_to}
 use Rattle.lists.proofs.Cells.{exacts}
 use Rattle.pairform.specs.Columns.{dot}

@@ -27,6 +27,6 @@ shape_of-ss c = search (rules, c.step.ensures.beside.0.squared.count, c.requires
 
 pub returns : goal.returns
 returns c = record {
-      result_after = step_last _ _ _ _ _ _ c.requires.1 (c.abreast-k.ensures.quiet_after _ c.lead-begun.ensures.quiet_after) (c.step.ensures.b_after _);
-      beside = c.step.ensures.beside.0;
-    }
+  result_after = step_last _ _ _ _ _ _ c.requires.1 (c.abreast-k.ensures.quiet_after _ c.lead-begun.ensures.quiet_after) (c.step.ensures.b_after _);
+  beside = c.step.ensures.beside.0;
+}

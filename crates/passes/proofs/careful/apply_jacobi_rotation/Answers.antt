@@ -6,47 +6,47 @@ use Rattle.passes.proofs.careful.apply_jacobi_rotation.Goals as goal
 
 pub square_again-requires : goal.square_again-requires
 square_again-requires c = (
-    turned_length _ _ _ _ _ _ _ _ c.turn.ensures,
-    c.requires.0.count,
-    omega (arith, c.requires.1, c.requires.2),
-    c.requires.2,
-    turned_squares _ _
-    _ _ _ _ _ _ c.turn.ensures _ c.requires.0.kept,
-    )
+  turned_length _ _ _ _ _ _ _ _ c.turn.ensures,
+  c.requires.0.count,
+  omega (arith, c.requires.1, c.requires.2),
+  c.requires.2,
+  turned_squares _ _
+      _ _ _ _ _ _ c.turn.ensures _ c.requires.0.kept,
+)
 
 pub stored_squared-made-requires : goal.stored_squared-made-requires
 stored_squared-made-requires c = (
-    turned_length _ _ _ _ _ _ _ _ c.turn.ensures,
-    omega (arith, c.requires.1, c.requires.2),
-    c.requires.2,
-    turned_elsewhere _ _ _ _ _ _ _ _
-    c.turn.ensures c.requires.0.long c.requires.0.fine,
-    c.square_again.ensures,
-    squares_length _ _ _ _ c.square_again.ensures,
-    )
+  turned_length _ _ _ _ _ _ _ _ c.turn.ensures,
+  omega (arith, c.requires.1, c.requires.2),
+  c.requires.2,
+  turned_elsewhere _ _ _ _ _ _ _ _
+      c.turn.ensures c.requires.0.long c.requires.0.fine,
+  c.square_again.ensures,
+  squares_length _ _ _ _ c.square_again.ensures,
+)
 
 pub returns-in-Spilt : goal.returns-in-Spilt
 returns-in-Spilt c = (
   turned_stop _ _ _ _ _ _ _ _ _ _
-    c.turn.ensures
-    c.turn-2.ensures _
-    c.stored_squared-made.ensures _ _ c.in-Spilt.is,
+      c.turn.ensures
+      c.turn-2.ensures _
+      c.stored_squared-made.ensures _ _ c.in-Spilt.is,
   c.square_again.ensures,
 )
 
 pub stored_but-requires : goal.stored_but-requires
 stored_but-requires c = (
-    turned_length _ _ _ _ _ _ _ _ c.turn-2.ensures,
-    omega (arith, c.requires.1, c.requires.2),
-    c.requires.2,
-    turned_elsewhere _ _ _ _ _ _ _ _
-    c.turn-2.ensures c.requires.0.wide c.requires.0.basis_fine,
-    )
+  turned_length _ _ _ _ _ _ _ _ c.turn-2.ensures,
+  omega (arith, c.requires.1, c.requires.2),
+  c.requires.2,
+  turned_elsewhere _ _ _ _ _ _ _ _
+      c.turn-2.ensures c.requires.0.wide c.requires.0.basis_fine,
+)
 
 pub returns : goal.returns
 returns c = (
   turned_end _ _ _ _ _ _ _ _ _ _
-    c.turn.ensures c.turn-2.ensures _
-    c.stored_squared-made.ensures c.in_default.is _ c.stored_but.ensures,
+      c.turn.ensures c.turn-2.ensures _
+      c.stored_squared-made.ensures c.in_default.is _ c.stored_but.ensures,
   c.square_again.ensures,
 )

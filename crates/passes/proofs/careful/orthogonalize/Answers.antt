@@ -1,5 +1,4 @@
 use Rattle.lists.proofs.Turns.{turns}
-use Prim.Native.Nat.{◌-◌}
 use mathlib.Core.Path.{refl}
 use Rattle.passes.proofs.Rotated.{pass_held, passes_start, passes_quiet, passes_stop, passes_more, passes_done}
 use Rattle.passes.proofs.careful.orthogonalize.Goals as goal
@@ -21,9 +20,9 @@ shape_of-ss-then-quiet c = search turns
 
 pub returns-then-quiet : goal.returns-then-quiet
 returns-then-quiet c = (
-    rw c.passes_are.ensures (passes_quiet _ _ _ _ _ _ _ c.loop-count.invariant.5 c.loop-count-test.true c.if-quiet.true),
-    c.loop-count.invariant.4.kept,
-    )
+  rw c.passes_are.ensures (passes_quiet _ _ _ _ _ _ _ c.loop-count.invariant.5 c.loop-count-test.true c.if-quiet.true),
+  c.loop-count.invariant.4.kept,
+)
 
 pub pass-made-requires : goal.pass-made-requires
 pass-made-requires c = search turns
@@ -45,11 +44,11 @@ shape_of-ss-in-Spilt c = search turns
 
 pub returns-in-Spilt : goal.returns-in-Spilt
 returns-in-Spilt c = (
-    rw c.passes_are-in-Spilt.ensures
-    (passes_stop _ _ _ _ _ _ _ c.loop-count.invariant.5 c.loop-count-test.true c.if-quiet.false _ _ c.pass-made.ensures.0 _ _
-    c.in-Spilt.is),
-    c.pass-made.ensures.1,
-    )
+  rw c.passes_are-in-Spilt.ensures
+      (passes_stop _ _ _ _ _ _ _ c.loop-count.invariant.5 c.loop-count-test.true c.if-quiet.false _ _ c.pass-made.ensures.0 _ _
+      c.in-Spilt.is),
+  c.pass-made.ensures.1,
+)
 
 pub enum_told-1 : goal.enum_told-1
 enum_told-1 c = search turns
@@ -62,17 +61,17 @@ loop-count-smaller c = search turns
 
 pub loop-count-preserved : goal.loop-count-preserved
 loop-count-preserved c = (
-    search turns,
-    search turns,
-    search turns,
-    search turns,
-    pass_held _ _ _ _ _ _ _ _ c.loop-count.invariant.4 c.pass-made.ensures.1 _
-    c.in_default.is _ c.pass-made.ensures.0,
-    passes_more _ _ _ _ _ _ _ c.loop-count.invariant.5
-    c.loop-count-test.true
-    c.if-quiet.false _ _ c.pass-made.ensures.0
-    c.in_default.is,
-    )
+  search turns,
+  search turns,
+  search turns,
+  search turns,
+  pass_held _ _ _ _ _ _ _ _ c.loop-count.invariant.4 c.pass-made.ensures.1 _
+      c.in_default.is _ c.pass-made.ensures.0,
+  passes_more _ _ _ _ _ _ _ c.loop-count.invariant.5
+      c.loop-count-test.true
+      c.if-quiet.false _ _ c.pass-made.ensures.0
+      c.in_default.is,
+)
 
 pub passes_are-requires-2 : goal.passes_are-requires-2
 passes_are-requires-2 c = search turns

@@ -1,5 +1,4 @@
 use Rattle.lists.proofs.Turns.{turns}
-use Prim.Native.Nat.{◌-◌}
 use mathlib.Core.Path.{refl}
 use Rattle.passes.proofs.Rotated.{row_held, pass_rows}
 use Rattle.lists.proofs.Stages.{stage_more, stage_stop, stage_done}
@@ -28,10 +27,10 @@ shape_of-ss-in-Spilt c = search turns
 
 pub returns-in-Spilt : goal.returns-in-Spilt
 returns-in-Spilt c = (
-    rw c.turn_is.ensures
-    (stage_stop _ _ _ _ _ c.loop-p.invariant.5 c.loop-p-test.true _ _ c.pass_row-made.ensures.0 _ _ c.in-Spilt.is),
-    c.pass_row-made.ensures.1,
-    )
+  rw c.turn_is.ensures
+      (stage_stop _ _ _ _ _ c.loop-p.invariant.5 c.loop-p-test.true _ _ c.pass_row-made.ensures.0 _ _ c.in-Spilt.is),
+  c.pass_row-made.ensures.1,
+)
 
 pub enum_told-1 : goal.enum_told-1
 enum_told-1 c = search turns
@@ -44,16 +43,16 @@ loop-p-smaller c = search turns
 
 pub loop-p-preserved : goal.loop-p-preserved
 loop-p-preserved c = (
-    search turns,
-    search turns,
-    search turns,
-    search turns,
-    row_held _ _ _ _ _ _ _ _ c.loop-p.invariant.4 c.pass_row-made.ensures.1 _
-    c.in_default.is _ _ _ c.pass_row-made.ensures.0,
-    stage_more _ _ _ _ _ c.loop-p.invariant.5
-    c.loop-p-test.true _ _ c.pass_row-made.ensures.0
-    c.in_default.is,
-    )
+  search turns,
+  search turns,
+  search turns,
+  search turns,
+  row_held _ _ _ _ _ _ _ _ c.loop-p.invariant.4 c.pass_row-made.ensures.1 _
+      c.in_default.is _ _ _ c.pass_row-made.ensures.0,
+  stage_more _ _ _ _ _ c.loop-p.invariant.5
+      c.loop-p-test.true _ _ c.pass_row-made.ensures.0
+      c.in_default.is,
+)
 
 pub turn_is-requires-2 : goal.turn_is-requires-2
 turn_is-requires-2 c = search turns

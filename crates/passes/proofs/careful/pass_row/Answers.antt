@@ -1,5 +1,4 @@
 use Rattle.lists.proofs.Turns.{turns}
-use Prim.Native.Nat.{◌-◌}
 use mathlib.Core.Path.{refl}
 use Rattle.passes.specs.Loops.{pass_row}
 use Rattle.passes.proofs.Rotated.{rotate_held}
@@ -41,10 +40,10 @@ shape_of-ss-in-Spilt c = search turns
 pub returns-in-Spilt : goal.returns-in-Spilt
 unfolding pass_row
 returns-in-Spilt c = (
-    rw c.turn_is.ensures
-    (stage_stop _ _ _ _ _ c.loop-q.invariant.6 c.loop-q-test.true _ _ c.rotate-made.ensures.0 _ _ c.in-Spilt.is),
-    c.rotate-made.ensures.1,
-    )
+  rw c.turn_is.ensures
+      (stage_stop _ _ _ _ _ c.loop-q.invariant.6 c.loop-q-test.true _ _ c.rotate-made.ensures.0 _ _ c.in-Spilt.is),
+  c.rotate-made.ensures.1,
+)
 
 pub enum_told-1 : goal.enum_told-1
 unfolding pass_row
@@ -61,17 +60,17 @@ loop-q-smaller c = search turns
 pub loop-q-preserved : goal.loop-q-preserved
 unfolding pass_row
 loop-q-preserved c = (
-    search turns,
-    search turns,
-    search turns,
-    search turns,
-    search turns,
-    rotate_held _ _ _ _ _ _ _ _ c.loop-q.invariant.5 c.rotate-made.ensures.1 _
-    c.in_default.is _ _ _ _ c.rotate-made.ensures.0,
-    stage_more _ _ _ _ _ c.loop-q.invariant.6
-    c.loop-q-test.true _ _ c.rotate-made.ensures.0
-    c.in_default.is,
-    )
+  search turns,
+  search turns,
+  search turns,
+  search turns,
+  search turns,
+  rotate_held _ _ _ _ _ _ _ _ c.loop-q.invariant.5 c.rotate-made.ensures.1 _
+      c.in_default.is _ _ _ _ c.rotate-made.ensures.0,
+  stage_more _ _ _ _ _ c.loop-q.invariant.6
+      c.loop-q-test.true _ _ c.rotate-made.ensures.0
+      c.in_default.is,
+)
 
 pub turn_is-requires-2 : goal.turn_is-requires-2
 unfolding pass_row
