@@ -1,4 +1,6 @@
 // Rounding a chain: what the call answers.
+#![tactic(auto)]
+
 pub mod packing;
 
 ghost use Rattle.std.specs.Prelude.{◌≡◌, ◌≤◌, length, replicate, take};

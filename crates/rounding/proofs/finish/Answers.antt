@@ -4,9 +4,9 @@ use Rattle.rounding.proofs.finish.Goals as goal
 
 pub leave-requires : goal.leave-requires
 leave-requires c = record {
-      sizes_within = c.requires.sizes_within;
-      inside = c.requires.inside;
-    }
+  sizes_within = c.requires.sizes_within;
+  inside = c.requires.inside;
+}
 
 pub returns-in-Refused : goal.returns-in-Refused
 returns-in-Refused c = finish_stops _ _ _ _ _ _ c.leave.ensures.chain_after c.leave.ensures.scratch_after _ _ c.in-Refused.is c.refused_rounding.ensures

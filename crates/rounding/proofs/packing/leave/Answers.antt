@@ -6,9 +6,9 @@ use Rattle.rounding.proofs.packing.leave.Goals as goal
 
 pub returns-in-Refused : goal.returns-in-Refused
 returns-in-Refused c = record {
-      chain_after = left_stays _ _ _ _ _ _ c.in-Refused.is;
-      scratch_after = c.fill.ensures;
-    }
+  chain_after = left_stays _ _ _ _ _ _ c.in-Refused.is;
+  scratch_after = c.fill.ensures;
+}
 
 pub pack-requires : goal.pack-requires
 pack-requires c = let I = c.requires.inside.0 c.in_default.is in
@@ -20,6 +20,6 @@ pack-requires c = let I = c.requires.inside.0 c.in_default.is in
 
 pub returns : goal.returns
 returns c = record {
-      chain_after = left_packed _ _ _ _ _ c.in_default.is _ c.pack.ensures;
-      scratch_after = c.fill-2.ensures;
-    }
+  chain_after = left_packed _ _ _ _ _ c.in_default.is _ c.pack.ensures;
+  scratch_after = c.fill-2.ensures;
+}
