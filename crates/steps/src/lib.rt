@@ -1,4 +1,6 @@
 // A step of the zones from any one on, in place, and steps one after another over a whole chain.
+#![tactic(auto)]
+
 pub mod moves;
 pub mod shifts;
 

@@ -1,8 +1,7 @@
-use Prim.Native.Nat.{◌-◌}
 use native.Mathlib.Numerals.{add-one}
 use Rattle.lists.proofs.Turns.{turns}
 use Rattle.lists.proofs.Tables.{fill_all}
-use Rattle.stepform.specs.Steps.{further_bond, further}
+use Rattle.stepform.specs.Steps.{further}
 use Rattle.steps.proofs.further.Goals as goal
 
 pub loop-k-init : goal.loop-k-init

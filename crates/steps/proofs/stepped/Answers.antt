@@ -6,9 +6,9 @@ use Rattle.steps.proofs.stepped.Goals as goal
 
 pub steps_in-requires : goal.steps_in-requires
 steps_in-requires c = record {
-      ready = record { ok = c.requires.s_value.0; reach = c.requires.s_value.1; carried = search rules; rooms = record { core = search rules; thrice = search rules } };
-      placed = placed_own _ _ _ _ c.requires.s_value.0 c.copy.ensures c.requires.chain_len.0 (search rules) (search rules);
-    }
+  ready = record { ok = c.requires.s_value.0; reach = c.requires.s_value.1; carried = search rules; rooms = record { core = search rules; thrice = search rules } };
+  placed = placed_own _ _ _ _ c.requires.s_value.0 c.copy.ensures c.requires.chain_len.0 (search rules) (search rules);
+}
 
 pub returns : goal.returns
 returns c = came_own (steps_of c.args.m c.args.set c.args.xs) _ _ _ _

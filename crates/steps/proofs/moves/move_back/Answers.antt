@@ -10,8 +10,8 @@ move_core-requires c = (rw (sub-zero, part_is _ _ _ c.requires.size_in_bounds.1)
 
 pub returns : goal.returns
 returns c = record {
-      room_value = rw sub-zero at c.move_core.ensures ∙ ap (answered _)
-    (sym (part_read _ _ _ c.requires.size_in_bounds.1 c.move_core.new.out c.move_core.auto.out));
-      work_after = part_back _ _ _
-    c.requires.size_in_bounds.1 c.move_core.new.out c.move_core.auto.out;
-    }
+  room_value = rw sub-zero at c.move_core.ensures ∙ ap (answered _)
+      (sym (part_read _ _ _ c.requires.size_in_bounds.1 c.move_core.new.out c.move_core.auto.out));
+  work_after = part_back _ _ _
+      c.requires.size_in_bounds.1 c.move_core.new.out c.move_core.auto.out;
+}

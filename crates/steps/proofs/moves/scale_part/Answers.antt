@@ -7,8 +7,8 @@ use Rattle.steps.proofs.moves.scale_part.Goals as goal
 
 pub returns : goal.returns
 returns c = record {
-      work_value = ap (scaled _ _) (sym (part_is _ _ _ c.requires)) ∙ c.scale.ensures ∙ ap (answered _)
-    (sym (part_read _ _ _ c.requires c.scale.new.core c.scale.auto.core));
-      work_after = part_back _ _ _ c.requires
-    c.scale.new.core c.scale.auto.core;
-    }
+  work_value = ap (scaled _ _) (sym (part_is _ _ _ c.requires)) ∙ c.scale.ensures ∙ ap (answered _)
+      (sym (part_read _ _ _ c.requires c.scale.new.core c.scale.auto.core));
+  work_after = part_back _ _ _ c.requires
+      c.scale.new.core c.scale.auto.core;
+}

@@ -1,6 +1,5 @@
 use mathlib.Core.Path.{refl, ◌∙◌}
 use Rattle.steps.proofs.Passes.{stands_on, rooms_on, reach_of, onward_both, shifting_none, onward_on, shifting_more, moving_stop, moving_done}
-use Prim.Native.Nat.{◌-◌}
 use native.Mathlib.Omega.{arith}
 use Rattle.steps.proofs.shifts.move_from.Goals as goal
 
@@ -12,38 +11,38 @@ axis_in-x-requires c = omega (arith, c.loop-k-test.true, c.requires.stands.0.wit
 
 pub shift_zone-moved-requires : goal.shift_zone-moved-requires
 shift_zone-moved-requires c = record {
-      stands = (stands_on _ _ _ _ c.requires.stands.0 c.loop-k.invariant.0.long, rooms_on _ _ _ _ c.requires.stands.1 c.loop-k.invariant.1 c.loop-k.invariant.2);
-      k_lt_d = (
+  stands = (stands_on _ _ _ _ c.requires.stands.0 c.loop-k.invariant.0.long, rooms_on _ _ _ _ c.requires.stands.1 c.loop-k.invariant.1 c.loop-k.invariant.2);
+  k_lt_d = (
     c.loop-k-test.true,
     reach_of c.args.set _ _ _ _
-    c.axis_in-x.ensures (c.requires.z_le_d.1 _ c.loop-k.invariant.0.low c.loop-k-test.true),
-    );
-    }
+        c.axis_in-x.ensures (c.requires.z_le_d.1 _ c.loop-k.invariant.0.low c.loop-k-test.true),
+  );
+}
 
 pub returns-in-Refused : goal.returns-in-Refused
 returns-in-Refused c = record {
-      a_value = moving_stop _ _ _ _ _ _ _ _ c.loop-k.invariant.0
-    c.loop-k-test.true _
-    c.axis_in-x.ensures _ _
-    c.shift_zone-moved.ensures.x_value _ c.in-Refused.is _ _;
-      onward = onward_on _ _ _ _ _ _ _ _ c.loop-k.invariant.0 _ c.shift_zone-moved.ensures.elsewhere;
-    }
+  a_value = moving_stop _ _ _ _ _ _ _ _ c.loop-k.invariant.0
+      c.loop-k-test.true _
+      c.axis_in-x.ensures _ _
+      c.shift_zone-moved.ensures.x_value _ c.in-Refused.is _ _;
+  onward = onward_on _ _ _ _ _ _ _ _ c.loop-k.invariant.0 _ c.shift_zone-moved.ensures.elsewhere;
+}
 
 pub loop-k-preserved : goal.loop-k-preserved
 loop-k-preserved c = (
-    shifting_more _ _ _ _ _ _ _ _ c.loop-k.invariant.0
-    c.loop-k-test.true _
-    c.axis_in-x.ensures _ _ c.shift_zone-moved.ensures.x_value
-    c.in_default.is c.shift_zone-moved.auto.work c.shift_zone-moved.ensures.elsewhere,
-    c.shift_zone-moved.auto.room ∙ c.loop-k.invariant.1,
-    c.shift_zone-moved.auto.block ∙ c.loop-k.invariant.2,
-    )
+  shifting_more _ _ _ _ _ _ _ _ c.loop-k.invariant.0
+      c.loop-k-test.true _
+      c.axis_in-x.ensures _ _ c.shift_zone-moved.ensures.x_value
+      c.in_default.is c.shift_zone-moved.auto.work c.shift_zone-moved.ensures.elsewhere,
+  c.shift_zone-moved.auto.room ∙ c.loop-k.invariant.1,
+  c.shift_zone-moved.auto.block ∙ c.loop-k.invariant.2,
+)
 
 pub scale_from-requires : goal.scale_from-requires
 scale_from-requires c = stands_on _ _ _ _ c.requires.stands.0 c.loop-k.invariant.0.long
 
 pub returns : goal.returns
 returns c = record {
-      a_value = moving_done _ _ _ _ _ _ _ _ c.loop-k.invariant.0 c.loop-k-test.false _ _ c.scale_from.ensures.work_value;
-      onward = onward_both _ _ _ _ _ c.loop-k.invariant.0.onward c.scale_from.ensures.onward;
-    }
+  a_value = moving_done _ _ _ _ _ _ _ _ c.loop-k.invariant.0 c.loop-k-test.false _ _ c.scale_from.ensures.work_value;
+  onward = onward_both _ _ _ _ _ c.loop-k.invariant.0.onward c.scale_from.ensures.onward;
+}
