@@ -1,4 +1,6 @@
 // What a run hands to the work from one zone on, and what it takes of it once nothing can refuse.
+#![tactic(auto)]
+
 pub mod copies;
 pub mod ranks;
 

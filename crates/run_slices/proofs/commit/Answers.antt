@@ -13,10 +13,10 @@ copy_from-requires-2 c = (slot_starts _ _ _ (search rules) _ c.carry_offset-carr
 
 pub copy_from-requires-3 : goal.copy_from-requires-3
 copy_from-requires-3 c = (
-    slot_starts _ _ _ (search rules) _ c.sum_offset-sum.ensures _
-    c.requires.chain_len.2,
-    c.requires.chain_in_bounds.2,
-    )
+  slot_starts _ _ _ (search rules) _ c.sum_offset-sum.ensures _
+      c.requires.chain_len.2,
+  c.requires.chain_in_bounds.2,
+)
 
 pub offset_bounds-summed-last : goal.offset_bounds-summed-last
 offset_bounds-summed-last c = last_fits _ c.requires.sizes_within.0 _ c.sum_offset-last.ensures _ _ c.requires.chain_len.2 c.requires.chain_in_bounds.2
@@ -27,15 +27,15 @@ bounds-summed-last c = last_within _ c.requires.sizes_within.0 _ c.sum_offset-la
 pub returns : goal.returns
 returns c = (
   ap
-    (at
-    c.args.summed.now) c.sum_offset-last.ensures,
+      (at
+      c.args.summed.now) c.sum_offset-last.ensures,
   over_at _ _
-    c.offset-core.ensures _ _ _ c.copy_from.ensures,
+      c.offset-core.ensures _ _ _ c.copy_from.ensures,
   over_at _
-    _
-    c.carry_offset-carry.ensures
-    _ _ _ c.copy_from-2.ensures,
+      _
+      c.carry_offset-carry.ensures
+      _ _ _ c.copy_from-2.ensures,
   over_at _ _
-    c.sum_offset-sum.ensures _ _ _
-    c.copy_from-3.ensures,
+      c.sum_offset-sum.ensures _ _ _
+      c.copy_from-3.ensures,
 )
