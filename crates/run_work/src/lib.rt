@@ -1,4 +1,6 @@
 // The work of a run from one zone on, once its checks have passed.
+#![tactic(auto)]
+
 pub mod again;
 pub mod kept;
 pub mod renewal;

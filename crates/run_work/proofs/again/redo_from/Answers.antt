@@ -11,11 +11,11 @@ kept_shape-t-requires c = few_axes _ c.requires.steps.ok
 
 pub sum_from-summed-requires : goal.sum_from-summed-requires
 sum_from-summed-requires c = (
-    omega (arith, c.requires.steps.zone),
-    c.requires.sums.summed,
-    sums_stand _ c.requires.steps.ok _ (c.step_again-stepped.ensures.1 c.in_default.is)
-    _ c.kept_shape-t.ensures _ _ _ c.requires.sums (omega (arith, c.requires.steps.cores, c.step_again-stepped.auto.work)),
-    )
+  omega (arith, c.requires.steps.zone),
+  c.requires.sums.summed,
+  sums_stand _ c.requires.steps.ok _ (c.step_again-stepped.ensures.1 c.in_default.is)
+      _ c.kept_shape-t.ensures _ _ _ c.requires.sums (omega (arith, c.requires.steps.cores, c.step_again-stepped.auto.work)),
+)
 
 pub returns : goal.returns
 returns c = work_judged _ _ _ _ _ _ _ _

@@ -1,6 +1,5 @@
 use borrow.Author.Rules.{rules}
 use Rattle.run_work.proofs.Ranked.{ranked_none, ranked_more, ranked_all}
-use Prim.Native.Nat.{◌-◌}
 use Rattle.run_work.proofs.kept.kept_shape.Goals as goal
 
 ruleset ways = (rules, ranked_none, ranked_more, ranked_all)

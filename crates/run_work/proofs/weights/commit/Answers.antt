@@ -16,10 +16,10 @@ put_at-requires c = part_ends c.args.s c.args.z c.args.part.now c.args.weights.n
 
 pub copy_from-requires : goal.copy_from-requires
 copy_from-requires c = (
-    omega
-    (arith, c.sum_offset-from.ensures, c.requires.z_lt_d.3, offset_mono (sum_size c.args.s) c.args.z c.args.s.d (omega (arith, c.requires.z_lt_d.0))),
-    c.requires.sizes_within.1,
-    )
+  omega
+      (arith, c.sum_offset-from.ensures, c.requires.z_lt_d.3, offset_mono (sum_size c.args.s) c.args.z c.args.s.d (omega (arith, c.requires.z_lt_d.0))),
+  c.requires.sizes_within.1,
+)
 
 pub offset_bounds-sums-last : goal.offset_bounds-sums-last
 offset_bounds-sums-last c = figure_fits c.args.s c.requires.sizes_within.0 _ c.sum_offset-last.ensures
@@ -30,12 +30,12 @@ bounds-sums-last c = figure_in c.args.s c.requires.sizes_within.0 _ c.sum_offset
 
 pub returns : goal.returns
 returns c = (
-    c.put_at.ensures ∙ part_in c.args.s c.args.z c.args.part.now
-    c.args.weights.now c.requires.z_lt_d.0 c.requires.z_lt_d.1 c.requires.z_lt_d.2 _
-    c.points_offset-point.ensures,
-    c.copy_from.ensures ∙ ap
-    (λ (n : ℕ). take n c.args.sums.now ++ drop n (take (length c.args.sums.now) c.args.held.now))
-    c.sum_offset-from.ensures,
-    ap (at c.copy_from.new.to)
-    c.sum_offset-last.ensures,
-    )
+  c.put_at.ensures ∙ part_in c.args.s c.args.z c.args.part.now
+      c.args.weights.now c.requires.z_lt_d.0 c.requires.z_lt_d.1 c.requires.z_lt_d.2 _
+      c.points_offset-point.ensures,
+  c.copy_from.ensures ∙ ap
+      (λ (n : ℕ). take n c.args.sums.now ++ drop n (take (length c.args.sums.now) c.args.held.now))
+      c.sum_offset-from.ensures,
+  ap (at c.copy_from.new.to)
+      c.sum_offset-last.ensures,
+)

@@ -13,10 +13,10 @@ kept_shape-t-requires c = (shaped _ _ c.requires.bonds_value).most
 
 pub sums_anew-made-requires : goal.sums_anew-made-requires
 sums_anew-made-requires c = let w = (shaped _ _ c.requires.bonds_value).sizes in record {
-      sizes_within = (w, ranked_inside _ _ c.requires.bonds_value _ c.kept_shape-t.ensures, le_of_eq (sym c.requires.lent.chain_long));
-      z_lt_d = (c.requires.lent.zone, c.requires.lent.part_long, c.requires.lent.weights_long);
-      sums_len = (c.requires.lent.sums_long, sums_fit _ w _ c.requires.lent.sums_long);
-    }
+  sizes_within = (w, ranked_inside _ _ c.requires.bonds_value _ c.kept_shape-t.ensures, le_of_eq (sym c.requires.lent.chain_long));
+  z_lt_d = (c.requires.lent.zone, c.requires.lent.part_long, c.requires.lent.weights_long);
+  sums_len = (c.requires.lent.sums_long, sums_fit _ w _ c.requires.lent.sums_long);
+}
 
 pub returns-in-Refused : goal.returns-in-Refused
 returns-in-Refused c = λ source carries scratch. resum_stops c.args.r c.args.z c.args.weights.now c.args.chain.now c.args.sums.now c.args.part.now _
@@ -25,9 +25,9 @@ returns-in-Refused c = λ source carries scratch. resum_stops c.args.r c.args.z 
 
 pub commit-figure-requires : goal.commit-figure-requires
 commit-figure-requires c = let w = (shaped _ _ c.requires.bonds_value).sizes in record {
-      sizes_within = (w, omega (arith, sums_fit _ w _ c.requires.lent.sums_long, c.sums_anew-made.auto.held));
-      z_lt_d = (c.requires.lent.zone, c.requires.lent.part_long, c.requires.lent.weights_long, c.requires.lent.sums_long);
-    }
+  sizes_within = (w, omega (arith, sums_fit _ w _ c.requires.lent.sums_long, c.sums_anew-made.auto.held));
+  z_lt_d = (c.requires.lent.zone, c.requires.lent.part_long, c.requires.lent.weights_long, c.requires.lent.sums_long);
+}
 
 pub returns : goal.returns
 returns c = λ source carries scratch. resum_ends c.args.r c.args.z c.args.weights.now c.args.chain.now

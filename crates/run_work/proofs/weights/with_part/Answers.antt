@@ -5,12 +5,12 @@ use Rattle.run_work.proofs.weights.with_part.Goals as goal
 
 pub put_at-requires-2 : goal.put_at-requires-2
 put_at-requires-2 c = omega (
-      arith,
-      part_ends c.args.s c.args.z c.args.part.now c.args.weights.now c.requires.z_lt_d.0 c.requires.z_lt_d.1 c.requires.z_lt_d.2 _
-          c.points_offset-at.ensures,
-      c.requires.z_lt_d.3,
-      c.put_at.auto,
-    )
+  arith,
+  part_ends c.args.s c.args.z c.args.part.now c.args.weights.now c.requires.z_lt_d.0 c.requires.z_lt_d.1 c.requires.z_lt_d.2 _
+      c.points_offset-at.ensures,
+  c.requires.z_lt_d.3,
+  c.put_at.auto,
+)
 
 pub returns : goal.returns
 returns c = front_in c.args.s c.args.z c.args.part.now c.args.weights.now c.requires.z_lt_d.0 c.requires.z_lt_d.1 c.requires.z_lt_d.2 _
