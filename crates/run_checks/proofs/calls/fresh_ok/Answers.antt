@@ -54,10 +54,10 @@ returns-in-Refused-numbers c = numbers_stop (given c.args.s c.args.xs c.args.set
 
 pub reaches_ok-requires : goal.reaches_ok-requires
 reaches_ok-requires c = record {
-      points_within = (fits_shaped _ _ _ c.check-shaped.ensures
-    c.in_default.is).sizes.axes;
-      z_le_d = search rules;
-    }
+  points_within = (fits_shaped _ _ _ c.check-shaped.ensures
+      c.in_default.is).sizes.axes;
+  z_le_d = search rules;
+}
 
 pub returns : goal.returns
 returns c = fresh_fits (given c.args.s c.args.xs c.args.set c.args.source.now c.args.weights.now) (outputs c.args.chain c.args.carries c.args.sums) c.args.scratch _

@@ -8,9 +8,9 @@ use Rattle.run_checks.proofs.numeric.numbers_found.Goals as goal
 
 pub first_bad_number-first-requires : goal.first_bad_number-first-requires
 first_bad_number-first-requires c = record {
-      bonds_value = c.requires.z_lt_d.1;
-      sums_value = c.requires.sums_value;
-    }
+  bonds_value = c.requires.z_lt_d.1;
+  sums_value = c.requires.sums_value;
+}
 
 pub with_part-number-requires : goal.with_part-number-requires
 with_part-number-requires c = c.requires.z_lt_d.0

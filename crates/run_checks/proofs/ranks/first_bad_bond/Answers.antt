@@ -1,7 +1,6 @@
 use borrow.Author.Rules.{rules}
 use Rattle.run_checks.proofs.Guards.{both_found}
 use Rattle.lists.proofs.Demands.{passing}
-use Prim.Native.Nat.{◌-◌}
 use Rattle.run_checks.proofs.ranks.first_bad_bond.Goals as goal
 
 ruleset ways = (rules, passing, both_found)

@@ -1,6 +1,5 @@
 use borrow.Author.Rules.{rules}
 use Rattle.lists.proofs.Demands.{passing}
-use Prim.Native.Nat.{◌-◌}
 use Rattle.run_checks.proofs.rooms.first_too_far.Goals as goal
 
 ruleset ways = (rules, passing)
