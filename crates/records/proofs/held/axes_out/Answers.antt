@@ -1,4 +1,3 @@
-use Prim.Native.Nat.{◌-◌}
 use borrow.Author.Rules.{rules}
 use Rattle.records.proofs.Mapped.{making}
 use Rattle.records.proofs.held.axes_out.Goals as goal
