@@ -3,7 +3,7 @@ use mathlib.Core.Path.{◌≡◌, refl, sym, ap, ◌∙◌}
 use Prim.Native.Nat.{ℕ, ◌+◌, ◌≤◌, ◌<◌}
 use native.Mathlib.Nat.{not-suc-le-zero}
 use native.Mathlib.Omega.{arith}
-use mathlib.Core.Bool.{Bool, true, false, not, ◌&&◌, beq, true≢false}
+use mathlib.Core.Bool.{Bool, true, false, ◌&&◌, beq, true≢false}
 use mathlib.Core.List.{List}
 use lib.Dec.{T, eqb}
 use lib.ListN.{length, get_or}
@@ -11,7 +11,6 @@ use lib.Seq.{ext_get_or}
 use lib.Ieee.{Float, binary64, fits, to_bits, of_bits}
 use lib.Ieee.Bits.{of_bits-to_bits}
 use borrow.Author.Count.{below_more}
-use borrow.Author.Tests.{not-true}
 use Rattle.lists.proofs.Tests.{both, and_yes, eqb_is, eqb_yes, same_test}
 use Rattle.cutform.specs.declared.Bond.{Bond}
 use Rattle.comparing.specs.Same.{Tells}

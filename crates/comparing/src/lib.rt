@@ -1,4 +1,6 @@
 // Two kept runs beside each other, number by number and bit by bit.
+#![tactic(auto)]
+
 ghost use Rattle.std.specs.Prelude.{◌≡◌};
 ghost use Rattle.runform.specs.Slices.{outputs};
 ghost use Rattle.comparing.specs.Same.{Tells, SameRecord, SameKept};

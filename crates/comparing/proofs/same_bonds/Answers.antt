@@ -1,5 +1,4 @@
 use borrow.Author.Rules.{rules}
-use Prim.Native.Nat.{◌-◌}
 use Rattle.cutform.specs.Bonds.{past_bond}
 use Rattle.comparing.proofs.Equal.{refuted, agreed_none, agreed_more, agreed_all, differs_at}
 use Rattle.comparing.proofs.same_bonds.Goals as goal

@@ -1,5 +1,4 @@
 use borrow.Author.Rules.{rules}
-use Prim.Native.Nat.{◌-◌}
 use lib.Ieee.{nan}
 use Rattle.comparing.proofs.Equal.{refuted, agreed_none, agreed_more, agreed_all, differs_at, differs_in_length}
 use Rattle.comparing.proofs.same_numbers.Goals as goal
