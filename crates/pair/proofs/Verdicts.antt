@@ -18,7 +18,7 @@ use Rattle.answers.proofs.Checks.{demand_yes, demand_no, then_stops, then_passes
 use Rattle.lists.proofs.Tests.{eqb_yes, eqb_no, both}
 use Rattle.pairform.specs.declared.Sizes as given
 use Rattle.pairform.specs.Call.{core_of, sizes_ok, pair_sized, pair_lent, pair_finite, pair_ok}
-use Rattle.pair.proofs.Checked.{Sizes, sizes_are, demand_then}
+use Rattle.pair.proofs.Checked.{sizes_are, demand_then}
 
 -- ---- one demand of several: by a test, and by two counts that are equal
 module _ (t : Bool) (q : Refusal) (o : Check) (b : Bool) (e : b ≡ t) where

@@ -1,4 +1,6 @@
 // A pair of neighbouring cores contracted and split again.
+#![tactic(auto)]
+
 pub mod halves;
 pub mod parts;
 pub mod refusals;

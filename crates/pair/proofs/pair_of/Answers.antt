@@ -13,12 +13,12 @@ returns-in-Refused c = rw c.refused_pair.ensures
 
 pub split-requires : goal.split-requires
 split-requires c = (
-    c.requires.0,
-    c.a-1.given ∙ c.requires.3,
-    columns_finite_lem _ _ _ _ _ _ _ c.columns-made.ensures (told_whole _ _ _ _ c.stored_in-told.ensures c.in_default.is),
-    c.requires.4,
-    c.requires.5,
-    )
+  c.requires.0,
+  c.a-1.given ∙ c.requires.3,
+  columns_finite_lem _ _ _ _ _ _ _ c.columns-made.ensures (told_whole _ _ _ _ c.stored_in-told.ensures c.in_default.is),
+  c.requires.4,
+  c.requires.5,
+)
 
 pub returns : goal.returns
 returns c = pair_end _ _ _ _ _ c.columns-made.ensures _ c.stored_in-told.ensures

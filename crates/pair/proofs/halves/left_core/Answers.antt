@@ -1,5 +1,4 @@
 use Rattle.lists.proofs.Turns.{turns}
-use Prim.Native.Nat.{◌-◌}
 use native.Mathlib.Omega.{arith}
 use Rattle.lists.proofs.Strips.{rows_front}
 use Rattle.pair.specs.Rows.{left_rows}

@@ -1,5 +1,4 @@
 use Rattle.lists.proofs.Turns.{turns}
-use Prim.Native.Nat.{◌-◌}
 use native.Mathlib.Numerals.{add-one}
 use Rattle.lists.specs.Strips.{stored_from}
 use Rattle.lists.proofs.Cells.{exacts, exact_row, exact_lt, exact_fits, exact_scaled}

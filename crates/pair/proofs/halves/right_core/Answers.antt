@@ -1,5 +1,4 @@
 use Rattle.lists.proofs.Turns.{turns}
-use Prim.Native.Nat.{◌-◌}
 use native.Mathlib.Omega.{arith}
 use Rattle.lists.proofs.Strips.{rows_front}
 use Rattle.pair.specs.Rows.{right_rows}
@@ -17,12 +16,12 @@ bounds-js-k c = search turns
 
 pub right_row-requires : goal.right_row-requires
 right_row-requires c = (
-    c.requires.0,
-    c.requires.2 _ c.loop-k-test.true,
-    c.loop-k-test.true,
-    omega
-    (arith, c.loop-k.invariant.1, c.requires.3),
-    )
+  c.requires.0,
+  c.requires.2 _ c.loop-k-test.true,
+  c.loop-k-test.true,
+  omega
+      (arith, c.loop-k.invariant.1, c.requires.3),
+)
 
 pub overflow_step-k : goal.overflow_step-k
 overflow_step-k c = search turns

@@ -1,5 +1,4 @@
 use Rattle.lists.proofs.Turns.{turns}
-use Prim.Native.Nat.{◌-◌}
 use native.Mathlib.Omega.{arith}
 use lib.Ieee.{nan}
 use Rattle.numbers.specs.Root.{root_of}
@@ -34,11 +33,11 @@ loop-i-smaller c = search ways
 
 pub loop-i-preserved : goal.loop-i-preserved
 loop-i-preserved c = (
-    search turns,
-    search turns,
-    maps_more root_of c.args.s.now nan c.loop-i.i c.loop-i.s _
-    c.loop-i.invariant.2 (search turns) c.root.ensures,
-    )
+  search turns,
+  search turns,
+  maps_more root_of c.args.s.now nan c.loop-i.i c.loop-i.s _
+      c.loop-i.invariant.2 (search turns) c.root.ensures,
+)
 
 pub shape_of-s : goal.shape_of-s
 shape_of-s c = search ways

@@ -20,12 +20,12 @@ slice_bounds-b-end c = mul-le-mul c.requires.0.columns c.requires.0.rows
 
 pub valued-d-requires : goal.valued-d-requires
 valued-d-requires c = (
-    c.requires.1,
-    c.requires.2,
-    span_length _ _ (mul-le-mul c.requires.0.columns c.requires.0.columns),
-    span_length _ _ c.requires.0.columns,
-    span_length _ _ (mul-le-mul c.requires.0.columns c.requires.0.rows),
-    )
+  c.requires.1,
+  c.requires.2,
+  span_length _ _ (mul-le-mul c.requires.0.columns c.requires.0.columns),
+  span_length _ _ c.requires.0.columns,
+  span_length _ _ (mul-le-mul c.requires.0.columns c.requires.0.rows),
+)
 
 pub returns-in-Refused : goal.returns-in-Refused
 returns-in-Refused c = rw c.refused_pair.ensures (split_stop _ _ _ _ _ _ c.valued-d.ensures _ c.stored_in-told.ensures _ _ c.in-Refused.is)
@@ -38,14 +38,14 @@ slice_bounds-cut-end-2 c = lent_end _ c.valued-d.new.sv _ _ c.sv-2-1.given c.req
 
 pub cut-requires : goal.cut-requires
 cut-requires c = let values = lent_again _ c.valued-d.new.sv _ _ c.sv-2-1.given c.requires.0.columns in (
-      c.requires.0,
-      c.a-1.given ∙ c.requires.1,
-      span_length _ _ (lent_end _ c.valued-d.new.v _ _ c.v-2-1.given (mul-le-mul c.requires.0.columns c.requires.0.columns)),
-      span_length _ _ (lent_end _ c.valued-d.new.sv _ _ c.sv-2-1.given c.requires.0.columns),
-      ap all_finite values ∙ values_finite _ _ _ _ _ c.valued-d.ensures (told_whole _ _ _ _ c.stored_in-told.ensures c.in_default.is),
-      c.requires.3,
-      c.requires.4,
-    )
+  c.requires.0,
+  c.a-1.given ∙ c.requires.1,
+  span_length _ _ (lent_end _ c.valued-d.new.v _ _ c.v-2-1.given (mul-le-mul c.requires.0.columns c.requires.0.columns)),
+  span_length _ _ (lent_end _ c.valued-d.new.sv _ _ c.sv-2-1.given c.requires.0.columns),
+  ap all_finite values ∙ values_finite _ _ _ _ _ c.valued-d.ensures (told_whole _ _ _ _ c.stored_in-told.ensures c.in_default.is),
+  c.requires.3,
+  c.requires.4,
+)
 
 pub returns : goal.returns
 returns c = let basis = lent_again _ c.valued-d.new.v _ _ c.v-2-1.given (mul-le-mul c.requires.0.columns c.requires.0.columns) in

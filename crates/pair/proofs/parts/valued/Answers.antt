@@ -5,10 +5,10 @@ use Rattle.pair.proofs.parts.valued.Goals as goal
 
 pub orthogonalize-w-requires : goal.orthogonalize-w-requires
 orthogonalize-w-requires c = (
-    held_first _ _ _ _ _ c.requires.0 c.requires.1 c.eye.ensures c.square.ensures,
-    c.eye.ensures,
-    c.requires.4,
-    )
+  held_first _ _ _ _ _ c.requires.0 c.requires.1 c.eye.ensures c.square.ensures,
+  c.eye.ensures,
+  c.requires.4,
+)
 
 pub returns-in-Spilt : goal.returns-in-Spilt
 returns-in-Spilt c = rw c.passes_are.ensures

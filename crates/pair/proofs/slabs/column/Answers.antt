@@ -1,5 +1,4 @@
 use Rattle.lists.proofs.Turns.{turns}
-use Prim.Native.Nat.{◌-◌}
 use Rattle.lists.specs.Strips.{stored_from}
 use Rattle.lists.proofs.Cells.{exacts}
 use Rattle.pair.proofs.slabs.column.Goals as goal

@@ -1,5 +1,4 @@
 use Rattle.lists.proofs.Turns.{turns}
-use Prim.Native.Nat.{◌-◌}
 use Rattle.lists.proofs.Cells.{exacts}
 use Rattle.pair.specs.SlabLoops.{slab_at}
 use Rattle.pair.proofs.slabs.number.Goals as goal

@@ -1,5 +1,4 @@
 use Rattle.lists.proofs.Turns.{turns}
-use Prim.Native.Nat.{◌-◌}
 use Rattle.lists.proofs.Strips.{rows_front}
 use Rattle.pair.proofs.slabs.rows_of.Goals as goal
 

@@ -1,5 +1,4 @@
 -- `pair::split::rescaled`: the code is the definition, with what `inverse` gives.
-use Rattle.pairform.specs.Numbers.{inverse}
 use Rattle.pair.proofs.split.rescaled.Goals as goal
 
 pub returns : goal.returns
