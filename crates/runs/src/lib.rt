@@ -1,4 +1,6 @@
 // A kept run: the fresh one, and the replacement of one zone's core, weights or axis record.
+#![tactic(auto)]
+
 ghost use Rattle.std.specs.Prelude.{◌≡◌, ◌<◌};
 ghost use Rattle.shape.specs.Limits.{most_axes};
 ghost use Rattle.runform.specs.Slices.{slices};
