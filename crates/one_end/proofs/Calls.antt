@@ -1,5 +1,5 @@
 -- Each public call by its name: its contract asks for nothing, and any two ends that it allows are equal. `Post` is what Rattle reads off the call's own `ensures`;
--- of the four calls that are proved by hand (a list of records, or a view, is lent) the fact is written out here, and `plain` holds it to the source.
+-- of calls to which a list of records or a view is lent the fact is written out here, and `plain` holds it to the source.
 -- `e.0`, `e.1.0`, `e.1.1.0` are the first, second and third parameter at exit, and so on. Assumes nothing.
 use mathlib.Core.Path.{◌≡◌, refl, ap}
 use mathlib.Core.List.{List, [], ◌∷◌}
