@@ -1,7 +1,7 @@
 #!/usr/bin/env python3
 """Brings the repository's own definitions and lemmas to today's spelling: words in snake case.
 
-usage: python3 tools/respell.py        at the top of the repository, once, after /opt/rattle/port/port.py
+usage: python3 tools/respell.py        at the top of the repository, once, after the toolchain's port.py
 
 A name that specs/ or proofs/ define, or that they bind as a field or a constructor, is turned where it begins with a small letter:
 keptRank to kept_rank, sum-more to sum_more. Types, facts and what begins with a capital stay; so do functions of src/, exported names,

@@ -1,4 +1,4 @@
--- `columns::turn_strips`: the invariant: the first k strips of sixteen rows are turned (runs_more), and after the last all are (runs-done).
+-- `columns::turn_strips`: the invariant: the first k strips of sixteen rows are turned (runs_more), and after the last all are (runs_done).
 use Prim.Native.Nat.{◌-◌}
 use Rattle.columns.proofs.Strips.{RunsTurned}
 use Rattle.columns.proofs.turn_strips.Given as goal

@@ -1,4 +1,4 @@
--- `columns::turn_twos`: the invariant: the first k pairs of rows are turned (runs_more), and after the last all are (runs-done).
+-- `columns::turn_twos`: the invariant: the first k pairs of rows are turned (runs_more), and after the last all are (runs_done).
 use Prim.Native.Nat.{◌-◌}
 use Rattle.columns.proofs.Strips.{RunsTurned}
 use Rattle.columns.proofs.turn_twos.Given as goal

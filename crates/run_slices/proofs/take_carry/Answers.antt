@@ -1,4 +1,4 @@
--- `run_slices::take_carry`: before zone 0 there is nothing to take (none-left), and before any other the carry held there (left_taken).
+-- `run_slices::take_carry`: before zone 0 there is nothing to take (none_left), and before any other the carry held there (left_taken).
 use borrow.Author.Rules.{rules}
 use Rattle.run_slices.proofs.Taken.{taking}
 use Rattle.run_slices.proofs.take_carry.Goals as goal

@@ -1,4 +1,4 @@
--- `run_slices::take_sum`: before zone 0 there is nothing to take (none-left), and before any other the sum held there (left_taken).
+-- `run_slices::take_sum`: before zone 0 there is nothing to take (none_left), and before any other the sum held there (left_taken).
 use borrow.Author.Rules.{rules}
 use Rattle.run_slices.proofs.Taken.{taking}
 use Rattle.run_slices.proofs.take_sum.Goals as goal

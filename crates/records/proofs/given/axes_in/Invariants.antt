@@ -1,4 +1,4 @@
--- `records::given::axes_in`: the invariant: the first k records are made (made-more), and after the last all are (made-all).
+-- `records::given::axes_in`: the invariant: the first k records are made (made_more), and after the last all are (made_all).
 use Prim.Native.Nat.{◌-◌}
 use Rattle.shape.specs.Limits.{most_axes}
 use Rattle.records.specs.Given.{axis_in}

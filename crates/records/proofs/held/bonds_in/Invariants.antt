@@ -1,4 +1,4 @@
--- `records::held::bonds_in`: the invariant: the first k records are made (made-more), and after the last all are (made-all).
+-- `records::held::bonds_in`: the invariant: the first k records are made (made_more), and after the last all are (made_all).
 use Prim.Native.Nat.{◌-◌}
 use Rattle.shape.specs.Limits.{most_axes}
 use Rattle.records.specs.Held.{bond_in}
