@@ -162,7 +162,8 @@ module _ (n : ℕ) (sv : List Float) (long : length sv ≡ n) (fine : all_finite
   pub in_order : InOrder
   in_order = record {
     falls = λ r s l b. fails (lt (at (sorted n sv) r) (at (sorted n sv) s))
-        (λ h. let g = place_rises r s (omega arith) b (larger (index_at n sv s) (index_at n sv r) (sym (ap (λ (x : Float). lt x (at (sorted n sv) s)) (sorted_at r (omega arith)) ∙ ap (lt (at sv (index_at n sv r))) (sorted_at s b)) ∙ h)) in omega arith);
+        (λ h. let g = place_rises r s (omega arith) b
+        (larger (index_at n sv s) (index_at n sv r) (sym (ap (λ (x : Float). lt x (at (sorted n sv) s)) (sorted_at r (omega arith)) ∙ ap (lt (at sv (index_at n sv r))) (sorted_at s b)) ∙ h)) in omega arith);
     ties = λ r s l b h. ties r s l b (sym (ap (λ (x : Float). eq x (at (sorted n sv) s)) (sorted_at r (omega arith)) ∙ ap (eq (at sv (index_at n sv r))) (sorted_at s b)) ∙ h);
     taken = λ r l. sorted_at r l ∙ ap (at sv) (sym (order_at (order n sv) refl r l));
     within = λ r l. order_lt (order n sv) refl r l;
@@ -181,7 +182,8 @@ module _ (n : ℕ) (sv : List Float) (long : length sv ≡ n) (fine : all_finite
           not_back : (r s : ℕ) → r < s → s < n → r < n → index_at n sv s ≤ index_at n sv r → eq (at sv (index_at n sv r)) (at sv (index_at n sv s)) ≡ true → ⊥
           not_back r s l b a g h =
               below_or_not (index_at n sv s) (index_at n sv r)
-              (λ k. let z = place_rises r s a b (earlier (index_at n sv s) (index_at n sv r) (eq_swap (at sv (index_at n sv r)) (at sv (index_at n sv s)) (good (index_at n sv r) (index_lt r a)) (good (index_at n sv s) (index_lt s b)) h) k) in omega arith)
+              (λ k. let z = place_rises r s a b
+              (earlier (index_at n sv s) (index_at n sv r) (eq_swap (at sv (index_at n sv r)) (at sv (index_at n sv s)) (good (index_at n sv r) (index_lt r a)) (good (index_at n sv s) (index_lt s b)) h) k) in omega arith)
               (λ k. let e : index_at n sv r ≡ index_at n sv s = omega arith in let z = sym (rank_index r a) ∙ ap (place_in n sv) e ∙ rank_index s b in omega arith)
 
   -- ---- what is dropped where r of them are kept

@@ -47,13 +47,15 @@ pub nan_pattern : (x : Float) → ne x x ≡ true → 0x7ff8_0000_0000_0000 ≡ 
 unfolding to_bits
 nan_pattern x e = rw (is_nan_lem x e)
 
-pub eight_hex : (n a b c d e f g h : ℕ) → a ≡ hex_digit_ascii (n / 16 / 16 / 16 / 16 / 16 / 16 / 16 % 16) → b ≡ hex_digit_ascii (n / 16 / 16 / 16 / 16 / 16 / 16 % 16) → c ≡ hex_digit_ascii (n / 16 / 16 / 16 / 16 / 16 % 16) → d ≡ hex_digit_ascii (n / 16 / 16 / 16 / 16 % 16)
+pub eight_hex : (n a b c d e f g h : ℕ) → a ≡ hex_digit_ascii (n / 16 / 16 / 16 / 16 / 16 / 16 / 16 % 16) → b ≡ hex_digit_ascii (n / 16 / 16 / 16 / 16 / 16 / 16 % 16)
+    → c ≡ hex_digit_ascii (n / 16 / 16 / 16 / 16 / 16 % 16) → d ≡ hex_digit_ascii (n / 16 / 16 / 16 / 16 % 16)
     → e ≡ hex_digit_ascii (n / 16 / 16 / 16 % 16) → f ≡ hex_digit_ascii (n / 16 / 16 % 16) → g ≡ hex_digit_ascii (n / 16 % 16) → h ≡ hex_digit_ascii (n % 16)
     → a ∷ b ∷ c ∷ d ∷ e ∷ f ∷ g ∷ h ∷ [] ≡ last_digits 16 8 n
 eight_hex n a b c d e f g h pa pb pc pd pe pf pg ph = rw (pa, pb, pc, pd, pe, pf, pg, ph)
 
 -- the digits of a word are those of its halves
 pub sixteen : (x : Float) (n : ℕ) (h l : List ℕ) → n ≡ to_bits binary64 x → h ≡ last_digits 16 8 (n / 4294967296) → l ≡ last_digits 16 8 n
-    → get_or h 0 0 ∷ get_or h 1 0 ∷ get_or h 2 0 ∷ get_or h 3 0 ∷ get_or h 4 0 ∷ get_or h 5 0 ∷ get_or h 6 0 ∷ get_or h 7 0 ∷ get_or l 0 0 ∷ get_or l 1 0 ∷ get_or l 2 0 ∷ get_or l 3 0 ∷ get_or l 4 0 ∷ get_or l 5 0 ∷ get_or l 6 0 ∷ get_or l 7 0 ∷ [] ≡ bits_text x
+    → get_or h 0 0 ∷ get_or h 1 0 ∷ get_or h 2 0 ∷ get_or h 3 0 ∷ get_or h 4 0 ∷ get_or h 5 0 ∷ get_or h 6 0 ∷ get_or h 7 0
+    ∷ get_or l 0 0 ∷ get_or l 1 0 ∷ get_or l 2 0 ∷ get_or l 3 0 ∷ get_or l 4 0 ∷ get_or l 5 0 ∷ get_or l 6 0 ∷ get_or l 7 0 ∷ [] ≡ bits_text x
 unfolding bits_text
 sixteen x n h l g p q = let d : n / 4294967296 ≡ n / 16 / 16 / 16 / 16 / 16 / 16 / 16 / 16 = omega arith in rw (p, q, d) (ap (last_digits 16 16) g)

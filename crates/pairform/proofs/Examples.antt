@@ -72,7 +72,10 @@ cases =
     -- the columns are 1, 2 and 1, 2: turned by half a right angle the first becomes 0, 0, and the second pass is quiet
     ∷ (answer 3 3 (points (one64 ∷ two64 ∷ [])) (ones 2) zero64, 1 ∷ 2 ∷ 0x3ff6_a09e_667f_3bcc ∷ 0x4006_a09e_667f_3bcc ∷ 0 ∷ 0x3fe6_a09e_667f_3bcc ∷ 0x3fe6_a09e_667f_3bcc ∷ 0 ∷ [])
     -- the columns are 1, 0 and 1e-14, 1: just at the tolerance, so they are not turned
-    ∷ (answer 4 4 (core_with 1 2 2 (one64 ∷ zero64 ∷ zero64 ∷ one64 ∷ [])) (core_with 2 2 1 (one64 ∷ tolerance64 ∷ zero64 ∷ one64 ∷ [])) zero64, 2 ∷ 1 ∷ (bits (one64 ∷ tolerance64 ∷ zero64 ∷ one64 ∷ []) ++ bits (one64 ∷ zero64 ∷ zero64 ∷ one64 ∷ [])))
+    ∷ (
+      answer 4 4 (core_with 1 2 2 (one64 ∷ zero64 ∷ zero64 ∷ one64 ∷ [])) (core_with 2 2 1 (one64 ∷ tolerance64 ∷ zero64 ∷ one64 ∷ [])) zero64,
+      2 ∷ 1 ∷ (bits (one64 ∷ tolerance64 ∷ zero64 ∷ one64 ∷ []) ++ bits (one64 ∷ zero64 ∷ zero64 ∷ one64 ∷ [])),
+    )
     -- columns so small that bp*bq is zero are not turned either: the kept rank is their number, above the rows, and 9 is refused
     ∷ (answer 0 0 (points (small false 300 ∷ [])) (ones 8) zero64, 8 ∷ 1 ∷ [])
     ∷ (answer 0 0 (points (small false 300 ∷ [])) (ones 9) zero64, 10 ∷ 0 ∷ 0 ∷ [])

@@ -134,7 +134,8 @@ cases =
     ∷ case (shown wide Fits) (widely (number 20 0) (number 28 0) (number 3 0) (number 9 0) (number 173 0))
     ∷ case (moved (axis_of zero64 one64)) (widely (number 24 0) (number 24 0) (number 6 0) (number 6 0) (number 162 0))
     -- where its axis reflects, they become 1.5, 2.5 and 5.5, 6.5
-    ∷ case (moved (edged_of reflecting one64)) (widely (number 22 0) (number 26 0) (fin false 9 (negsuc 0)) (fin false 15 (negsuc 0)) (fin false 335 (negsuc 0)))
+    ∷ case (moved (edged_of reflecting one64)) (widely (number 22 0) (number 26 0) (fin false 9 (negsuc 0))
+    (fin false 15 (negsuc 0)) (fin false 335 (negsuc 0)))
     -- each refusal
     ∷ case (told (freshly (shape_of 0 1))) (1 ∷ 0 ∷ 0 ∷ [])
     ∷ case (told (freshly (shape_of 2 65))) (2 ∷ 1 ∷ 0 ∷ [])

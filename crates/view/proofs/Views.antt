@@ -133,4 +133,5 @@ module _ (chain : Bor (List Float)) (s : Shape) (k : ℕ) (ok : chain_ok s ≡ d
   view_outside il im ir h =
       let o = offset (core_size s) k in
       at_spot il im ir
-      ∙ sym (⊎_elim (outside_left l o (left_of s k) (points_of s k) (right_of s k) il im ir) (⊎_elim (outside_points l o (left_of s k) (points_of s k) (right_of s k) il im ir) (outside_right l o (left_of s k) (points_of s k) (right_of s k) il im ir)) h)
+      ∙ sym (⊎_elim (outside_left l o (left_of s k) (points_of s k) (right_of s k) il im ir)
+      (⊎_elim (outside_points l o (left_of s k) (points_of s k) (right_of s k) il im ir) (outside_right l o (left_of s k) (points_of s k) (right_of s k) il im ir)) h)

@@ -38,7 +38,8 @@ bounds-bonds-k-in-loop-k c = omega (arith, c.requires.sizes_within.axes.most, c.
 
 pub loop-k-preserved : goal.loop-k-preserved
 loop-k-preserved c = let zone = c.zone_cut-cut.ensures (record { bonds = _; left = c.loop-k.invariant.4 c.loop-k-test.true; zone = at_any _ _ _ _ _ c.loop-k.invariant.5 }) in
-    let turn = zone_turned_lem _ _ _ _ _ _ _ _ _ zone c.loop-k-test.true (omega (arith, c.loop-k.invariant.5.bonds, c.requires.sizes_within.axes.most, c.loop-k-test.true)) _ (c.loop-k.invariant.4 c.loop-k-test.true) _ c.with_core-shape.ensures _ c.placed.ensures in (
+    let turn = zone_turned_lem _ _ _ _ _ _ _ _ _ zone c.loop-k-test.true (omega (arith, c.loop-k.invariant.5.bonds, c.requires.sizes_within.axes.most, c.loop-k-test.true)) _
+    (c.loop-k.invariant.4 c.loop-k-test.true) _ c.with_core-shape.ensures _ c.placed.ensures in (
       c.zone_cut-cut.auto.work ∙ c.loop-k.invariant.0,
       c.zone_cut-cut.auto.carries ∙ c.loop-k.invariant.1,
       c.zone_cut-cut.auto.room ∙ c.loop-k.invariant.2,

@@ -10,7 +10,14 @@ use Rattle.cuts.proofs.zone_cut.Goals as goal
 pub offset_bounds-work-at : goal.offset_bounds-work-at
 offset_bounds-work-at c = let h = held c.requires.k_lt_d.2.bonds c.args.work.now c.args.carries.now in
     let small : length c.args.work.now * 8 < 2 ^ 63 = search rules in
-    record { fits = omega (arith, start_fits c.args.s 1 c.args.k _ h c.requires.sizes_within c.requires.k_lt_d.2.zone c.requires.k_lt_d.0 _ c.places_of-p.ensures, end_fits c.args.s 1 c.args.k _ h c.requires.sizes_within c.requires.k_lt_d.2.zone c.requires.k_lt_d.0 _ c.places_of-p.ensures, small) }
+    record {
+      fits = omega (
+        arith,
+        start_fits c.args.s 1 c.args.k _ h c.requires.sizes_within c.requires.k_lt_d.2.zone c.requires.k_lt_d.0 _ c.places_of-p.ensures,
+        end_fits c.args.s 1 c.args.k _ h c.requires.sizes_within c.requires.k_lt_d.2.zone c.requires.k_lt_d.0 _ c.places_of-p.ensures,
+        small,
+      );
+    }
 
 pub slice_bounds-round_core-count : goal.slice_bounds-round_core-count
 slice_bounds-round_core-count c = start_fits c.args.s 1 c.args.k _ (held c.requires.k_lt_d.2.bonds c.args.work.now c.args.carries.now) c.requires.sizes_within c.requires.k_lt_d.2.zone c.requires.k_lt_d.0 _ c.places_of-p.ensures

@@ -21,7 +21,16 @@ pub loop-q-smaller : goal.loop-q-smaller
 loop-q-smaller c = search turns
 
 pub loop-q-preserved : goal.loop-q-preserved
-loop-q-preserved c = (search turns, search turns, search turns, search turns, search turns, c.both-k.ensures.paced.0, c.both-k.ensures.paced.1, λ x e. step_more _ _ _ _ x _ _ c.loop-q.invariant.1 c.loop-q-test.true (c.loop-q.invariant.7 x e) c.both-k.ensures.quiet_after)
+loop-q-preserved c = (
+  search turns,
+  search turns,
+  search turns,
+  search turns,
+  search turns,
+  c.both-k.ensures.paced.0,
+  c.both-k.ensures.paced.1,
+  λ x e. step_more _ _ _ _ x _ _ c.loop-q.invariant.1 c.loop-q-test.true (c.loop-q.invariant.7 x e) c.both-k.ensures.quiet_after,
+)
 
 pub shape_of-a : goal.shape_of-a
 shape_of-a c = search turns

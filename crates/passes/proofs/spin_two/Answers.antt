@@ -8,7 +8,8 @@ pub returns : goal.returns
 returns c = record {
   a_after = c.spin-beta.ensures.0 ∙ ap (by_plan _ _ _ _ _) c.spin-alpha.ensures.0;
   paced = (
-    next_paced _ _ _ _ _ _ _ _ _ _ _ c.requires.1 c.requires.2 c.following-w.ensures.0 c.following-w.ensures.1 c.following-w.ensures.2 c.requires.0 c.spin-alpha.ensures.0 c.spin-beta.ensures.0 _ _ _ c.spin-beta.ensures.1 c.spin-alpha.ensures.2 c.spin-beta.ensures.2 c.next_pace.ensures.planned c.next_pace.ensures.planned_2.0,
+    next_paced _ _ _ _ _ _ _ _ _ _ _ c.requires.1 c.requires.2 c.following-w.ensures.0 c.following-w.ensures.1 c.following-w.ensures.2 c.requires.0
+        c.spin-alpha.ensures.0 c.spin-beta.ensures.0 _ _ _ c.spin-beta.ensures.1 c.spin-alpha.ensures.2 c.spin-beta.ensures.2 c.next_pace.ensures.planned c.next_pace.ensures.planned_2.0,
     c.next_pace.ensures.planned_2.1,
   );
 }

@@ -37,7 +37,8 @@ pub bounds-s-k-in-loop-k : goal.bounds-s-k-in-loop-k
 bounds-s-k-in-loop-k c = let h = shaped c.args.s _ c.requires.s_value in search (rules, offsets, slotwise)
 
 pub overflow_add-last : goal.overflow_add-last
-overflow_add-last c = let e = points_end c.args.s c.args.chain.now c.args.weights.now c.requires.s_value c.requires.s_in_bounds.0 c.requires.s_in_bounds.1 c.loop-k.eta c.loop-k.rank c.loop-k.at c.loop-k.points c.loop-k.k c.loop-k.invariant c.loop-k-test.true _ refl in
+overflow_add-last c = let e = points_end c.args.s c.args.chain.now c.args.weights.now c.requires.s_value c.requires.s_in_bounds.0 c.requires.s_in_bounds.1
+    c.loop-k.eta c.loop-k.rank c.loop-k.at c.loop-k.points c.loop-k.k c.loop-k.invariant c.loop-k-test.true _ refl in
     let h : (length c.args.weights.now) * 8 < 2 ^ 63 = search rules in
     record { fits = omega (arith, e, h) }
 

@@ -9,7 +9,8 @@ use Rattle.passes.proofs.careful.pass.Given as goal
 
 abbrev pub invariant-loop-p : goal.invariant-loop-p
 invariant-loop-p l =
-    (l.p ≤ l.n) × (length l.a ≡ length l.initial.a) × (length l.v ≡ length l.initial.v) × (length l.ss ≡ length l.initial.ss) × Held l.m l.n l.a l.v l.ss × (pass l.m l.n (svd l.initial.a l.initial.v) ≡ turning (l.n - l.p) l.p (pass_row l.m l.n) (passed (svd l.a l.v) l.quiet))
+    (l.p ≤ l.n) × (length l.a ≡ length l.initial.a) × (length l.v ≡ length l.initial.v) × (length l.ss ≡ length l.initial.ss) × Held l.m l.n l.a l.v l.ss
+    × (pass l.m l.n (svd l.initial.a l.initial.v) ≡ turning (l.n - l.p) l.p (pass_row l.m l.n) (passed (svd l.a l.v) l.quiet))
 
 abbrev pub decreases-loop-p : goal.decreases-loop-p
 decreases-loop-p l = l.n - l.p
