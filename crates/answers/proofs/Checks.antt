@@ -6,31 +6,30 @@ use native.Mathlib.Omega.{arith}
 use mathlib.Core.Bool.{Bool, true, false}
 use mathlib.Core.Logic.{⊎_elim}
 use Rattle.answers.specs.declared.Refusal.{Refusal}
-use Rattle.answers.specs.declared.Verdict.{Verdict}
-use Rattle.answers.specs.declared.Verdict.TheVariants.{Fits, Refused}
-use Rattle.answers.specs.Outcome.{done, refused, Answer, Check, ◌then◌, demand, demand_each, verdict_of}
-use Rattle.answers.proofs.Outcomes.{done_refused}
+use Rattle.std.specs.Prelude.{Ok, Err}
+use Rattle.answers.specs.Outcome.{Answer, Check, ◌then◌, demand, demand_each}
+use Rattle.answers.proofs.Outcomes.{ok_err}
 
-pub demand_yes : (b : Bool) (r : Refusal) → b ≡ true → demand b r ≡ done tt
+pub demand_yes : (b : Bool) (r : Refusal) → b ≡ true → demand b r ≡ Ok tt
 unfolding demand
 demand_yes b r e = ap (λ (x : Bool). demand x r) e
 
-pub demand_no : (b : Bool) (r : Refusal) → b ≡ false → demand b r ≡ refused r
+pub demand_no : (b : Bool) (r : Refusal) → b ≡ false → demand b r ≡ Err r
 unfolding demand
 demand_no b r e = ap (λ (x : Bool). demand x r) e
 
-pub demand_is : (b : Bool) (r : Refusal) → demand b r ≡ done tt → b ≡ true
+pub demand_is : (b : Bool) (r : Refusal) → demand b r ≡ Ok tt → b ≡ true
 unfolding demand
 demand_is true r h = refl
-demand_is false r h = absurd (done_refused (sym h))
+demand_is false r h = absurd (ok_err (sym h))
 
 -- ---- one check after another
-pub then_is : {A : Type 0} (c : Check) (o : Answer A) (a : A) → c then o ≡ done a → (c ≡ done tt) × (o ≡ done a)
-then_is (done tt) o a h = (refl, h)
-then_is (refused r) o a h = absurd (done_refused (sym h))
+pub then_is : {A : Type 0} (c : Check) (o : Answer A) (a : A) → c then o ≡ Ok a → (c ≡ Ok tt) × (o ≡ Ok a)
+then_is (Ok _) o a h = (refl, h)
+then_is (Err r) o a h = absurd (ok_err (sym h))
 
 -- a check that passes is passed over
-pub then_skip : {A : Type 0} (c : Check) (o p : Answer A) → c ≡ done tt → o ≡ p → c then o ≡ p
+pub then_skip : {A : Type 0} (c : Check) (o p : Answer A) → c ≡ Ok tt → o ≡ p → c then o ≡ p
 then_skip c o p e h = ap (λ (x : Check). x then o) e ∙ h
 
 pub then_on : {A : Type 0} (c d : Check) (o p : Answer A) → c ≡ d → o ≡ p → c then o ≡ d then p
@@ -46,13 +45,13 @@ module _ (r : ℕ → Refusal) where
       (ap (λ (b : Bool). demand b (r k)) (h k (le_refl k) (omega arith)))
       (each_same p q m (suc k) (λ j a b. h j (omega arith) (omega arith)))
 
-  pub each_yes : (p : ℕ → Bool) (m k : ℕ) → ((j : ℕ) → k ≤ j → j < k + m → p j ≡ true) → demand_each r p m k ≡ done tt
+  pub each_yes : (p : ℕ → Bool) (m k : ℕ) → ((j : ℕ) → k ≤ j → j < k + m → p j ≡ true) → demand_each r p m k ≡ Ok tt
   unfolding demand_each
   each_yes p zero k h = refl
   each_yes p (suc m) k h =
-      then_skip (demand (p k) (r k)) (demand_each r p m (suc k)) (done tt) (demand_yes (p k) (r k) (h k (le_refl k) (omega arith))) (each_yes p m (suc k) (λ j a b. h j (omega arith) (omega arith)))
+      then_skip (demand (p k) (r k)) (demand_each r p m (suc k)) (Ok tt) (demand_yes (p k) (r k) (h k (le_refl k) (omega arith))) (each_yes p m (suc k) (λ j a b. h j (omega arith) (omega arith)))
 
-  pub each_is : (p : ℕ → Bool) (m k : ℕ) → demand_each r p m k ≡ done tt → (j : ℕ) → k ≤ j → j < k + m → p j ≡ true
+  pub each_is : (p : ℕ → Bool) (m k : ℕ) → demand_each r p m k ≡ Ok tt → (j : ℕ) → k ≤ j → j < k + m → p j ≡ true
   unfolding demand_each
   each_is p zero k e j a b = let z : ⊥ = omega arith in absurd z
   each_is p (suc m) k e j a b =
@@ -68,26 +67,16 @@ module _ (r : ℕ → Refusal) where
       ∙ then_skip (demand (p k) (r k)) (demand_each r p (z + m) (suc k)) (demand_each r p m (suc k + z)) (demand_yes (p k) (r k) (h k (le_refl k) (omega arith))) (each_from p z m (suc k) (λ j a b. h j (omega arith) (omega arith)))
       ∙ ap (λ (j : ℕ). demand_each r p m j) (suc-add k z ∙ sym (add-suc k z))
 
--- ---- the verdict of checks in a row, by what code found: one law for a return, one to go on
-module _ {A : Type 0} (c : Check) (o : Answer A) (v : Verdict) (e : v ≡ verdict_of c) where
-  pub then_stops : (r : Refusal) → v ≡ Refused r → Refused r ≡ verdict_of (c then o)
-  then_stops r h = go c (sym h ∙ e)
-    where
-      go : (c : Check) → Refused r ≡ verdict_of c → Refused r ≡ verdict_of (c then o)
-      go (done tt) q = let z : ◌≡◌ {A = ℕ} 0 1 = cc in let n : ⊥ = omega arith in absurd n
-      go (refused x) q = q
+-- ---- checks in a row, by what code found: one law for a return, one to go on
+module _ {A : Type 0} (c : Check) (o : Answer A) (v : Check) (e : v ≡ c) where
+  pub then_stops : (r : Refusal) → v ≡ Err r → Err r ≡ (c then o)
+  then_stops r h = sym (ap (λ (x : Check). x then o) (sym e ∙ h))
 
-  pub then_passes : (w : Verdict) → v ≡ Fits → w ≡ verdict_of o → w ≡ verdict_of (c then o)
-  then_passes w h g = go c (sym h ∙ e)
-    where
-      go : (c : Check) → Fits ≡ verdict_of c → w ≡ verdict_of (c then o)
-      go (done tt) q = g
-      go (refused x) q = let z : ◌≡◌ {A = ℕ} 0 1 = cc in let n : ⊥ = omega arith in absurd n
+  pub then_passes : (w : Answer A) → v ≡ Ok tt → w ≡ o → w ≡ (c then o)
+  then_passes w h g = g ∙ sym (ap (λ (x : Check). x then o) (sym e ∙ h))
 
-pub verdict_passed : (c : Check) (v : Verdict) → v ≡ verdict_of c → v ≡ Fits → c ≡ done tt
-verdict_passed (done tt) v e h = refl
-verdict_passed (refused r) v e h = let z : ◌≡◌ {A = ℕ} 0 1 = cc in let n : ⊥ = omega arith in absurd n
+pub verdict_passed : (c : Check) (v : Check) → v ≡ c → v ≡ Ok tt → c ≡ Ok tt
+verdict_passed c v e h = sym e ∙ h
 
-pub verdict_refused : (c : Check) (v : Verdict) (r : Refusal) → v ≡ verdict_of c → v ≡ Refused r → c ≡ refused r
-verdict_refused (done tt) v r e h = let z : ◌≡◌ {A = ℕ} 0 1 = cc in let n : ⊥ = omega arith in absurd n
-verdict_refused (refused x) v r e h = let q : x ≡ r = cc in ap refused q
+pub verdict_refused : (c : Check) (v : Check) (r : Refusal) → v ≡ c → v ≡ Err r → c ≡ Err r
+verdict_refused c v r e h = sym e ∙ h

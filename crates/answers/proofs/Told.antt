@@ -7,8 +7,8 @@ use lib.ListN.{get_or, length}
 use Rattle.answers.specs.declared.Part.TheVariants.{Entry, Spectrum, Factor, Sum}
 use Rattle.answers.specs.declared.Refusal.{Refusal}
 use Rattle.answers.specs.declared.Refusal.TheVariants.{Axes, Size, Ranks, Zone, Length, Number, Setting, Reach, Stored, PairRank, File}
-use Rattle.answers.specs.declared.Verdict.{Verdict}
-use Rattle.answers.specs.declared.Verdict.TheVariants.{Fits, Refused}
+use Rattle.std.specs.Prelude.{Ok, Err}
+use Rattle.answers.specs.Outcome.{Check}
 use Rattle.answers.specs.Table.{number_of, place_of, index_of, told_of}
 
 -- the refusals by their numbers, from 1 on, with place p and index i
@@ -36,10 +36,10 @@ told_back (Stored Sum k i) = refl
 told_back PairRank = refl
 told_back (File b) = refl
 
-pub told_once : (v w : Verdict) → told_of v ≡ told_of w → v ≡ w
-told_once Fits Fits e = refl
-told_once Fits (Refused r) e = let n : ◌≡◌ {A = ℕ} 0 3 = ap length e in let z : ⊥ = omega arith in absurd z
-told_once (Refused q) Fits e = let n : ◌≡◌ {A = ℕ} 3 0 = ap length e in let z : ⊥ = omega arith in absurd z
-told_once (Refused q) (Refused r) e =
+pub told_once : (v w : Check) → told_of v ≡ told_of w → v ≡ w
+told_once (Ok _) (Ok _) e = refl
+told_once (Ok _) (Err r) e = let n : ◌≡◌ {A = ℕ} 0 3 = ap length e in let z : ⊥ = omega arith in absurd z
+told_once (Err q) (Ok _) e = let n : ◌≡◌ {A = ℕ} 3 0 = ap length e in let z : ⊥ = omega arith in absurd z
+told_once (Err q) (Err r) e =
     let back : List ℕ → Refusal = λ (l : List ℕ). behind (get_or l 0 0) (get_or l 1 0) (get_or l 2 0) in
-    ap Refused (sym (told_back q) ∙ ap back e ∙ told_back r)
+    ap Err (sym (told_back q) ∙ ap back e ∙ told_back r)

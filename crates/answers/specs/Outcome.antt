@@ -1,36 +1,27 @@
 -- An answer or a refusal. Definitions only.
-use Rattle.std.specs.Prelude.{ℕ, zero, suc, Bool, true, false}
+use Rattle.std.specs.Prelude.{ℕ, zero, suc, Bool, true, false, Result, Ok, Err}
 use Rattle.answers.specs.declared.Part.{Part}
 use Rattle.answers.specs.declared.Refusal.{Refusal}
 use Rattle.answers.specs.declared.Refusal.TheVariants.{Stored}
-use Rattle.answers.specs.declared.Verdict.{Verdict}
-use Rattle.answers.specs.declared.Verdict.TheVariants.{Fits, Refused}
-use Rattle.answers.specs.declared.Stage.{Stage}
-use Rattle.answers.specs.declared.Stage.TheVariants.{Whole, Spilt}
-
--- an answer, or why there is none
-pub data Outcome (E A : Type 0) : Type 0 where
-  done : A → Outcome E A
-  refused : E → Outcome E A
 
 -- go on with the answer; a refusal stays
 module _ {E A B : Type 0} where
-  abbrev pub bind : Outcome E A → (A → Outcome E B) → Outcome E B
-  bind (done a) k = k a
-  bind (refused e) k = refused e
+  abbrev pub bind : Result A E → (A → Result B E) → Result B E
+  bind (Ok a) k = k a
+  bind (Err e) k = Err e
 
--- what a call answers
+-- what a call answers: what it makes, or why it makes nothing
 abbrev pub Answer : Type 0 → Type 0
-Answer A = Outcome Refusal A
+Answer A = Result A Refusal
 
 -- what a stage of the work answers: what it made, or the index of the first number that isn't finite
 abbrev pub Made : Type 0 → Type 0
-Made A = Outcome ℕ A
+Made A = Result A ℕ
 
 -- a stage that makes this part for core k
 abbrev pub making : {A : Type 0} → Part → ℕ → Made A → Answer A
-making part k (done a) = done a
-making part k (refused i) = refused (Stored part k i)
+making part k (Ok a) = Ok a
+making part k (Err i) = Err (Stored part k i)
 
 -- ---- checks: nothing to answer but that they pass
 abbrev pub Check : Type 0
@@ -42,38 +33,43 @@ abbrev pub ◌then◌ : {A : Type 0} → Check → Answer A → Answer A
 
 -- the refusal r, unless b holds
 unfoldable pub demand : Bool → Refusal → Check
-demand true r = done tt
-demand false r = refused r
+demand true r = Ok tt
+demand false r = Err r
 
 -- the refusal r k at the first of the m places from k on where p fails
 unfoldable pub demand_each : (ℕ → Refusal) → (ℕ → Bool) → ℕ → ℕ → Check
-demand_each r p zero k = done tt
+demand_each r p zero k = Ok tt
 demand_each r p (suc m) k = demand (p k) (r k) then demand_each r p m (suc k)
 
--- ---- an outcome as code answers it
-abbrev pub verdict_of : {A : Type 0} → Answer A → Verdict
-verdict_of (done a) = Fits
-verdict_of (refused r) = Refused r
+-- ---- an outcome as code answers it, which lends what it makes
+-- what a stage of the work answers of the numbers it made: all are finite, or the index of the first that isn't
+abbrev pub Stage : Type 0
+Stage = Made (Unit {0})
+
+-- the refusal alone
+abbrev pub verdict_of : {A : Type 0} → Answer A → Check
+verdict_of (Ok a) = Ok tt
+verdict_of (Err r) = Err r
 
 -- the code's verdict v, with a what it holds at the end
-unfoldable pub answered : {A : Type 0} → Verdict → A → Answer A
-answered Fits a = done a
-answered (Refused r) a = refused r
+unfoldable pub answered : {A : Type 0} → Check → A → Answer A
+answered (Ok _) a = Ok a
+answered (Err r) a = Err r
 
 abbrev pub stage_of : {A : Type 0} → Made A → Stage
-stage_of (done a) = Whole
-stage_of (refused i) = Spilt i
+stage_of (Ok a) = Ok tt
+stage_of (Err i) = Err i
 
 -- a stage's answer s, with a what it made
 unfoldable pub staged : {A : Type 0} → Stage → A → Made A
-staged Whole a = done a
-staged (Spilt i) a = refused i
+staged (Ok _) a = Ok a
+staged (Err i) a = Err i
 
 -- the call's verdict on a stage that made this part for core k
-abbrev pub stored_in : Part → ℕ → Stage → Verdict
+abbrev pub stored_in : Part → ℕ → Stage → Check
 stored_in part k s = verdict_of (making part k (staged s (tt {0})))
 
 -- what an outcome holds, or z
-abbrev pub held_or : {E A : Type 0} → A → Outcome E A → A
-held_or z (done a) = a
-held_or z (refused e) = z
+abbrev pub held_or : {E A : Type 0} → A → Result A E → A
+held_or z (Ok a) = a
+held_or z (Err e) = z

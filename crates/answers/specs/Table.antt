@@ -1,12 +1,10 @@
 -- The scope's table of refusals: the number, the place and the index of each. Definitions only.
-use Rattle.std.specs.Prelude.{◌≡◌, ℕ, Bool, true, false, List, [], ◌∷◌}
+use Rattle.std.specs.Prelude.{◌≡◌, ℕ, Bool, true, false, List, [], ◌∷◌, Ok, Err}
 use Rattle.answers.specs.declared.Part.{Part}
 use Rattle.answers.specs.declared.Part.TheVariants.{Entry, Spectrum, Factor, Sum}
 use Rattle.answers.specs.declared.Refusal.{Refusal}
 use Rattle.answers.specs.declared.Refusal.TheVariants.{Axes, Size, Ranks, Zone, Length, Number, Setting, Reach, Stored, PairRank, File}
-use Rattle.answers.specs.declared.Verdict.{Verdict}
-use Rattle.answers.specs.declared.Verdict.TheVariants.{Fits, Refused}
-use Rattle.answers.specs.Outcome.{Answer, refused}
+use Rattle.answers.specs.Outcome.{Answer, Check}
 
 -- where a number to be stored isn't finite, what was being made decides
 abbrev pub part_number : Part → ℕ
@@ -56,9 +54,9 @@ index_of PairRank = 0
 index_of (File b) = 0
 
 -- what is told of a verdict: nothing, or number, place and index
-abbrev pub told_of : Verdict → List ℕ
-told_of Fits = []
-told_of (Refused r) = number_of r ∷ place_of r ∷ index_of r ∷ []
+abbrev pub told_of : Check → List ℕ
+told_of (Ok _) = []
+told_of (Err r) = number_of r ∷ place_of r ∷ index_of r ∷ []
 
 -- one that a check gives before any work: it leaves scratch unwritten
 abbrev pub before_work : Refusal → Bool
@@ -76,4 +74,4 @@ before_work (File b) = true
 
 -- refused by the work alone, never by a check before it
 abbrev pub Late : {A : Type 0} → Answer A → Type 0
-Late o = (q : Refusal) → o ≡ refused q → before_work q ≡ false
+Late o = (q : Refusal) → o ≡ Err q → before_work q ≡ false

@@ -46,19 +46,6 @@ pub enum Refusal {
     File(usize),
 }
 
-#[derive(Clone, Copy)]
-pub enum Verdict {
-    Fits,
-    Refused(Refusal),
-}
-
-// What a stage of the work answers of the numbers it made: all are finite, or the index of the first that isn't.
-#[derive(Clone, Copy)]
-pub enum Stage {
-    Whole,
-    Spilt(usize),
-}
-
 // The number that the scope's table has for a part.
 fn part_number(part: Part) -> u8
     ensures { result ≡ part_number part }
@@ -154,12 +141,9 @@ pub fn stored_at(part: Part, core: usize, index: usize) -> Refusal
     Refusal::Stored(part, core, index)
 }
 
-// What a call answers of a stage that makes this part for this core.
-pub fn stored_in(stage: Stage, part: Part, core: usize) -> Verdict
+// What a call answers of a stage that makes this part for this core: all its numbers are finite, or the index of the first that isn't.
+pub fn stored_in(stage: Result<(), usize>, part: Part, core: usize) -> Result<(), Refusal>
     ensures { result ≡ stored_in part core stage }
 {
-    match stage {
-        Stage::Whole => Verdict::Fits,
-        Stage::Spilt(i) => Verdict::Refused(stored_at(part, core, i)),
-    }
+    stage.map_err(|i| stored_at(part, core, i))
 }

@@ -8,10 +8,9 @@ use mathlib.Core.List.{List, ◌++◌}
 use lib.ListN.{length, get_or, take, get_or-eq_default}
 use lib.Ieee.{Float, nan}
 use Rattle.numbers.specs.Arithmetic.{zero64}
-use Rattle.answers.specs.declared.Stage.{Stage}
-use Rattle.answers.specs.declared.Stage.TheVariants.{Whole, Spilt}
-use Rattle.answers.specs.Outcome.{Made, done, bind, staged, stage_of}
-use Rattle.answers.proofs.Outcomes.{bind_done, done_inj}
+use Rattle.std.specs.Prelude.{Ok, Err}
+use Rattle.answers.specs.Outcome.{Made, bind, staged, stage_of, Stage}
+use Rattle.answers.proofs.Outcomes.{bind_ok, ok_inj}
 use Rattle.lists.specs.Floats.{all_finite, stored}
 use Rattle.lists.proofs.Floats.{stored_is}
 use Rattle.lists.proofs.Parts.{part_again}
@@ -24,17 +23,17 @@ use Rattle.cutform.proofs.Ranked.{order_lt, rank_most}
 -- ---- the stage, from its parts
 module _ (eps : Float) (n : ℕ) (g sv : List Float) (r : Stage) (es : sv ≡ singulars n g) (er : r ≡ stage_of (stored sv)) where
   abbrev rest : List Float → Made Chosen
-  rest x = let ss = sorted n x in let r = kept_rank eps n ss in done (record { rank = r; dropped = dropped_from r ss; order = order n x; values = ss })
+  rest x = let ss = sorted n x in let r = kept_rank eps n ss in Ok (record { rank = r; dropped = dropped_from r ss; order = order n x; values = ss })
 
   opened : chosen_of eps n g ≡ bind (staged r sv) rest
   unfolding chosen_of
   opened = ap (λ (o : Made (List Float)). bind o rest) (ap stored (sym es) ∙ stored_staged sv r er)
 
-  pub chosen_stop : (i : ℕ) (q : Chosen) → r ≡ Spilt i → chosen_of eps n g ≡ staged (Spilt i) q
+  pub chosen_stop : (i : ℕ) (q : Chosen) → r ≡ Err i → chosen_of eps n g ≡ staged (Err i) q
   chosen_stop i q h = opened ∙ staged_stop r sv rest i q h
 
-  pub chosen_end : r ≡ Whole → (js : List ℕ) (ss : List Float) (k : ℕ) (x : Float) → js ≡ order n sv → ss ≡ sorted n sv → k ≡ kept_rank eps n ss → x ≡ dropped_from k ss
-      → chosen_of eps n g ≡ staged Whole (record { rank = k; dropped = x; order = js; values = ss })
+  pub chosen_end : r ≡ Ok tt → (js : List ℕ) (ss : List Float) (k : ℕ) (x : Float) → js ≡ order n sv → ss ≡ sorted n sv → k ≡ kept_rank eps n ss → x ≡ dropped_from k ss
+      → chosen_of eps n g ≡ staged (Ok tt) (record { rank = k; dropped = x; order = js; values = ss })
   unfolding staged
   chosen_end h js ss k x ej es ek ex = opened ∙ staged_on r sv rest h ∙ rw (ej, ex, ek, es)
 
@@ -48,27 +47,27 @@ unfolding dropped_from
 dropped_past ss r l = sym (get_or-eq_default ss zero64 l)
 
 -- values that were stored are finite
-pub stored_finite : (l : List Float) (r : Stage) → r ≡ stage_of (stored l) → r ≡ Whole → all_finite l ≡ true
+pub stored_finite : (l : List Float) (r : Stage) → r ≡ stage_of (stored l) → r ≡ Ok tt → all_finite l ≡ true
 unfolding staged
 stored_finite l r e h = (stored_is l l (stored_staged l r e ∙ rw h)).1
 
 -- ---- what may be asked of it
-module _ (eps : Float) (n : ℕ) (g : List Float) (s : Stage) (q : Chosen) (e : chosen_of eps n g ≡ staged s q) (h : s ≡ Whole) (l : 1 ≤ n) where
+module _ (eps : Float) (n : ℕ) (g : List Float) (s : Stage) (q : Chosen) (e : chosen_of eps n g ≡ staged s q) (h : s ≡ Ok tt) (l : 1 ≤ n) where
   pub chosen_most : q.rank ≤ n
   unfolding staged chosen_of
   chosen_most =
-      let A = bind_done (stored (singulars n g)) _ q (e ∙ rw h) in
-      let z : kept_rank eps n (sorted n A.0) ≡ q.rank = ap (λ (x : Chosen). x.rank) (done_inj A.2) in
+      let A = bind_ok (stored (singulars n g)) _ q (e ∙ rw h) in
+      let z : kept_rank eps n (sorted n A.0) ≡ q.rank = ap (λ (x : Chosen). x.rank) (ok_inj A.2) in
       let m = rank_most eps n (sorted n A.0) l in
       omega arith
 
   pub chosen_columns : (j : ℕ) → j < q.rank → get_or q.order j 0 < n
   unfolding staged chosen_of singulars
   chosen_columns j a =
-      let A = bind_done (stored (singulars n g)) _ q (e ∙ rw h) in
+      let A = bind_ok (stored (singulars n g)) _ q (e ∙ rw h) in
       let S = stored_is (singulars n g) A.0 A.1 in
       let m = chosen_most in
-      order_lt n A.0 (ap length (sym S.0) ∙ length_tab n _) S.1 q.order (sym (ap (λ (x : Chosen). x.order) (done_inj A.2))) j (omega arith)
+      order_lt n A.0 (ap length (sym S.0) ∙ length_tab n _) S.1 q.order (sym (ap (λ (x : Chosen). x.order) (ok_inj A.2))) j (omega arith)
 
 -- the matrix, the order and the values stand at the front of slices of which parts were lent
 pub chosen_front : (eps : Float) (n m : ℕ) (g : List Float) (s : Stage) (k : ℕ) (x : Float) (js js' : List ℕ) (ss ss' : List Float)

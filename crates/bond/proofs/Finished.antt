@@ -8,9 +8,8 @@ use mathlib.Core.Bool.{Bool, true, false}
 use mathlib.Core.List.{List, ◌++◌}
 use lib.ListN.{length, get_or, set, take, drop}
 use lib.Ieee.{Float, nan}
-use Rattle.answers.specs.declared.Stage.{Stage}
-use Rattle.answers.specs.declared.Stage.TheVariants.{Whole, Spilt}
-use Rattle.answers.specs.Outcome.{Made, done, bind, staged, stage_of}
+use Rattle.std.specs.Prelude.{Ok, Err}
+use Rattle.answers.specs.Outcome.{Made, bind, staged, stage_of, Stage}
 use Rattle.numbers.specs.Arithmetic.{times, over, zero64}
 use Rattle.lists.specs.Lists.{iter, grid, pick}
 use Rattle.lists.specs.Floats.{at, cell, stored}
@@ -126,17 +125,17 @@ module _ (mode rl n rr r : ℕ) (core v : List Float) (js : List ℕ) (ss column
   carry_rows_lem = grid_same r rr (λ (i j : ℕ). times (at ss i) (at columns (j * r + i))) (λ (i j : ℕ). times (at ss i) (cell rr v j (get_or js i 0))) (λ i j a b. ap (times (at ss i)) (column j i b a))
 
   module _ (left : List Float) (s : Stage) (el : stored (left_rows mode (rl * n) rr r columns ss core) ≡ staged s left) where
-    opened : factors_of mode (core_with rl n rr core) r ss js v ≡ bind (staged s left) (λ u. bind (stored (carry_of rr r ss js v)) (λ b. done (record { left = u; carry = b })))
+    opened : factors_of mode (core_with rl n rr core) r ss js v ≡ bind (staged s left) (λ u. bind (stored (carry_of rr r ss js v)) (λ b. Ok (record { left = u; carry = b })))
     unfolding factors_of
-    opened = ap (λ (o : Made (List Float)). bind o (λ u. bind (stored (carry_of rr r ss js v)) (λ b. done (record { left = u; carry = b })))) (ap stored (sym left_rows_lem) ∙ el)
+    opened = ap (λ (o : Made (List Float)). bind o (λ u. bind (stored (carry_of rr r ss js v)) (λ b. Ok (record { left = u; carry = b })))) (ap stored (sym left_rows_lem) ∙ el)
 
-    pub factors_stop : (i : ℕ) (f : Factors) → s ≡ Spilt i → factors_of mode (core_with rl n rr core) r ss js v ≡ staged (Spilt i) f
-    factors_stop i f h = opened ∙ staged_stop s left (λ u. bind (stored (carry_of rr r ss js v)) (λ b. done (record { left = u; carry = b }))) i f h
+    pub factors_stop : (i : ℕ) (f : Factors) → s ≡ Err i → factors_of mode (core_with rl n rr core) r ss js v ≡ staged (Err i) f
+    factors_stop i f h = opened ∙ staged_stop s left (λ u. bind (stored (carry_of rr r ss js v)) (λ b. Ok (record { left = u; carry = b }))) i f h
 
-    pub factors_end : s ≡ Whole → (carry : List Float) (t : Stage) → carry ≡ carry_rows rr r columns ss → t ≡ stage_of (stored carry) → factors_of mode (core_with rl n rr core) r ss js v ≡ staged t (record { left = left; carry = carry })
+    pub factors_end : s ≡ Ok tt → (carry : List Float) (t : Stage) → carry ≡ carry_rows rr r columns ss → t ≡ stage_of (stored carry) → factors_of mode (core_with rl n rr core) r ss js v ≡ staged t (record { left = left; carry = carry })
     factors_end h carry t eb et =
-        opened ∙ staged_on s left (λ u. bind (stored (carry_of rr r ss js v)) (λ b. done (record { left = u; carry = b }))) h
-        ∙ ap (λ (o : Made (List Float)). bind o (λ b. done (record { left = left; carry = b }))) (ap stored (sym (eb ∙ carry_rows_lem)) ∙ stored_staged carry t et)
+        opened ∙ staged_on s left (λ u. bind (stored (carry_of rr r ss js v)) (λ b. Ok (record { left = u; carry = b }))) h
+        ∙ ap (λ (o : Made (List Float)). bind o (λ b. Ok (record { left = left; carry = b }))) (ap stored (sym (eb ∙ carry_rows_lem)) ∙ stored_staged carry t et)
         ∙ staged_last t carry (λ b. record { left = left; carry = b })
 
 -- ---- all stand at the front of slices of which parts were lent

@@ -6,9 +6,8 @@ use mathlib.Core.Bool.{Bool, true, false}
 use mathlib.Core.List.{List}
 use lib.ListN.{length}
 use lib.Ieee.{Float}
-use Rattle.answers.specs.declared.Stage.{Stage}
-use Rattle.answers.specs.declared.Stage.TheVariants.{Whole, Spilt}
-use Rattle.answers.specs.Outcome.{Made, done, bind, staged, stage_of}
+use Rattle.std.specs.Prelude.{Ok, Err}
+use Rattle.answers.specs.Outcome.{Made, bind, staged, stage_of, Stage}
 use Rattle.numbers.specs.Arithmetic.{times}
 use Rattle.lists.specs.Lists.{pick}
 use Rattle.lists.specs.Floats.{cell, stored}
@@ -31,22 +30,22 @@ module _ (n p q : ℕ) (c s : Float) (l u : List Float) (long : length l ≡ n *
 
 -- ---- one rotation
 module _ (n p q : ℕ) (c s : Float) (g v g' v' : List Float) (eg : g' ≡ cleared n p q (turn_rows n p q c s (turn_columns n p q c s g))) (ev : v' ≡ turn_columns n p q c s v) (r : Stage) (er : r ≡ stage_of (stored g')) where
-  opened : turned n p q c s (eig g v) ≡ bind (staged r g') (λ x. bind (stored v') (λ y. done (eig x y)))
+  opened : turned n p q c s (eig g v) ≡ bind (staged r g') (λ x. bind (stored v') (λ y. Ok (eig x y)))
   unfolding turned
   opened = rw (← eg, ← ev, stored_staged g' r er)
 
-  pub turned_stop : (i : ℕ) (z : Eig) → r ≡ Spilt i → turned n p q c s (eig g v) ≡ staged (Spilt i) z
-  turned_stop i z h = opened ∙ staged_stop r g' (λ x. bind (stored v') (λ y. done (eig x y))) i z h
+  pub turned_stop : (i : ℕ) (z : Eig) → r ≡ Err i → turned n p q c s (eig g v) ≡ staged (Err i) z
+  turned_stop i z h = opened ∙ staged_stop r g' (λ x. bind (stored v') (λ y. Ok (eig x y))) i z h
 
-  pub turned_end : r ≡ Whole → (t : Stage) → t ≡ stage_of (stored v') → turned n p q c s (eig g v) ≡ staged t (eig g' v')
+  pub turned_end : r ≡ Ok tt → (t : Stage) → t ≡ stage_of (stored v') → turned n p q c s (eig g v) ≡ staged t (eig g' v')
   turned_end h t et =
-      opened ∙ staged_on r g' (λ x. bind (stored v') (λ y. done (eig x y))) h
-      ∙ ap (λ (o : Made (List Float)). bind o (λ y. done (eig g' y))) (stored_staged v' t et)
+      opened ∙ staged_on r g' (λ x. bind (stored v') (λ y. Ok (eig x y))) h
+      ∙ ap (λ (o : Made (List Float)). bind o (λ y. Ok (eig g' y))) (stored_staged v' t et)
       ∙ staged_last t v' (λ y. eig g' y)
 
 -- ---- a rotation, unless the pair is skipped
 module _ (mode n p q : ℕ) (g v : List Float) (b : Bool) (eb : b ≡ skipped mode n g p q) where
-  pub rotate_skip : b ≡ true → rotate mode n p q (eig g v) ≡ staged Whole (eig g v)
+  pub rotate_skip : b ≡ true → rotate mode n p q (eig g v) ≡ staged (Ok tt) (eig g v)
   unfolding rotate pick staged
   rotate_skip h = let t : skipped mode n g p q ≡ true = sym eb ∙ h in rw t
 

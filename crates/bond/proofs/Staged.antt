@@ -8,10 +8,8 @@ use lib.Ieee.{Float}
 use Rattle.answers.specs.declared.Part.{Part}
 use Rattle.answers.specs.declared.Part.TheVariants.{Spectrum, Factor}
 use Rattle.answers.specs.declared.Refusal.TheVariants.{Stored}
-use Rattle.answers.specs.declared.Verdict.TheVariants.{Fits, Refused}
-use Rattle.answers.specs.declared.Stage.{Stage}
-use Rattle.answers.specs.declared.Stage.TheVariants.{Whole, Spilt}
-use Rattle.answers.specs.Outcome.{Made, Answer, done, refused, bind, making, staged, stage_of, answered}
+use Rattle.std.specs.Prelude.{Ok, Err}
+use Rattle.answers.specs.Outcome.{Made, Answer, bind, making, staged, stage_of, answered, Stage}
 use Rattle.answers.proofs.Outcomes.{bind_cong}
 use Rattle.lists.specs.Floats.{stored}
 use Rattle.lists.proofs.Parts.{part_again}
@@ -33,10 +31,10 @@ module _ (mode : ℕ) (c : Core) (g : List Float) (r : Stage) (eg : g ≡ gram c
   unfolding swept_of
   gram_opened = ap (λ (o : Made (List Float)). bind o (λ x. diagonalized mode c.rr (eig x (eye c.rr)))) (ap stored (sym eg) ∙ stored_staged g r er)
 
-  pub swept_stop : (i : ℕ) (w : Swept) → r ≡ Spilt i → swept_of mode c ≡ staged (Spilt i) w
+  pub swept_stop : (i : ℕ) (w : Swept) → r ≡ Err i → swept_of mode c ≡ staged (Err i) w
   swept_stop i w h = gram_opened ∙ staged_stop r g (λ x. diagonalized mode c.rr (eig x (eye c.rr))) i w h
 
-  pub swept_end : r ≡ Whole → (v : List Float) (o : Made Swept) → v ≡ eye c.rr → diagonalized mode c.rr (eig g v) ≡ o → swept_of mode c ≡ o
+  pub swept_end : r ≡ Ok tt → (v : List Float) (o : Made Swept) → v ≡ eye c.rr → diagonalized mode c.rr (eig g v) ≡ o → swept_of mode c ≡ o
   swept_end h v o ev d =
       gram_opened ∙ staged_on r g (λ x. diagonalized mode c.rr (eig x (eye c.rr))) h
       ∙ ap (λ (y : List Float). diagonalized mode c.rr (eig g y)) (sym ev) ∙ d
@@ -44,12 +42,12 @@ module _ (mode : ℕ) (c : Core) (g : List Float) (r : Stage) (eg : g ≡ gram c
 -- ---- stages that make one part, one after another, are one stage
 module _ (part : Part) (k : ℕ) where
   two : {X Y R : Type 0} (a : Made X) (f : X → Made Y) (K : Y → Answer R) → bind (making part k a) (λ x. bind (making part k (f x)) K) ≡ bind (making part k (bind a f)) K
-  two (done x) f K = refl
-  two (refused i) f K = refl
+  two (Ok x) f K = refl
+  two (Err i) f K = refl
 
-  both : {X Y D R : Type 0} (a : Made X) (b : Made Y) (of : X → Y → D) (K : D → Answer R) → bind (making part k a) (λ x. bind (making part k b) (λ y. K (of x y))) ≡ bind (making part k (bind a (λ x. bind b (λ y. done (of x y))))) K
-  both (done x) b of K = two b (λ y. done (of x y)) K
-  both (refused i) b of K = refl
+  both : {X Y D R : Type 0} (a : Made X) (b : Made Y) (of : X → Y → D) (K : D → Answer R) → bind (making part k a) (λ x. bind (making part k b) (λ y. K (of x y))) ≡ bind (making part k (bind a (λ x. bind b (λ y. Ok (of x y))))) K
+  both (Ok x) b of K = two b (λ y. Ok (of x y)) K
+  both (Err i) b of K = refl
 
 -- ---- the cut
 module _ (k : ℕ) (cutting : Cutting) (c : Core) where
@@ -67,7 +65,7 @@ module _ (k : ℕ) (cutting : Cutting) (c : Core) where
   }
 
   made : Swept → Chosen → Factors → Answer CutCore
-  made w q f = done (whole w q f)
+  made w q f = Ok (whole w q f)
 
   last : Swept → Chosen → Answer CutCore
   last w q = bind (making Factor k (factors_of cutting.mode c q.rank q.values q.order w.eig.v)) (made w q)
@@ -79,34 +77,34 @@ module _ (k : ℕ) (cutting : Cutting) (c : Core) where
       (λ g a. bind_cong (making Spectrum k (diagonalized cutting.mode c.rr (eig g (eye c.rr)))) _ (rest_of k cutting c)
       (λ w b. bind_cong (making Spectrum k (stored (singulars c.rr w.eig.g))) _ (λ sv. last w (chosen sv))
       (λ sv e. let q = chosen sv in both Factor k (stored (left_factor cutting.mode c q.rank q.values q.order w.eig.v)) (stored (carry_of c.rr q.rank q.values q.order w.eig.v)) pair (made w q))
-      ∙ two Spectrum k (stored (singulars c.rr w.eig.g)) (λ sv. done (chosen sv)) (last w)))
+      ∙ two Spectrum k (stored (singulars c.rr w.eig.g)) (λ sv. Ok (chosen sv)) (last w)))
       ∙ two Spectrum k (stored (gram c)) (λ g. diagonalized cutting.mode c.rr (eig g (eye c.rr))) (rest_of k cutting c)
 
   module _ (s : Stage) (w : Swept) (ew : swept_of cutting.mode c ≡ staged s w) where
-    pub cut_stop : (i : ℕ) (b : CutCore) → s ≡ Spilt i → cut_bond k cutting c ≡ answered (Refused (Stored Spectrum k i)) b
+    pub cut_stop : (i : ℕ) (b : CutCore) → s ≡ Err i → cut_bond k cutting c ≡ answered (Err (Stored Spectrum k i)) b
     unfolding staged answered
     cut_stop i b h = cut_stages ∙ rw (ew, h)
 
-    pub cut_on : s ≡ Whole → (o : Answer CutCore) → rest_of k cutting c w ≡ o → cut_bond k cutting c ≡ o
+    pub cut_on : s ≡ Ok tt → (o : Answer CutCore) → rest_of k cutting c w ≡ o → cut_bond k cutting c ≡ o
     unfolding staged
     cut_on h o e = cut_stages ∙ rw (ew, h) e
 
   -- ---- what follows the sweeps
   module _ (w : Swept) (s : Stage) (q : Chosen) (eq : chosen_of cutting.eps c.rr w.eig.g ≡ staged s q) where
-    pub rest_first : (i : ℕ) (b : CutCore) → s ≡ Spilt i → rest_of k cutting c w ≡ answered (Refused (Stored Spectrum k i)) b
+    pub rest_first : (i : ℕ) (b : CutCore) → s ≡ Err i → rest_of k cutting c w ≡ answered (Err (Stored Spectrum k i)) b
     unfolding rest_of staged answered
     rest_first i b h = rw (eq, h)
 
-    module _ (h : s ≡ Whole) (t : Stage) (f : Factors) (ef : factors_of cutting.mode c q.rank q.values q.order w.eig.v ≡ staged t f) where
+    module _ (h : s ≡ Ok tt) (t : Stage) (f : Factors) (ef : factors_of cutting.mode c q.rank q.values q.order w.eig.v ≡ staged t f) where
       opened : rest_of k cutting c w ≡ bind (making Factor k (staged t f)) (made w q)
       unfolding rest_of staged made
       opened = rw (eq, h, ef)
 
-      pub rest_second : (i : ℕ) (b : CutCore) → t ≡ Spilt i → rest_of k cutting c w ≡ answered (Refused (Stored Factor k i)) b
+      pub rest_second : (i : ℕ) (b : CutCore) → t ≡ Err i → rest_of k cutting c w ≡ answered (Err (Stored Factor k i)) b
       unfolding staged answered
       rest_second i b e = opened ∙ rw e
 
-      pub rest_whole : t ≡ Whole → rest_of k cutting c w ≡ answered Fits (whole w q f)
+      pub rest_whole : t ≡ Ok tt → rest_of k cutting c w ≡ answered (Ok tt) (whole w q f)
       unfolding staged answered made
       rest_whole e = opened ∙ rw e
 

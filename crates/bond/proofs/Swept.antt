@@ -7,9 +7,8 @@ use native.Mathlib.Omega.{arith}
 use mathlib.Core.Bool.{Bool, true, false, ◌&&◌}
 use mathlib.Core.List.{List}
 use lib.Ieee.{Float}
-use Rattle.answers.specs.declared.Stage.{Stage}
-use Rattle.answers.specs.declared.Stage.TheVariants.{Whole, Spilt}
-use Rattle.answers.specs.Outcome.{Made, done, bind, staged}
+use Rattle.std.specs.Prelude.{Ok, Err}
+use Rattle.answers.specs.Outcome.{Made, bind, staged, Stage}
 use Rattle.numbers.specs.Arithmetic.{plus, times, zero64, two64}
 use Rattle.lists.specs.Lists.{pick, iter, pairs}
 use Rattle.lists.specs.Floats.{cell}
@@ -34,12 +33,12 @@ unfolding still still_row
 still_rows mode n g = folded_pairs n (λ (x : ℕ × ℕ) (b : Bool). b && skipped mode n g x.0 x.1) true
 
 -- ---- where every pair is skipped, a sweep leaves everything as it was, in any mode
-pub idle_sweep : (mode n : ℕ) (g v : List Float) → still mode n g ≡ true → sweep mode n (eig g v) ≡ done (eig g v)
+pub idle_sweep : (mode n : ℕ) (g v : List Float) → still mode n g ≡ true → sweep mode n (eig g v) ≡ Ok (eig g v)
 unfolding still sweep rotate pick
 idle_sweep mode n g v e = along_idle (λ (x : ℕ × ℕ). skipped mode n g x.0 x.1) (λ (x : ℕ × ℕ). rotate mode n x.0 x.1) (eig g v) (λ x h. rw h) (pairs n) e
 
 -- and so do all that are left: they run out, with the same flag
-idle_sweeps : (m mode n c : ℕ) (e : Eig) → sweep mode n e ≡ done e → settled mode n e.g ≡ false → sweeps_from m false mode n c e ≡ done (swept (c + m) false e)
+idle_sweeps : (m mode n c : ℕ) (e : Eig) → sweep mode n e ≡ Ok e → settled mode n e.g ≡ false → sweeps_from m false mode n c e ≡ Ok (swept (c + m) false e)
 unfolding sweeps_from
 idle_sweeps zero mode n c e s b = rw add-zero
 idle_sweeps (suc m) mode n c e s b = rw (s, b) (idle_sweeps m mode n (suc c) e s b ∙ rw (suc-add, add-suc))
@@ -50,7 +49,7 @@ module _ (T : Made Swept) (mode n hi c : ℕ) (b : Bool) (e : Eig) (d : T ≡ sw
     left : hi - c ≡ suc (hi - (c + 1))
     left = omega arith
 
-    pub sweeps_settled : b ≡ true → T ≡ staged Whole (swept c true e)
+    pub sweeps_settled : b ≡ true → T ≡ staged (Ok tt) (swept c true e)
     unfolding sweeps_from staged
     sweeps_settled h = d ∙ rw (left, h)
 
@@ -59,15 +58,15 @@ module _ (T : Made Swept) (mode n hi c : ℕ) (b : Bool) (e : Eig) (d : T ≡ sw
       unfolding sweeps_from
       opened = d ∙ rw (left, h, s)
 
-      pub sweeps_stop : (i : ℕ) (w : Swept) → r ≡ Spilt i → T ≡ staged (Spilt i) w
+      pub sweeps_stop : (i : ℕ) (w : Swept) → r ≡ Err i → T ≡ staged (Err i) w
       unfolding staged
       sweeps_stop i w t = opened ∙ rw t
 
-      pub sweeps_more : r ≡ Whole → (q : Bool) → q ≡ settled mode n x.g → T ≡ sweeps_from (hi - (c + 1)) q mode n (c + 1) x
+      pub sweeps_more : r ≡ Ok tt → (q : Bool) → q ≡ settled mode n x.g → T ≡ sweeps_from (hi - (c + 1)) q mode n (c + 1) x
       unfolding staged
       sweeps_more t q f = opened ∙ rw (t, ← f, add-one)
 
-  pub sweeps_done : hi ≤ c → T ≡ staged Whole (swept c b e)
+  pub sweeps_done : hi ≤ c → T ≡ staged (Ok tt) (swept c b e)
   unfolding sweeps_from staged
   sweeps_done l = let z : hi - c ≡ 0 = omega arith in d ∙ rw z
 
@@ -76,7 +75,7 @@ unfolding diagonalized
 sweeps_start mode n e b h = rw (← h)
 
 pub sweeps_idle : (T : Made Swept) (mode n hi c : ℕ) (b r : Bool) (g v : List Float) → T ≡ sweeps_from (hi - c) b mode n c (eig g v) → c < hi → b ≡ settled mode n g → b ≡ false
-    → r ≡ still mode n g → r ≡ true → T ≡ staged Whole (swept hi false (eig g v))
+    → r ≡ still mode n g → r ≡ true → T ≡ staged (Ok tt) (swept hi false (eig g v))
 unfolding staged
 sweeps_idle T mode n hi c b r g v d l eb h er t =
     let z : c + (hi - c) ≡ hi = omega arith in

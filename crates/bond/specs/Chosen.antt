@@ -1,6 +1,6 @@
 -- The values of a square matrix, their order, how many are kept and the largest that is not, as one stage. Definitions for the code only.
-use Rattle.std.specs.Prelude.{ℕ, List, Float}
-use Rattle.answers.specs.Outcome.{Made, done, bind}
+use Rattle.std.specs.Prelude.{ℕ, List, Float, Ok}
+use Rattle.answers.specs.Outcome.{Made, bind}
 use Rattle.lists.specs.Floats.{stored}
 use Rattle.cutform.specs.Values.{singulars, order, sorted, kept_rank, dropped_from}
 
@@ -15,4 +15,4 @@ chosen_of eps n g =
     bind (stored (singulars n g)) (λ sv.
     let ss = sorted n sv in
     let r = kept_rank eps n ss in
-    done (record { rank = r; dropped = dropped_from r ss; order = order n sv; values = ss }))
+    Ok (record { rank = r; dropped = dropped_from r ss; order = order n sv; values = ss }))

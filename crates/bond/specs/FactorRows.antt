@@ -1,6 +1,6 @@
 -- The left factor and the carry as one stage, and how its loops go: rows, and columns of rows. Definitions for loops only.
-use Rattle.std.specs.Prelude.{ℕ, ◌+◌, ◌*◌, ◌<◌, List, get_or, set, Float}
-use Rattle.answers.specs.Outcome.{Made, done, bind}
+use Rattle.std.specs.Prelude.{ℕ, ◌+◌, ◌*◌, ◌<◌, List, get_or, set, Float, Ok}
+use Rattle.answers.specs.Outcome.{Made, bind}
 use Rattle.numbers.specs.Arithmetic.{times, over, zero64}
 use Rattle.lists.specs.Lists.{pick, grid, iter}
 use Rattle.lists.specs.Floats.{at, cell, stored}
@@ -17,7 +17,7 @@ unfoldable pub factors_of : ℕ → Core → ℕ → List Float → List ℕ →
 factors_of mode c r ss js v =
     bind (stored (left_factor mode c r ss js v)) (λ u.
     bind (stored (carry_of c.rr r ss js v)) (λ b.
-    done (record { left = u; carry = b })))
+    Ok (record { left = u; carry = b })))
 
 -- the first r of js are columns of n
 abbrev pub Columns : ℕ → List ℕ → ℕ → Type 0

@@ -1,7 +1,7 @@
 -- The stages of a cut: the sweeps of the Gram matrix, and what follows them. Definitions for the code only.
-use Rattle.std.specs.Prelude.{ℕ, ◌*◌, List, take, Float}
+use Rattle.std.specs.Prelude.{ℕ, ◌*◌, List, take, Float, Ok}
 use Rattle.answers.specs.declared.Part.TheVariants.{Spectrum, Factor}
-use Rattle.answers.specs.Outcome.{Answer, Made, done, bind, making}
+use Rattle.answers.specs.Outcome.{Answer, Made, bind, making}
 use Rattle.lists.specs.Floats.{stored}
 use Rattle.shape.specs.Cores.{Core, core_with}
 use Rattle.cutform.specs.Rotation.{eye}
@@ -21,7 +21,7 @@ unfoldable pub rest_of : ℕ → Cutting → Core → Swept → Answer CutCore
 rest_of k cutting c w =
     bind (making Spectrum k (chosen_of cutting.eps c.rr w.eig.g)) (λ q.
     bind (making Factor k (factors_of cutting.mode c q.rank q.values q.order w.eig.v)) (λ f.
-    done (record {
+    Ok (record {
       core = core_with c.rl c.n q.rank f.left;
       bond = record { rank = q.rank; sweeps = w.count; settled = w.settles; dropped = q.dropped };
       carry = f.carry;

@@ -101,7 +101,7 @@ fn left_factor(
     r: usize,
     ss: &[f64],
     room: &mut [f64],
-) -> answers::Stage
+) -> Result<(), usize>
     requires { (length core.old ≡ m * n) × (length columns.now ≡ n * r) × (r ≤ n) × (r ≤ length ss.now) × (length core.old ≤ length room.old) }
     ensures { stored (left_rows mode m n r columns.now ss.now core.old) ≡ staged result (take (m * r) core.new) }
 {
@@ -145,7 +145,7 @@ pub fn left_and_carry(
     columns: &mut [f64],
     carry: &mut [f64],
     room: &mut [f64],
-) -> answers::Stage
+) -> Result<(), usize>
     requires { (length core.old ≡ rl * n * rr) × (1 ≤ rr) × (length v.now ≡ rr * rr) × (r ≤ length js.now) × Columns rr js.now r
         × (r ≤ length ss.now) × (r ≤ rr) × (length columns.old ≡ rr * r) × (length carry.old ≡ r * rr) × (length core.old ≤ length room.old) }
     ensures { factors_of mode (core_with rl n rr core.old) r ss.now js.now v.now
@@ -153,8 +153,8 @@ pub fn left_and_carry(
 {
     gather(v, rr, js, r, columns);
     let made = left_factor(mode, core, rl * n, rr, columns, r, ss, room);
-    if let answers::Stage::Spilt(i) = made {
-        return answers::Stage::Spilt(i);
+    if let Err(i) = made {
+        return Err(i);
     }
     carry_rows(columns, rr, r, ss, carry);
     lists::stored(carry)
@@ -175,7 +175,7 @@ pub fn factor(
     g: &mut [f64],
     carry: &mut [f64],
     room: &mut [f64],
-) -> answers::Stage
+) -> Result<(), usize>
     requires { (length core.old ≡ rl * n * rr) × (1 ≤ rr) × (rr * rr ≤ length v.now) × (rr ≤ length js.now) × Columns rr (take rr js.now) r
         × (rr ≤ length ss.now) × (r ≤ rr) × (rr * rr ≤ length g.old) × (rr * rr ≤ length carry.old) × (length core.old ≤ length room.old) }
     ensures { factors_of mode (core_with rl n rr core.old) r (take rr ss.now) (take rr js.now)

@@ -6,9 +6,8 @@ pub mod strips;
 pub mod sweeps;
 pub mod values;
 
-ghost use Rattle.std.specs.Prelude.{◌≡◌, ◌++◌, ◌*◌, ◌≤◌, length, take, drop};
+ghost use Rattle.std.specs.Prelude.{◌≡◌, ◌++◌, ◌*◌, ◌≤◌, length, take, drop, Ok, Err};
 ghost use Rattle.answers.specs.declared.Refusal.TheVariants.{Stored};
-ghost use Rattle.answers.specs.declared.Verdict.TheVariants.{Fits, Refused};
 ghost use Rattle.answers.specs.Outcome.{staged, answered};
 ghost use Rattle.shape.specs.Limits.{most_rank};
 ghost use Rattle.shape.specs.Cores.{core_with};
@@ -40,8 +39,8 @@ fn swept_gram(
 {
     gram(core, rl, n, rr, g);
     let made = lists::stored(g);
-    if let answers::Stage::Spilt(i) = made {
-        return sweeps::sweeps_are(answers::Stage::Spilt(i), 0, false);
+    if let Err(i) = made {
+        return sweeps::sweeps_are(Err(i), 0, false);
     }
     rotation::eye(v, rr);
     sweeps::diagonalize(mode, g, v, rr)
@@ -68,7 +67,7 @@ fn swept_within(
 // What a cut came to, and where it fits what is said of its bond.
 #[derive(Clone, Copy)]
 pub struct BondCut {
-    pub verdict: answers::Verdict,
+    pub verdict: Result<(), answers::Refusal>,
     pub bond: cutform::Bond,
 }
 
@@ -85,19 +84,19 @@ pub fn no_bond() -> cutform::Bond
 }
 
 fn cut_refused(part: answers::Part, k: usize, i: usize) -> BondCut
-    ensures { result ≡ record { verdict = Refused (Stored part k i); bond = no_bond } }
+    ensures { result ≡ record { verdict = Err (Stored part k i); bond = no_bond } }
 {
     BondCut {
-        verdict: answers::Verdict::Refused(answers::stored_at(part, k, i)),
+        verdict: Err(answers::stored_at(part, k, i)),
         bond: no_bond(),
     }
 }
 
 fn cut_made(rank: usize, sweeps: usize, settled: bool, dropped: f64) -> BondCut
-    ensures { result ≡ record { verdict = Fits; bond = record { rank = rank; sweeps = sweeps; settled = settled; dropped = dropped } } }
+    ensures { result ≡ record { verdict = Ok tt; bond = record { rank = rank; sweeps = sweeps; settled = settled; dropped = dropped } } }
 {
     BondCut {
-        verdict: answers::Verdict::Fits,
+        verdict: Ok(()),
         bond: cutform::Bond {
             rank,
             sweeps,
@@ -132,7 +131,7 @@ fn finish(
     let mut js = [0; shape::MOST_RANK];
     let kept = values::keep(g, rr, cutting.eps, &mut ss, &mut js);
     let stage = kept.stage;
-    if let answers::Stage::Spilt(i) = stage {
+    if let Err(i) = stage {
         return cut_refused(answers::Part::Spectrum, k, i);
     }
     let r = kept.rank;
@@ -150,7 +149,7 @@ fn finish(
         carry,
         room,
     );
-    if let answers::Stage::Spilt(i) = made {
+    if let Err(i) = made {
         return cut_refused(answers::Part::Factor, k, i);
     }
     cut_made(r, count, settles, kept.dropped)
@@ -176,7 +175,7 @@ fn cut(
 {
     let s = swept_within(cutting.mode, core, rl, n, rr, g, v);
     let stage = s.stage;
-    if let answers::Stage::Spilt(i) = stage {
+    if let Err(i) = stage {
         return cut_refused(answers::Part::Spectrum, k, i);
     }
     finish(

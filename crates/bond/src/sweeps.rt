@@ -64,15 +64,15 @@ fn apply_jacobi_rotation(
     q: usize,
     c: f64,
     s: f64,
-) -> answers::Stage
+) -> Result<(), usize>
     requires { (length g.old ≡ n * n) × (length v.old ≡ n * n) × (p < q) × (q < n) }
     ensures { turned n p q c s (eig g.old v.old) ≡ staged result (eig g.new v.new) }
 {
     turn_gram(g, n, p, q, c, s);
     turn_columns(v, n, p, q, c, s);
     let made = lists::stored(g);
-    if let answers::Stage::Spilt(i) = made {
-        return answers::Stage::Spilt(i);
+    if let Err(i) = made {
+        return Err(i);
     }
     lists::stored(v)
 }
@@ -111,12 +111,19 @@ fn pair_slope(g: &[f64], n: usize, p: usize, q: usize) -> f64
     rotation::slope(low, high, off)
 }
 
-fn rotate(mode: usize, g: &mut [f64], v: &mut [f64], n: usize, p: usize, q: usize) -> answers::Stage
+fn rotate(
+    mode: usize,
+    g: &mut [f64],
+    v: &mut [f64],
+    n: usize,
+    p: usize,
+    q: usize,
+) -> Result<(), usize>
     requires { (length g.old ≡ n * n) × (length v.old ≡ n * n) × (p < q) × (q < n) }
     ensures { rotate mode n p q (eig g.old v.old) ≡ staged result (eig g.new v.new) }
 {
     if skipped(mode, g, n, p, q) {
-        return answers::Stage::Whole;
+        return Ok(());
     }
     let t = rotation::tangent(pair_slope(g, n, p, q));
     let c = rotation::cosine(t);
@@ -124,30 +131,30 @@ fn rotate(mode: usize, g: &mut [f64], v: &mut [f64], n: usize, p: usize, q: usiz
 }
 
 // The pairs (p, q) of one p.
-fn sweep_row(mode: usize, g: &mut [f64], v: &mut [f64], n: usize, p: usize) -> answers::Stage
+fn sweep_row(mode: usize, g: &mut [f64], v: &mut [f64], n: usize, p: usize) -> Result<(), usize>
     requires { (length g.old ≡ n * n) × (length v.old ≡ n * n) × (p < n) }
     ensures { sweep_row mode n p (eig g.old v.old) ≡ staged result (eig g.new v.new) }
 {
     for q in p + 1..n {
         let made = rotate(mode, g, v, n, p, q);
-        if let answers::Stage::Spilt(i) = made {
-            return answers::Stage::Spilt(i);
+        if let Err(i) = made {
+            return Err(i);
         }
     }
-    answers::Stage::Whole
+    Ok(())
 }
 
-pub fn jacobi_sweep(mode: usize, g: &mut [f64], v: &mut [f64], n: usize) -> answers::Stage
+pub fn jacobi_sweep(mode: usize, g: &mut [f64], v: &mut [f64], n: usize) -> Result<(), usize>
     requires { (length g.old ≡ n * n) × (length v.old ≡ n * n) }
     ensures { sweep mode n (eig g.old v.old) ≡ staged result (eig g.new v.new) }
 {
     for p in 0..n {
         let made = sweep_row(mode, g, v, n, p);
-        if let answers::Stage::Spilt(i) = made {
-            return answers::Stage::Spilt(i);
+        if let Err(i) = made {
+            return Err(i);
         }
     }
-    answers::Stage::Whole
+    Ok(())
 }
 
 // s and the part of the sum that the pairs of one p have.
@@ -228,12 +235,12 @@ const MOST_SWEEPS: usize = 50;
 // What the sweeps came to: whether all numbers stayed finite, how many were made, and whether the matrix is settled at the end.
 #[derive(Clone, Copy)]
 pub struct Sweeps {
-    pub stage: answers::Stage,
+    pub stage: Result<(), usize>,
     pub count: usize,
     pub settles: bool,
 }
 
-pub fn sweeps_are(stage: answers::Stage, count: usize, settles: bool) -> Sweeps
+pub fn sweeps_are(stage: Result<(), usize>, count: usize, settles: bool) -> Sweeps
     ensures { result ≡ record { stage = stage; count = count; settles = settles } }
 {
     Sweeps {
@@ -254,17 +261,17 @@ pub fn diagonalize(mode: usize, g: &mut [f64], v: &mut [f64], n: usize) -> Sweep
     let mut settles = settled(mode, g, n);
     while count < MOST_SWEEPS {
         if settles {
-            return sweeps_are(answers::Stage::Whole, count, true);
+            return sweeps_are(Ok(()), count, true);
         }
         if still(mode, g, n) {
-            return sweeps_are(answers::Stage::Whole, MOST_SWEEPS, false);
+            return sweeps_are(Ok(()), MOST_SWEEPS, false);
         }
         let made = jacobi_sweep(mode, g, v, n);
-        if let answers::Stage::Spilt(i) = made {
-            return sweeps_are(answers::Stage::Spilt(i), count, false);
+        if let Err(i) = made {
+            return sweeps_are(Err(i), count, false);
         }
         settles = settled(mode, g, n);
         count += 1;
     }
-    sweeps_are(answers::Stage::Whole, count, settles)
+    sweeps_are(Ok(()), count, settles)
 }

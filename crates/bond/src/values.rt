@@ -126,12 +126,12 @@ fn dropped(ss: &[f64], r: usize) -> f64
 // Whether all values are finite, how many are kept, and the largest that is not.
 #[derive(Clone, Copy)]
 pub struct Kept {
-    pub stage: answers::Stage,
+    pub stage: Result<(), usize>,
     pub rank: usize,
     pub dropped: f64,
 }
 
-fn kept_are(stage: answers::Stage, rank: usize, dropped: f64) -> Kept
+fn kept_are(stage: Result<(), usize>, rank: usize, dropped: f64) -> Kept
     ensures { result ≡ record { stage = stage; rank = rank; dropped = dropped } }
 {
     Kept {
@@ -149,13 +149,13 @@ fn keep_all(g: &[f64], n: usize, eps: f64, sv: &mut [f64], ss: &mut [f64], js: &
 {
     singular_values(g, n, sv);
     let made = lists::stored(sv);
-    if let answers::Stage::Spilt(i) = made {
-        return kept_are(answers::Stage::Spilt(i), 0, 0.0);
+    if let Err(i) = made {
+        return kept_are(Err(i), 0, 0.0);
     }
     order(sv, n, js);
     sorted(sv, n, js, ss);
     let rank = kept_rank(eps, n, ss);
-    kept_are(answers::Stage::Whole, rank, dropped(ss, rank))
+    kept_are(Ok(()), rank, dropped(ss, rank))
 }
 
 // The room in parts of just the size.

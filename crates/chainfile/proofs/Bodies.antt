@@ -12,8 +12,7 @@ use lib.Ieee.{Float, nan}
 use mir.Syntax.{w64}
 use mir.Val.{Fits as Fits'}
 use Rattle.answers.specs.declared.Refusal.TheVariants.{Number}
-use Rattle.answers.specs.declared.Verdict.TheVariants.{Fits, Refused}
-use Rattle.answers.specs.Outcome.{done, verdict_of}
+use Rattle.std.specs.Prelude.{Ok, Err}
 use Rattle.numbers.specs.Arithmetic.{zero64}
 use Rattle.lists.specs.Lists.{first_not}
 use Rattle.lists.specs.Slots.{offset, slot, fit}
@@ -86,11 +85,11 @@ pub ruleset bodywise = (bodies_none, bodies_more, body_finite, body_there, body_
 
 -- ---- the check, by the first core that fails it
 module _ (s : Shape) (chain : List Float) (i : ℕ) (e : i ≡ first_not (λ (k : ℕ). all_finite (slot (core_size s) k chain)) s.d) where
-  pub core_wrong : i < s.d → Refused (Number i) ≡ verdict_of (numbers_ok s chain)
+  pub core_wrong : i < s.d → Err (Number i) ≡ numbers_ok s chain
   unfolding numbers_ok
   core_wrong h = place_wrong (λ (k : ℕ). all_finite (slot (core_size s) k chain)) s.d i e Number h
 
-  pub cores_right : s.d ≤ i → Fits ≡ verdict_of (numbers_ok s chain)
+  pub cores_right : s.d ≤ i → Ok tt ≡ numbers_ok s chain
   unfolding numbers_ok
   cores_right h = places_right (λ (k : ℕ). all_finite (slot (core_size s) k chain)) s.d i e Number h
 
@@ -105,7 +104,7 @@ module _ (bytes : List ℕ) (s : Shape) (long : ℕ) (room : entries_of s ≤ lo
   unfolding numbers_in
   found chain h = h ∙ ap (numbers_from bytes (8 + 12 * s.d)) part_long
 
-  pub numbers_ask : length bytes ≡ file_length s → numbers_ok s (numbers_in bytes s) ≡ done tt
+  pub numbers_ask : length bytes ≡ file_length s → numbers_ok s (numbers_in bytes s) ≡ Ok tt
       → (8 + 12 * s.d + 8 * length (take (n - 0) f) ≤ length bytes) × (all_finite (numbers_from bytes (8 + 12 * s.d) (length (take (n - 0) f))) ≡ true)
   unfolding file_length numbers_in
   numbers_ask h ok =

@@ -11,8 +11,7 @@ use mir.Val.{Fits as Fits'}
 use borrow.Author.Tests.{lt-leb}
 use Rattle.answers.specs.declared.Refusal.{Refusal}
 use Rattle.answers.specs.declared.Refusal.TheVariants.{Axes, Size, File}
-use Rattle.answers.specs.declared.Verdict.{Verdict}
-use Rattle.answers.specs.declared.Verdict.TheVariants.{Fits, Refused}
+use Rattle.std.specs.Prelude.{Ok, Err}
 use Rattle.answers.specs.Outcome.{Answer, Check, ◌then◌, demand, verdict_of}
 use Rattle.answers.proofs.Checks.{demand_yes, demand_no}
 use Rattle.lists.proofs.Tests.{both, eqb_yes, eqb_no, leb_yes, not_no, not_yes}
@@ -25,70 +24,70 @@ use Rattle.fileform.specs.File.{entry_start, body_start, mark}
 use Rattle.fileform.specs.Reading.{read_header, entry_ok}
 
 -- a demand that stops, and one that lets pass
-stop : {A : Type 0} (b : Bool) (r : Refusal) (o : Answer A) → b ≡ false → Refused r ≡ verdict_of (demand b r then o)
-stop b r o e = sym (ap (λ (c : Check). verdict_of (c then o)) (demand_no b r e))
+stop : {A : Type 0} (b : Bool) (r : Refusal) (o : Answer A) → b ≡ false → Err r ≡ (demand b r then o)
+stop b r o e = sym (ap (λ (c : Check). c then o) (demand_no b r e))
 
-pass : {A : Type 0} (v : Verdict) (b : Bool) (r : Refusal) (o : Answer A) → b ≡ true → v ≡ verdict_of o → v ≡ verdict_of (demand b r then o)
-pass v b r o e h = h ∙ sym (ap (λ (c : Check). verdict_of (c then o)) (demand_yes b r e))
+pass : {A : Type 0} (v : Answer A) (b : Bool) (r : Refusal) (o : Answer A) → b ≡ true → v ≡ o → v ≡ (demand b r then o)
+pass v b r o e h = h ∙ sym (ap (λ (c : Check). c then o) (demand_yes b r e))
 
 -- ---- the header: m, z and d are what code found for the mark, the zero field and d
 module _ (bytes : List ℕ) where
-  pub header_short : length bytes < 8 → Refused (File (length bytes)) ≡ verdict_of (read_header bytes)
+  pub header_short : length bytes < 8 → Err (File (length bytes)) ≡ verdict_of (read_header bytes)
   unfolding read_header
-  header_short h = stop _ _ _ (lt-leb 8 (length bytes) h)
+  header_short h = ap verdict_of (stop _ _ _ (lt-leb 8 (length bytes) h))
 
   module _ (there : 8 ≤ length bytes) (m : ℕ) (em : m ≡ u32_at bytes 0) where
-    pub mark_wrong : (m ≡ 0x3143_5454 → ⊥) → Refused (File 0) ≡ verdict_of (read_header bytes)
+    pub mark_wrong : (m ≡ 0x3143_5454 → ⊥) → Err (File 0) ≡ verdict_of (read_header bytes)
     unfolding read_header number_at
-    mark_wrong h = pass _ _ _ _ (leb_yes 8 (length bytes) there) (stop _ _ _ (eqb_no (u32_at bytes 0) (u32_at mark 0) (λ e. h (em ∙ e))))
+    mark_wrong h = ap verdict_of (pass _ _ _ _ (leb_yes 8 (length bytes) there) (stop _ _ _ (eqb_no (u32_at bytes 0) (u32_at mark 0) (λ e. h (em ∙ e)))))
 
     module _ (right : m ≡ 0x3143_5454) (z : ℕ) (ez : z ≡ u16_at bytes 6) where
-      pub zero_wrong : (z ≡ 0 → ⊥) → Refused (File 6) ≡ verdict_of (read_header bytes)
+      pub zero_wrong : (z ≡ 0 → ⊥) → Err (File 6) ≡ verdict_of (read_header bytes)
       unfolding read_header number_at
       zero_wrong h =
-          pass _ _ _ _ (leb_yes 8 (length bytes) there)
+          ap verdict_of (pass _ _ _ _ (leb_yes 8 (length bytes) there)
           (pass _ _ _ _ (eqb_yes (u32_at bytes 0) (u32_at mark 0) (sym em ∙ right))
-          (stop _ _ _ (eqb_no (u16_at bytes 6) 0 (λ e. h (ez ∙ e)))))
+          (stop _ _ _ (eqb_no (u16_at bytes 6) 0 (λ e. h (ez ∙ e))))))
 
       module _ (clear : z ≡ 0) (d : ℕ) (ed : d ≡ u16_at bytes 4) (b : Bool) (eb : b ≡ within most_axes d) where
         within_told : b ≡ within most_axes (u16_at bytes 4)
         within_told = eb ∙ ap (within most_axes) ed
 
-        pub axes_wrong : not b ≡ true → Refused Axes ≡ verdict_of (read_header bytes)
+        pub axes_wrong : not b ≡ true → Err Axes ≡ verdict_of (read_header bytes)
         unfolding read_header number_at
         axes_wrong h =
-            pass _ _ _ _ (leb_yes 8 (length bytes) there)
+            ap verdict_of (pass _ _ _ _ (leb_yes 8 (length bytes) there)
             (pass _ _ _ _ (eqb_yes (u32_at bytes 0) (u32_at mark 0) (sym em ∙ right))
             (pass _ _ _ _ (eqb_yes (u16_at bytes 6) 0 (sym ez ∙ clear))
-            (stop _ _ _ (sym within_told ∙ not_yes b h))))
+            (stop _ _ _ (sym within_told ∙ not_yes b h)))))
 
-        pub header_right : not b ≡ false → Fits ≡ verdict_of (read_header bytes)
+        pub header_right : not b ≡ false → Ok tt ≡ verdict_of (read_header bytes)
         unfolding read_header number_at
         header_right h =
-            pass _ _ _ _ (leb_yes 8 (length bytes) there)
+            ap verdict_of (pass _ _ _ _ (leb_yes 8 (length bytes) there)
             (pass _ _ _ _ (eqb_yes (u32_at bytes 0) (u32_at mark 0) (sym em ∙ right))
             (pass _ _ _ _ (eqb_yes (u16_at bytes 6) 0 (sym ez ∙ clear))
-            (pass _ _ _ _ (sym within_told ∙ not_no b h) refl)))
+            (pass _ _ _ _ (sym within_told ∙ not_no b h) refl))))
 
 -- ---- an entry: b, z and o are what code found for its sizes, its zero field and its offset
 module _ (bytes : List ℕ) (s : Shape) (k : ℕ) (b : Bool) (eb : b ≡ size_ok s k) where
-  pub size_wrong : not b ≡ true → Refused (Size k) ≡ verdict_of (entry_ok bytes s k)
+  pub size_wrong : not b ≡ true → Err (Size k) ≡ entry_ok bytes s k
   unfolding entry_ok
   size_wrong h = stop _ _ _ (sym eb ∙ not_yes b h)
 
   module _ (fine : not b ≡ false) (z : ℕ) (ez : z ≡ u16_at bytes (entry_start k + 6)) where
-    pub void_wrong : (z ≡ 0 → ⊥) → Refused (File (entry_start k + 6)) ≡ verdict_of (entry_ok bytes s k)
+    pub void_wrong : (z ≡ 0 → ⊥) → Err (File (entry_start k + 6)) ≡ entry_ok bytes s k
     unfolding entry_ok
     void_wrong h = pass _ _ _ _ (sym eb ∙ not_no b fine) (stop _ _ _ (eqb_no _ 0 (λ e. h (ez ∙ e))))
 
     module _ (void : z ≡ 0) (o start : ℕ) (eo : o ≡ u32_at bytes (entry_start k + 8)) (es : start ≡ body_start s k) where
-      pub offset_wrong : (o ≡ start → ⊥) → Refused (File (entry_start k + 8)) ≡ verdict_of (entry_ok bytes s k)
+      pub offset_wrong : (o ≡ start → ⊥) → Err (File (entry_start k + 8)) ≡ entry_ok bytes s k
       unfolding entry_ok
-      offset_wrong h = pass _ _ _ _ (sym eb ∙ not_no b fine) (pass _ _ _ _ (eqb_yes _ 0 (sym ez ∙ void)) (sym (ap verdict_of (demand_no _ _ (eqb_no _ (body_start s k) (λ e. h (eo ∙ e ∙ sym es)))))))
+      offset_wrong h = pass _ _ _ _ (sym eb ∙ not_no b fine) (pass _ _ _ _ (eqb_yes _ 0 (sym ez ∙ void)) (sym ((demand_no _ _ (eqb_no _ (body_start s k) (λ e. h (eo ∙ e ∙ sym es)))))))
 
-      pub entry_right : o ≡ start → Fits ≡ verdict_of (entry_ok bytes s k)
+      pub entry_right : o ≡ start → Ok tt ≡ entry_ok bytes s k
       unfolding entry_ok
-      entry_right h = pass _ _ _ _ (sym eb ∙ not_no b fine) (pass _ _ _ _ (eqb_yes _ 0 (sym ez ∙ void)) (sym (ap verdict_of (demand_yes _ _ (eqb_yes _ (body_start s k) (sym eo ∙ h ∙ es))))))
+      entry_right h = pass _ _ _ _ (sym eb ∙ not_no b fine) (pass _ _ _ _ (eqb_yes _ 0 (sym ez ∙ void)) (sym ((demand_yes _ _ (eqb_yes _ (body_start s k) (sym eo ∙ h ∙ es))))))
 
 -- ---- how large a core is whose sizes passed
 module _ (s : Shape) (k : ℕ) (ok : size_ok s k ≡ true) where

@@ -8,9 +8,8 @@ use mathlib.Core.List.{List, [], ◌∷◌, ◌++◌, append_assoc}
 use lib.ListN.{length, get_or, length-append}
 use lib.Ieee.{Float}
 use Rattle.answers.specs.declared.Refusal.{Refusal}
-use Rattle.answers.specs.declared.Verdict.{Verdict}
-use Rattle.answers.specs.declared.Verdict.TheVariants.{Fits, Refused}
-use Rattle.answers.specs.Outcome.{done, Check, ◌then◌, verdict_of}
+use Rattle.std.specs.Prelude.{Ok, Err}
+use Rattle.answers.specs.Outcome.{Check, ◌then◌}
 use Rattle.answers.proofs.Checks.{then_is, verdict_passed, verdict_refused}
 use Rattle.lists.specs.Lists.{joined}
 use Rattle.lists.specs.Floats.{at, all_finite}
@@ -87,7 +86,7 @@ module _ (s : Shape) (chain : List Float) (out : List ℕ) (long : length out �
       both_long = let t = table_long in let r = room in let h = head_long in ap length ev ∙ placed_length 8 _ u (omega arith) ∙ head_long
 
       module _ (whole : length chain ≡ entries_of s) where
-        pub bodies_room : numbers_ok s chain ≡ done tt → (8 + 12 * s.d + 8 * length chain ≤ length v) × (all_finite chain ≡ true)
+        pub bodies_room : numbers_ok s chain ≡ Ok tt → (8 + 12 * s.d + 8 * length chain ≤ length v) × (all_finite chain ≡ true)
         bodies_room ok = let h = both_long in let r = room in (omega arith, numbers_finite s chain whole ok)
 
         pub file_made : (w : List ℕ) → w ≡ placed (8 + 12 * s.d) (bytes_of_all chain) v → w ≡ file_of s chain
@@ -108,22 +107,22 @@ module _ (s : Shape) (chain : List Float) (out : List ℕ) (long : length out �
             ∙ ap (λ (k : ℕ). h ++ (t ++ joined k (λ (i : ℕ). f64 (at chain i)))) whole
 
 -- ---- the call, by the verdict of its checks
-pub lengths_passed : (s : Shape) (chain out : ℕ) (v : Verdict) → v ≡ verdict_of (write_lent s chain out) → v ≡ Fits → entries_of s ≤ chain
+pub lengths_passed : (s : Shape) (chain out : ℕ) (v : Check) → v ≡ write_lent s chain out → v ≡ Ok tt → entries_of s ≤ chain
 unfolding write_lent
 lengths_passed s chain out v e h = le_of_eq (sym (lengths_say chain (entries_of s) out (file_length s) _ _ (verdict_passed (write_lent s chain out) v e h)).0)
 
-module _ (s : Shape) (chain : List Float) (out : List ℕ) (v : Verdict) (e : v ≡ verdict_of (write_ok s chain (length out))) where
-  pub write_stops : (r : Refusal) → v ≡ Refused r → (Refused r ≡ (write_call s chain out).result) × (out ≡ (write_call s chain out).out)
+module _ (s : Shape) (chain : List Float) (out : List ℕ) (v : Check) (e : v ≡ write_ok s chain (length out)) where
+  pub write_stops : (r : Refusal) → v ≡ Err r → (Err r ≡ (write_call s chain out).result) × (out ≡ (write_call s chain out).out)
   unfolding write_call write_exit writing
   write_stops r h =
       let k = verdict_refused (write_ok s chain (length out)) v r e h in
-      (sym (ap (λ (c : Check). (write_exit out (c then done (file_of s chain))).result) k), sym (ap (λ (c : Check). (write_exit out (c then done (file_of s chain))).out) k))
+      (sym (ap (λ (c : Check). (write_exit out (c then Ok (file_of s chain))).result) k), sym (ap (λ (c : Check). (write_exit out (c then Ok (file_of s chain))).out) k))
 
-  module _ (h : v ≡ Fits) where
-    passed : write_ok s chain (length out) ≡ done tt
+  module _ (h : v ≡ Ok tt) where
+    passed : write_ok s chain (length out) ≡ Ok tt
     passed = verdict_passed (write_ok s chain (length out)) v e h
 
-    pub write_asks : SizesWithin s × ((length chain ≡ entries_of s) × (length out ≡ file_length s) × (numbers_ok s chain ≡ done tt))
+    pub write_asks : SizesWithin s × ((length chain ≡ entries_of s) × (length out ≡ file_length s) × (numbers_ok s chain ≡ Ok tt))
     unfolding write_ok write_lent
     write_asks =
         let a = then_is (chain_ok s) _ tt passed in
@@ -131,7 +130,7 @@ module _ (s : Shape) (chain : List Float) (out : List ℕ) (v : Verdict) (e : v 
         let l = lengths_say (length chain) (entries_of s) (length out) (file_length s) _ _ b.0 in
         ((shaped s (λ (k : ℕ). true) a.0).sizes, (l.0, l.1, b.1))
 
-    pub write_made : (o : List ℕ) → o ≡ file_of s chain → (Fits ≡ (write_call s chain out).result) × (o ≡ (write_call s chain out).out)
+    pub write_made : (o : List ℕ) → o ≡ file_of s chain → ((Ok tt) ≡ (write_call s chain out).result) × (o ≡ (write_call s chain out).out)
     unfolding write_call write_exit writing
     write_made o d =
-        (sym (ap (λ (c : Check). (write_exit out (c then done (file_of s chain))).result) passed), d ∙ sym (ap (λ (c : Check). (write_exit out (c then done (file_of s chain))).out) passed))
+        (sym (ap (λ (c : Check). (write_exit out (c then Ok (file_of s chain))).result) passed), d ∙ sym (ap (λ (c : Check). (write_exit out (c then Ok (file_of s chain))).out) passed))

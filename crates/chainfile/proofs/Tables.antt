@@ -13,10 +13,9 @@ use mir.Syntax.{w64}
 use mir.Val.{Fits as Fits'}
 use Rattle.answers.specs.declared.Refusal.{Refusal}
 use Rattle.answers.specs.declared.Refusal.TheVariants.{File}
-use Rattle.answers.specs.declared.Verdict.{Verdict}
-use Rattle.answers.specs.declared.Verdict.TheVariants.{Fits, Refused}
-use Rattle.answers.specs.Outcome.{done, refused, bind, Answer, Check, ◌then◌, verdict_of}
-use Rattle.answers.proofs.Outcomes.{fits_done}
+use Rattle.std.specs.Prelude.{Ok, Err}
+use Rattle.answers.specs.Outcome.{bind, Answer, Check, ◌then◌, verdict_of}
+use Rattle.answers.proofs.Outcomes.{passed_ok}
 use Rattle.answers.proofs.Checks.{demand_yes, demand_no, verdict_passed, verdict_refused}
 use Rattle.lists.specs.Lists.{tab}
 use Rattle.lists.specs.Slots.{offset, fit}
@@ -82,22 +81,22 @@ module _ (bytes : List ℕ) (s : Shape) where
   entries_none h = record { most = omega arith; here = sym (add-zero _); small = omega arith; rest = rw sub-zero }
 
   module _ (start k : ℕ) (A : AtEntry start k) where
-    pub entries_done : s.d ≤ k → Fits ≡ verdict_of all
+    pub entries_done : s.d ≤ k → Ok tt ≡ all
     unfolding turning
-    entries_done h = let z : s.d - k ≡ 0 = omega arith in sym (ap verdict_of (A.rest ∙ ap (λ (m : ℕ). turning m k turn tt) z))
+    entries_done h = let z : s.d - k ≡ 0 = omega arith in sym ((A.rest ∙ ap (λ (m : ℕ). turning m k turn tt) z))
 
-    module _ (lt : k < s.d) (v : Verdict) (e : v ≡ verdict_of (entry_ok bytes s k)) where
+    module _ (lt : k < s.d) (v : Check) (e : v ≡ entry_ok bytes s k) where
       opened : all ≡ entry_ok bytes s k then turning (s.d - (k + 1)) (k + 1) turn tt
       unfolding turning
       opened = let z : s.d - k ≡ suc (s.d - (k + 1)) = omega arith in A.rest ∙ rw (z, add-one)
 
-      pub entries_stop : (r : Refusal) → v ≡ Refused r → Refused r ≡ verdict_of all
-      entries_stop r h = sym (ap verdict_of (opened ∙ ap (λ (c : Check). c then turning (s.d - (k + 1)) (k + 1) turn tt) (verdict_refused (entry_ok bytes s k) v r e h)))
+      pub entries_stop : (r : Refusal) → v ≡ Err r → Err r ≡ all
+      entries_stop r h = sym ((opened ∙ ap (λ (c : Check). c then turning (s.d - (k + 1)) (k + 1) turn tt) (verdict_refused (entry_ok bytes s k) v r e h)))
 
-      pub entry_sized : v ≡ Fits → size_ok s k ≡ true
+      pub entry_sized : v ≡ Ok tt → size_ok s k ≡ true
       entry_sized h = (entry_is bytes s k (verdict_passed (entry_ok bytes s k) v e h)).sizes
 
-      pub entries_more : v ≡ Fits → (x : ℕ) → (x ≡ 8 * core_size s k) × (x ≤ 8 * most_core) → AtEntry (start + x) (k + 1)
+      pub entries_more : v ≡ Ok tt → (x : ℕ) → (x ≡ 8 * core_size s k) × (x ≤ 8 * most_core) → AtEntry (start + x) (k + 1)
       unfolding body_start offset
       entries_more h x g =
           let b : start ≡ 8 + 12 * s.d + 8 * offset (core_size s) k = A.here in
@@ -113,62 +112,62 @@ module _ (bytes : List ℕ) (s : Shape) where
   start_fits start k x A lt few h = record { fits = omega (arith, A.small) }
 
 -- ---- an answer by the verdict of a check before it
-module _ (c : Check) (o : Answer Shape) (v : Verdict) (e : v ≡ verdict_of c) (x : Read) where
-  pub read_stops : (r : Refusal) → v ≡ Refused r → x ≡ read_by (refused r) → x ≡ read_by (c then o)
+module _ (c : Check) (o : Answer Shape) (v : Check) (e : v ≡ c) (x : Read) where
+  pub read_stops : (r : Refusal) → v ≡ Err r → x ≡ read_by (Err r) → x ≡ read_by (c then o)
   read_stops r h g = g ∙ sym (ap (λ (d : Check). read_by (d then o)) (verdict_refused c v r e h))
 
-  pub read_passes : v ≡ Fits → x ≡ read_by o → x ≡ read_by (c then o)
+  pub read_passes : v ≡ Ok tt → x ≡ read_by o → x ≡ read_by (c then o)
   read_passes h g = g ∙ sym (ap (λ (d : Check). read_by (d then o)) (verdict_passed c v e h))
 
 -- ---- the table
 module _ (bytes : List ℕ) (d : ℕ) where
-  pub table_short : (x : Read) → length bytes < entry_start d → x ≡ read_by (refused (File (length bytes))) → x ≡ read_by (read_table bytes d)
+  pub table_short : (x : Read) → length bytes < entry_start d → x ≡ read_by (Err (File (length bytes))) → x ≡ read_by (read_table bytes d)
   unfolding read_table
-  table_short x h g = g ∙ sym (ap (λ (c : Check). read_by (c then table_ok bytes (shape_in bytes d) then done (shape_in bytes d))) (demand_no _ _ (lt-leb (entry_start d) (length bytes) h)))
+  table_short x h g = g ∙ sym (ap (λ (c : Check). read_by (c then table_ok bytes (shape_in bytes d) then Ok (shape_in bytes d))) (demand_no _ _ (lt-leb (entry_start d) (length bytes) h)))
 
   module _ (there : entry_start d ≤ length bytes) (s : Shape) (e : s ≡ shape_in bytes d) where
     pub table_asks : d ≤ most_axes → (s.d ≤ most_axes) × (entry_start s.d ≤ length bytes)
     unfolding shape_in shape_with
     table_asks h = let z : s.d ≡ d = ap (λ (x : Shape). x.d) e in (omega arith, omega arith)
 
-    module _ (v : Verdict) (f : v ≡ verdict_of (table_ok bytes s)) (x : Read) where
-      found : read_table bytes d ≡ table_ok bytes s then done s
+    module _ (v : Check) (f : v ≡ table_ok bytes s) (x : Read) where
+      found : read_table bytes d ≡ table_ok bytes s then Ok s
       unfolding read_table
       found =
-          ap (λ (c : Check). c then table_ok bytes (shape_in bytes d) then done (shape_in bytes d)) (demand_yes _ _ (le-leb (entry_start d) (length bytes) there))
-          ∙ ap (λ (t : Shape). table_ok bytes t then done t) (sym e)
+          ap (λ (c : Check). c then table_ok bytes (shape_in bytes d) then Ok (shape_in bytes d)) (demand_yes _ _ (le-leb (entry_start d) (length bytes) there))
+          ∙ ap (λ (t : Shape). table_ok bytes t then Ok t) (sym e)
 
-      pub table_stops : (r : Refusal) → v ≡ Refused r → x ≡ read_by (refused r) → x ≡ read_by (read_table bytes d)
-      table_stops r h g = read_stops (table_ok bytes s) (done s) v f x r h g ∙ sym (ap read_by found)
+      pub table_stops : (r : Refusal) → v ≡ Err r → x ≡ read_by (Err r) → x ≡ read_by (read_table bytes d)
+      table_stops r h g = read_stops (table_ok bytes s) (Ok s) v f x r h g ∙ sym (ap read_by found)
 
-      pub table_reads : v ≡ Fits → x ≡ read_by (done s) → x ≡ read_by (read_table bytes d)
-      table_reads h g = read_passes (table_ok bytes s) (done s) v f x h g ∙ sym (ap read_by found)
+      pub table_reads : v ≡ Ok tt → x ≡ read_by (Ok s) → x ≡ read_by (read_table bytes d)
+      table_reads h g = read_passes (table_ok bytes s) (Ok s) v f x h g ∙ sym (ap read_by found)
 
 pub ruleset tabled = (table_short, table_asks, table_stops, table_reads)
 
 -- ---- header and table
-module _ (bytes : List ℕ) (v : Verdict) (e : v ≡ verdict_of (read_header bytes)) where
-  pub contents_stop : (x : Read) (r : Refusal) → v ≡ Refused r → x ≡ read_by (refused r) → x ≡ read_by (read_contents bytes)
+module _ (bytes : List ℕ) (v : Check) (e : v ≡ verdict_of (read_header bytes)) where
+  pub contents_stop : (x : Read) (r : Refusal) → v ≡ Err r → x ≡ read_by (Err r) → x ≡ read_by (read_contents bytes)
   unfolding read_contents
   contents_stop x r h g = go (read_header bytes) (sym e ∙ h)
     where
-      go : (o : Answer ℕ) → verdict_of o ≡ Refused r → x ≡ read_by (bind o (read_table bytes))
-      go (done d) k = let z : ◌≡◌ {A = ℕ} 0 1 = cc in absurd (omega arith)
-      go (refused q) k = let z : q ≡ r = cc in g ∙ rw z
+      go : (o : Answer ℕ) → verdict_of o ≡ Err r → x ≡ read_by (bind o (read_table bytes))
+      go (Ok d) k = let z : ◌≡◌ {A = ℕ} 0 1 = cc in absurd (omega arith)
+      go (Err q) k = let z : q ≡ r = cc in g ∙ rw z
 
-  module _ (h : v ≡ Fits) where
+  module _ (h : v ≡ Ok tt) where
     pub header_long : 8 ≤ length bytes
-    header_long = let a = fits_done (read_header bytes) (sym e ∙ h) in (header_is bytes a.0 a.1).there
+    header_long = let a = passed_ok (read_header bytes) (sym e ∙ h) in (header_is bytes a.0 a.1).there
 
     pub header_few : (d : ℕ) → d ≡ u16_at bytes 4 → d ≤ most_axes
     header_few d g =
-        let a = fits_done (read_header bytes) (sym e ∙ h) in
+        let a = passed_ok (read_header bytes) (sym e ∙ h) in
         let b = header_is bytes a.0 a.1 in
         omega (arith, g, b.axes, (within_is most_axes a.0 b.few).1)
 
     pub contents_read : (d : ℕ) → d ≡ u16_at bytes 4 → (x : Read) → x ≡ read_by (read_table bytes d) → x ≡ read_by (read_contents bytes)
     unfolding read_contents
     contents_read d g x f =
-        let a = fits_done (read_header bytes) (sym e ∙ h) in
+        let a = passed_ok (read_header bytes) (sym e ∙ h) in
         let b = header_is bytes a.0 a.1 in
         f ∙ ap (λ (i : ℕ). read_by (read_table bytes i)) (g ∙ b.axes) ∙ sym (ap (λ (o : Answer ℕ). read_by (bind o (read_table bytes))) a.1)

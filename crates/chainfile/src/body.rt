@@ -1,6 +1,5 @@
 // The numbers behind the table: checked where they stand, then made.
-ghost use Rattle.std.specs.Prelude.{◌≡◌, ℕ, ◌≤◌, length};
-ghost use Rattle.answers.specs.Outcome.{done, verdict_of};
+ghost use Rattle.std.specs.Prelude.{◌≡◌, ℕ, ◌≤◌, length, Ok};
 ghost use Rattle.numbers.specs.Arithmetic.{zero64};
 ghost use Rattle.lists.specs.Lists.{first_not};
 ghost use Rattle.lists.specs.Slots.{slot, fit};
@@ -11,7 +10,7 @@ ghost use Rattle.fileform.specs.File.{file_length};
 ghost use Rattle.fileform.specs.Calls.{numbers_ok};
 ghost use Rattle.fileform.specs.Reading.{numbers_in};
 
-use answers::{Refusal, Verdict};
+use answers::Refusal;
 
 // The first core with a number that isn't finite, or d.
 fn first_bad_core(bytes: &[u8], s: shape::Shape) -> usize
@@ -33,23 +32,23 @@ fn first_bad_core(bytes: &[u8], s: shape::Shape) -> usize
 }
 
 // Whether the numbers are all finite.
-pub fn numbers_ok(bytes: &[u8], s: shape::Shape) -> Verdict
+pub fn numbers_ok(bytes: &[u8], s: shape::Shape) -> Result<(), Refusal>
     requires sizes_within { SizesWithin s }
     requires bytes_len { length bytes.now ≡ file_length s }
-    ensures { result ≡ verdict_of (numbers_ok s (numbers_in bytes.now s)) }
+    ensures { result ≡ numbers_ok s (numbers_in bytes.now s) }
 {
     let d = s.d;
     let core = first_bad_core(bytes, s);
     if core < d {
-        return Verdict::Refused(Refusal::Number(core));
+        return Err(Refusal::Number(core));
     }
-    Verdict::Fits
+    Ok(())
 }
 
 // The numbers go to the front of out, +0 to the rest.
 pub fn take_numbers(bytes: &[u8], s: shape::Shape, out: &mut [f64])
     requires sizes_within { SizesWithin s }
-    requires bytes_len { (length bytes.now ≡ file_length s) × (entries_of s ≤ length out.old) × (numbers_ok s (numbers_in bytes.now s) ≡ done tt) }
+    requires bytes_len { (length bytes.now ≡ file_length s) × (entries_of s ≤ length out.old) × (numbers_ok s (numbers_in bytes.now s) ≡ Ok tt) }
     ensures { out.new ≡ fit zero64 (length out.old) (numbers_in bytes.now s) }
 {
     let n = s.entries();

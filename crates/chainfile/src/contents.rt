@@ -1,6 +1,6 @@
 // What stands before the bodies of a chain file: the header and the table.
-ghost use Rattle.std.specs.Prelude.{◌≡◌, true, ℕ, ◌+◌, ◌*◌, ◌≤◌, ◌<◌, length};
-ghost use Rattle.answers.specs.Outcome.{done, refused, verdict_of};
+ghost use Rattle.std.specs.Prelude.{◌≡◌, true, ℕ, ◌+◌, ◌*◌, ◌≤◌, ◌<◌, length, Ok, Err};
+ghost use Rattle.answers.specs.Outcome.{verdict_of};
 ghost use Rattle.lists.specs.Lists.{tab};
 ghost use Rattle.lists.specs.Slots.{fit};
 ghost use Rattle.lists.specs.Walks.{turning};
@@ -10,15 +10,15 @@ ghost use Rattle.words.specs.Bytes.{u16_at};
 ghost use Rattle.fileform.specs.File.{entry_start, body_start};
 ghost use Rattle.fileform.specs.Reading.{read_header, shape_in, entry_ok, table_ok, read_table, read_contents, read_by};
 
-use answers::{Refusal, Verdict};
+use answers::Refusal;
 use fileform::Read;
 
 pub fn refused_read(r: Refusal) -> Read
-    ensures { result ≡ read_by (refused r) }
+    ensures { result ≡ read_by (Err r) }
 {
     let none = [0; shape::MOST_AXES];
     Read {
-        verdict: Verdict::Refused(r),
+        verdict: Err(r),
         shape: shape::Shape {
             d: 0,
             left: none,
@@ -29,10 +29,10 @@ pub fn refused_read(r: Refusal) -> Read
 }
 
 pub fn read_as(s: shape::Shape) -> Read
-    ensures { result ≡ read_by (done s) }
+    ensures { result ≡ read_by (Ok s) }
 {
     Read {
-        verdict: Verdict::Fits,
+        verdict: Ok(()),
         shape: s,
     }
 }
@@ -41,22 +41,22 @@ pub fn read_as(s: shape::Shape) -> Read
 const MARK: usize = 0x3143_5454;
 
 // Length, mark, zero field, d.
-pub fn header_ok(bytes: &[u8]) -> Verdict
+pub fn header_ok(bytes: &[u8]) -> Result<(), Refusal>
     ensures { result ≡ verdict_of (read_header bytes.now) }
 {
     if bytes.len() < 8 {
-        return Verdict::Refused(Refusal::File(bytes.len()));
+        return Err(Refusal::File(bytes.len()));
     }
     if words::u32_at(bytes, 0) != MARK {
-        return Verdict::Refused(Refusal::File(0));
+        return Err(Refusal::File(0));
     }
     if words::u16_at(bytes, 6) != 0 {
-        return Verdict::Refused(Refusal::File(6));
+        return Err(Refusal::File(6));
     }
     if !shape::within(shape::MOST_AXES, words::u16_at(bytes, 4)) {
-        return Verdict::Refused(Refusal::Axes);
+        return Err(Refusal::Axes);
     }
-    Verdict::Fits
+    Ok(())
 }
 
 // The field at `at` of each of d entries.
@@ -85,21 +85,21 @@ fn shape_in(bytes: &[u8], d: usize) -> shape::Shape
 }
 
 // Entry k: sizes, zero, offset. `start` is where the body of core k belongs.
-fn entry_ok(bytes: &[u8], s: shape::Shape, k: usize, start: usize) -> Verdict
+fn entry_ok(bytes: &[u8], s: shape::Shape, k: usize, start: usize) -> Result<(), Refusal>
     requires { (k < most_axes) × (entry_start k + 12 ≤ length bytes.now) × (start ≡ body_start s k) }
-    ensures { result ≡ verdict_of (entry_ok bytes.now s k) }
+    ensures { result ≡ entry_ok bytes.now s k }
 {
     let at = 8 + 12 * k;
     if !s.size_ok(k) {
-        return Verdict::Refused(Refusal::Size(k));
+        return Err(Refusal::Size(k));
     }
     if words::u16_at(bytes, at + 6) != 0 {
-        return Verdict::Refused(Refusal::File(at + 6));
+        return Err(Refusal::File(at + 6));
     }
     if words::u32_at(bytes, at + 8) != start {
-        return Verdict::Refused(Refusal::File(at + 8));
+        return Err(Refusal::File(at + 8));
     }
-    Verdict::Fits
+    Ok(())
 }
 
 // How many bytes the body of core k has.
@@ -111,31 +111,31 @@ fn body_size(s: shape::Shape, k: usize) -> usize
 }
 
 // Entry by entry.
-fn entries_ok(bytes: &[u8], s: shape::Shape) -> Verdict
+fn entries_ok(bytes: &[u8], s: shape::Shape) -> Result<(), Refusal>
     requires { (s.d ≤ most_axes) × (entry_start s.d ≤ length bytes.now) }
-    ensures { result ≡ verdict_of (turning s.d 0 (λ (k : ℕ) _. entry_ok bytes.now s k) tt) }
+    ensures { result ≡ (turning s.d 0 (λ (k : ℕ) _. entry_ok bytes.now s k) tt) }
 {
     let mut start = 8 + 12 * s.d;
     let mut k = 0;
     while k < s.d {
         let ok = entry_ok(bytes, s, k, start);
-        if let Verdict::Refused(r) = ok {
-            return Verdict::Refused(r);
+        if let Err(r) = ok {
+            return Err(r);
         }
         start += body_size(s, k);
         k += 1;
     }
-    Verdict::Fits
+    Ok(())
 }
 
 // Entries, then bonds.
-fn table_ok(bytes: &[u8], s: shape::Shape) -> Verdict
+fn table_ok(bytes: &[u8], s: shape::Shape) -> Result<(), Refusal>
     requires { (s.d ≤ most_axes) × (entry_start s.d ≤ length bytes.now) }
-    ensures { result ≡ verdict_of (table_ok bytes.now s) }
+    ensures { result ≡ table_ok bytes.now s }
 {
     let entries = entries_ok(bytes, s);
-    if let Verdict::Refused(r) = entries {
-        return Verdict::Refused(r);
+    if let Err(r) = entries {
+        return Err(r);
     }
     s.check()
 }
@@ -150,7 +150,7 @@ fn read_table(bytes: &[u8], d: usize) -> Read
     }
     let s = shape_in(bytes, d);
     let ok = table_ok(bytes, s);
-    if let Verdict::Refused(r) = ok {
+    if let Err(r) = ok {
         return refused_read(r);
     }
     read_as(s)
@@ -161,7 +161,7 @@ pub fn read_contents(bytes: &[u8]) -> Read
     ensures { result ≡ read_by (read_contents bytes.now) }
 {
     let ok = header_ok(bytes);
-    if let Verdict::Refused(r) = ok {
+    if let Err(r) = ok {
         return refused_read(r);
     }
     read_table(bytes, words::u16_at(bytes, 4))

@@ -6,30 +6,29 @@ pub mod contents;
 pub mod making;
 
 ghost use Rattle.std.specs.Prelude.{◌≡◌, ◌≤◌, length};
-ghost use Rattle.answers.specs.Outcome.{verdict_of};
 ghost use Rattle.shape.specs.Shapes.{entries_of};
 ghost use Rattle.shape.specs.Sizes.{SizesWithin};
 ghost use Rattle.fileform.specs.Calls.{numbers_ok};
 ghost use Rattle.fileform.specs.Writing.{write_lent, write_ok, write_call};
 ghost use Rattle.fileform.specs.Reading.{lengths_ok, read_by, read_ok, read_call};
 
-use answers::{Refusal, Verdict};
+use answers::Refusal;
 use fileform::Read;
 use shape::Shape;
 
 // The file's length, then the room.
-fn lengths_ok(s: Shape, bytes: usize, room: usize) -> Verdict
+fn lengths_ok(s: Shape, bytes: usize, room: usize) -> Result<(), Refusal>
     requires { SizesWithin s }
-    ensures { result ≡ verdict_of (lengths_ok s bytes room) }
+    ensures { result ≡ lengths_ok s bytes room }
 {
     let n = s.entries();
     if bytes != 8 + 12 * s.d + 8 * n {
-        return Verdict::Refused(Refusal::File(bytes));
+        return Err(Refusal::File(bytes));
     }
     if room < n {
-        return Verdict::Refused(Refusal::Length(1));
+        return Err(Refusal::Length(1));
     }
-    Verdict::Fits
+    Ok(())
 }
 
 // Every check of reading, with room for so many numbers.
@@ -38,16 +37,16 @@ pub fn read_ok(bytes: &[u8], room: usize) -> Read
 {
     let found = contents::read_contents(bytes);
     let told = found.verdict;
-    if let Verdict::Refused(r) = told {
+    if let Err(r) = told {
         return contents::refused_read(r);
     }
     let s = found.shape;
     let lent = lengths_ok(s, bytes.len(), room);
-    if let Verdict::Refused(r) = lent {
+    if let Err(r) = lent {
         return contents::refused_read(r);
     }
     let ok = body::numbers_ok(bytes, s);
-    if let Verdict::Refused(r) = ok {
+    if let Err(r) = ok {
         return contents::refused_read(r);
     }
     contents::read_as(s)
@@ -60,7 +59,7 @@ pub fn read_chain(bytes: &[u8], out: &mut [f64]) -> Read
 {
     let found = read_ok(bytes, out.len());
     let told = found.verdict;
-    if let Verdict::Refused(r) = told {
+    if let Err(r) = told {
         return contents::refused_read(r);
     }
     let s = found.shape;
@@ -69,58 +68,58 @@ pub fn read_chain(bytes: &[u8], out: &mut [f64]) -> Read
 }
 
 // The chain's length, then the output's.
-fn write_lent(s: Shape, chain: usize, out: usize) -> Verdict
+fn write_lent(s: Shape, chain: usize, out: usize) -> Result<(), Refusal>
     requires { SizesWithin s }
-    ensures { result ≡ verdict_of (write_lent s chain out) }
+    ensures { result ≡ write_lent s chain out }
 {
     let n = s.entries();
     if chain != n {
-        return Verdict::Refused(Refusal::Length(0));
+        return Err(Refusal::Length(0));
     }
     if out != 8 + 12 * s.d + 8 * n {
-        return Verdict::Refused(Refusal::Length(1));
+        return Err(Refusal::Length(1));
     }
-    Verdict::Fits
+    Ok(())
 }
 
 // The first core with a number that isn't finite.
-fn write_finite(s: Shape, chain: &[f64]) -> Verdict
+fn write_finite(s: Shape, chain: &[f64]) -> Result<(), Refusal>
     requires sizes_within { SizesWithin s }
     requires s_in_bounds { entries_of s ≤ length chain.now }
-    ensures { result ≡ verdict_of (numbers_ok s chain.now) }
+    ensures { result ≡ numbers_ok s chain.now }
 {
     let d = s.d;
     let core = s.first_not_finite_core(chain);
     if core < d {
-        return Verdict::Refused(Refusal::Number(core));
+        return Err(Refusal::Number(core));
     }
-    Verdict::Fits
+    Ok(())
 }
 
 // Every check of writing, into an output of so many bytes.
-fn write_ok(s: Shape, chain: &[f64], out: usize) -> Verdict
-    ensures { result ≡ verdict_of (write_ok s chain.now out) }
+fn write_ok(s: Shape, chain: &[f64], out: usize) -> Result<(), Refusal>
+    ensures { result ≡ write_ok s chain.now out }
 {
     let shaped = s.check();
-    if let Verdict::Refused(r) = shaped {
-        return Verdict::Refused(r);
+    if let Err(r) = shaped {
+        return Err(r);
     }
     let lent = write_lent(s, chain.len(), out);
-    if let Verdict::Refused(r) = lent {
-        return Verdict::Refused(r);
+    if let Err(r) = lent {
+        return Err(r);
     }
     write_finite(s, chain)
 }
 
 // Writing the one file of a chain, into an output of exactly its length.
-pub fn write_chain(s: Shape, chain: &[f64], out: &mut [u8]) -> Verdict
+pub fn write_chain(s: Shape, chain: &[f64], out: &mut [u8]) -> Result<(), Refusal>
     ensures { (result ≡ (write_call s chain.now out.old).result)
         × (out.new ≡ (write_call s chain.now out.old).out) }
 {
     let ok = write_ok(s, chain, out.len());
-    if let Verdict::Refused(r) = ok {
-        return Verdict::Refused(r);
+    if let Err(r) = ok {
+        return Err(r);
     }
     making::put_file(s, chain, out);
-    Verdict::Fits
+    Ok(())
 }

@@ -1,6 +1,5 @@
 // The one file of an accepted chain, made.
-ghost use Rattle.std.specs.Prelude.{◌≡◌, ◌≤◌, ◌<◌, length};
-ghost use Rattle.answers.specs.Outcome.{done};
+ghost use Rattle.std.specs.Prelude.{◌≡◌, ◌≤◌, ◌<◌, length, Ok};
 ghost use Rattle.lists.specs.Lists.{joined};
 ghost use Rattle.shape.specs.Limits.{most_axes};
 ghost use Rattle.shape.specs.Shapes.{entries_of};
@@ -49,7 +48,7 @@ fn put_table(s: shape::Shape, out: &mut [u8])
 // Header, table and bodies.
 pub fn put_file(s: shape::Shape, chain: &[f64], out: &mut [u8])
     requires sizes_within { SizesWithin s }
-    requires chain_len { (length chain.now ≡ entries_of s) × (length out.old ≡ file_length s) × (numbers_ok s chain.now ≡ done tt) }
+    requires chain_len { (length chain.now ≡ entries_of s) × (length out.old ≡ file_length s) × (numbers_ok s chain.now ≡ Ok tt) }
     ensures { out.new ≡ file_of s chain.now }
 {
     words::put(&header_bytes(s.d), out, 0);

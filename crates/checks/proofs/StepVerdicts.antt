@@ -7,9 +7,8 @@ use mathlib.Core.List.{List}
 use lib.Ieee.{Float}
 use Rattle.answers.specs.declared.Refusal.{Refusal}
 use Rattle.answers.specs.declared.Refusal.TheVariants.{Number, Setting, Reach}
-use Rattle.answers.specs.declared.Verdict.{Verdict}
-use Rattle.answers.specs.declared.Verdict.TheVariants.{Fits, Refused}
-use Rattle.answers.specs.Outcome.{Check, ◌then◌, demand, demand_each, verdict_of}
+use Rattle.std.specs.Prelude.{Ok, Err}
+use Rattle.answers.specs.Outcome.{Check, ◌then◌, demand, demand_each}
 use Rattle.answers.proofs.Checks.{then_stops, then_passes}
 use Rattle.lists.specs.Lists.{first_not}
 use Rattle.lists.specs.Floats.{all_finite}
@@ -29,18 +28,18 @@ use Rattle.stepform.specs.Call.{reaches_at, axis_reaches, zones_finite, settings
 -- ---- a check with more behind it, by what code found of a flag, a number, a first place
 module _ (o : Check) (r : Refusal) where
   module _ (b : Bool) where
-    pub flag_stops : not b ≡ true → Refused r ≡ verdict_of (demand b r then o)
-    flag_stops h = then_stops (demand b r) o (Refused r) (test_wrong b b r refl h) r refl
+    pub flag_stops : not b ≡ true → Err r ≡ (demand b r then o)
+    flag_stops h = then_stops (demand b r) o (Err r) (test_wrong b b r refl h) r refl
 
-    pub flag_passes : not b ≡ false → (w : Verdict) → w ≡ verdict_of o → w ≡ verdict_of (demand b r then o)
-    flag_passes h w g = then_passes (demand b r) o Fits (test_right b b r refl h) w refl g
+    pub flag_passes : not b ≡ false → (w : Check) → w ≡ o → w ≡ (demand b r then o)
+    flag_passes h w g = then_passes (demand b r) o (Ok tt) (test_right b b r refl h) w refl g
 
   module _ (a b : ℕ) where
-    pub count_stops : (a ≡ b → ⊥) → Refused r ≡ verdict_of (demand (eqb a b) r then o)
-    count_stops h = then_stops (demand (eqb a b) r) o (Refused r) (length_wrong a b r h) r refl
+    pub count_stops : (a ≡ b → ⊥) → Err r ≡ (demand (eqb a b) r then o)
+    count_stops h = then_stops (demand (eqb a b) r) o (Err r) (length_wrong a b r h) r refl
 
-    pub count_passes : a ≡ b → (w : Verdict) → w ≡ verdict_of o → w ≡ verdict_of (demand (eqb a b) r then o)
-    count_passes h w g = then_passes (demand (eqb a b) r) o Fits (length_right a b r h) w refl g
+    pub count_passes : a ≡ b → (w : Check) → w ≡ o → w ≡ (demand (eqb a b) r then o)
+    count_passes h w g = then_passes (demand (eqb a b) r) o (Ok tt) (length_right a b r h) w refl g
 
 pub ruleset guards = (flag_stops, flag_passes, count_stops, count_passes, then_stops, then_passes)
 
@@ -51,15 +50,15 @@ module _ (s : Shape) (xs : List Axis) (chain : List Float) (i j : ℕ)
   abbrev axis : ℕ → Bool
   axis k = axis_finite (axis_at xs k)
 
-  pub core_wrong : i ≤ j → i < s.d → Refused (Number i) ≡ verdict_of (zones_finite s xs chain)
+  pub core_wrong : i ≤ j → i < s.d → Err (Number i) ≡ zones_finite s xs chain
   unfolding zones_finite core_finite
   core_wrong h l = left_wrong (core_finite s chain) axis s.d i j e f Number h l
 
-  pub zones_right : i ≤ j → s.d ≤ i → Fits ≡ verdict_of (zones_finite s xs chain)
+  pub zones_right : i ≤ j → s.d ≤ i → Ok tt ≡ zones_finite s xs chain
   unfolding zones_finite core_finite
   zones_right h l = neither_wrong (core_finite s chain) axis s.d i j e f Number h l
 
-  pub axis_wrong : j < i → Refused (Number j) ≡ verdict_of (zones_finite s xs chain)
+  pub axis_wrong : j < i → Err (Number j) ≡ zones_finite s xs chain
   unfolding zones_finite core_finite
   axis_wrong h = right_wrong (core_finite s chain) axis s.d i j e f Number h
 
@@ -83,28 +82,28 @@ module _ (mild : Bool) (t : Settings) (s : Shape) (xs : List Axis) where
   abbrev mild_each : Check
   mild_each = demand_each Setting (λ (k : ℕ). axis_ok (axis_at xs k)) s.d 0
 
-  pub lone_wrong : not mild ≡ true → Refused (Setting 0) ≡ verdict_of (settings_ok mild t s xs)
+  pub lone_wrong : not mild ≡ true → Err (Setting 0) ≡ settings_ok mild t s xs
   unfolding settings_ok
   lone_wrong h = flag_stops (mild_each then reach) (Setting 0) mild h
 
   module _ (h : not mild ≡ false) (i : ℕ) (e : i ≡ first_not (λ (k : ℕ). axis_ok (axis_at xs k)) s.d) where
-    pub record_wrong : i < s.d → Refused (Setting i) ≡ verdict_of (settings_ok mild t s xs)
+    pub record_wrong : i < s.d → Err (Setting i) ≡ settings_ok mild t s xs
     unfolding settings_ok
     record_wrong l =
-        flag_passes (mild_each then reach) (Setting 0) mild h (Refused (Setting i))
-        (then_stops mild_each reach (Refused (Setting i)) (place_wrong (λ (k : ℕ). axis_ok (axis_at xs k)) s.d i e Setting l) (Setting i) refl)
+        flag_passes (mild_each then reach) (Setting 0) mild h (Err (Setting i))
+        (then_stops mild_each reach (Err (Setting i)) (place_wrong (λ (k : ℕ). axis_ok (axis_at xs k)) s.d i e Setting l) (Setting i) refl)
 
     module _ (l : s.d ≤ i) (j : ℕ) (f : j ≡ first_not (axis_reaches t s xs) s.d) where
-      on : (w : Verdict) → w ≡ verdict_of reach → w ≡ verdict_of (settings_ok mild t s xs)
+      on : (w : Check) → w ≡ reach → w ≡ settings_ok mild t s xs
       unfolding settings_ok
       on w g =
           flag_passes (mild_each then reach) (Setting 0) mild h w
-          (then_passes mild_each reach Fits (places_right (λ (k : ℕ). axis_ok (axis_at xs k)) s.d i e Setting l) w refl g)
+          (then_passes mild_each reach (Ok tt) (places_right (λ (k : ℕ). axis_ok (axis_at xs k)) s.d i e Setting l) w refl g)
 
-      pub far_wrong : j < s.d → Refused (Reach j) ≡ verdict_of (settings_ok mild t s xs)
-      far_wrong m = on (Refused (Reach j)) (place_wrong (axis_reaches t s xs) s.d j f Reach m)
+      pub far_wrong : j < s.d → Err (Reach j) ≡ settings_ok mild t s xs
+      far_wrong m = on (Err (Reach j)) (place_wrong (axis_reaches t s xs) s.d j f Reach m)
 
-      pub settings_right : s.d ≤ j → Fits ≡ verdict_of (settings_ok mild t s xs)
-      settings_right m = on Fits (places_right (axis_reaches t s xs) s.d j f Reach m)
+      pub settings_right : s.d ≤ j → Ok tt ≡ settings_ok mild t s xs
+      settings_right m = on (Ok tt) (places_right (axis_reaches t s xs) s.d j f Reach m)
 
 pub ruleset settings-found = (lone_wrong, record_wrong, far_wrong, settings_right)

@@ -7,9 +7,8 @@ use mathlib.Core.Bool.{Bool, true, false, not}
 use mathlib.Core.List.{List}
 use lib.Ieee.{Float}
 use Rattle.answers.specs.declared.Refusal.TheVariants.{Number, Length}
-use Rattle.answers.specs.declared.Verdict.{Verdict}
-use Rattle.answers.specs.declared.Verdict.TheVariants.{Fits, Refused}
-use Rattle.answers.specs.Outcome.{verdict_of, Check, demand, demand_each}
+use Rattle.std.specs.Prelude.{Ok, Err}
+use Rattle.answers.specs.Outcome.{Check, demand, demand_each}
 use Rattle.answers.proofs.Checks.{verdict_passed, then_stops, then_passes}
 use Rattle.lists.specs.Lists.{first_not}
 use Rattle.lists.specs.Floats.{all_finite}
@@ -32,7 +31,7 @@ module _ (s : Shape) (m : ℕ) (e : m ≡ entries_of s) where
   scratch_is n f = f ∙ ap scratch_for e
 
 -- lengths that passed
-pub chain_long : (s : Shape) (i chain j scratch : ℕ) (v : Verdict) → v ≡ verdict_of (lengths_ok s i chain j scratch) → v ≡ Fits → entries_of s ≤ chain
+pub chain_long : (s : Shape) (i chain j scratch : ℕ) (v : Check) → v ≡ lengths_ok s i chain j scratch → v ≡ Ok tt → entries_of s ≤ chain
 unfolding lengths_ok
 chain_long s i chain j scratch v e h =
     le_of_eq (sym (lengths_say chain (entries_of s) scratch (scratch_for (entries_of s)) (Length i) (Length j) (verdict_passed (lengths_ok s i chain j scratch) v e h)).0)
@@ -42,17 +41,17 @@ module _ (s : Shape) (cutting : Cutting) (chain : List Float) (b : Bool) (e : b 
   abbrev cores : Check
   cores = demand_each Number (core_finite s chain) s.d 0
 
-  pub cutting_wrong : not b ≡ true → Refused (Number 0) ≡ verdict_of (round_finite s cutting chain)
+  pub cutting_wrong : not b ≡ true → Err (Number 0) ≡ round_finite s cutting chain
   unfolding round_finite
-  cutting_wrong h = then_stops (demand (cutting_finite cutting) (Number 0)) cores (Refused (Number 0)) (test_wrong b (cutting_finite cutting) (Number 0) e h) (Number 0) refl
+  cutting_wrong h = then_stops (demand (cutting_finite cutting) (Number 0)) cores (Err (Number 0)) (test_wrong b (cutting_finite cutting) (Number 0) e h) (Number 0) refl
 
   module _ (h : not b ≡ false) (i : ℕ) (f : i ≡ first_not (λ (k : ℕ). all_finite (core_at s chain k).entries) s.d) where
-    pub core_wrong : i < s.d → Refused (Number i) ≡ verdict_of (round_finite s cutting chain)
+    pub core_wrong : i < s.d → Err (Number i) ≡ round_finite s cutting chain
     unfolding round_finite core_finite
-    core_wrong l = then_passes (demand (cutting_finite cutting) (Number 0)) cores Fits (test_right b (cutting_finite cutting) (Number 0) e h) (Refused (Number i)) refl (place_wrong (core_finite s chain) s.d i f Number l)
+    core_wrong l = then_passes (demand (cutting_finite cutting) (Number 0)) cores (Ok tt) (test_right b (cutting_finite cutting) (Number 0) e h) (Err (Number i)) refl (place_wrong (core_finite s chain) s.d i f Number l)
 
-    pub cores_right : s.d ≤ i → Fits ≡ verdict_of (round_finite s cutting chain)
+    pub cores_right : s.d ≤ i → Ok tt ≡ round_finite s cutting chain
     unfolding round_finite core_finite
-    cores_right l = then_passes (demand (cutting_finite cutting) (Number 0)) cores Fits (test_right b (cutting_finite cutting) (Number 0) e h) Fits refl (places_right (core_finite s chain) s.d i f Number l)
+    cores_right l = then_passes (demand (cutting_finite cutting) (Number 0)) cores (Ok tt) (test_right b (cutting_finite cutting) (Number 0) e h) (Ok tt) refl (places_right (core_finite s chain) s.d i f Number l)
 
 pub ruleset finite-found = (cutting_wrong, core_wrong, cores_right)

@@ -4,7 +4,6 @@
 pub mod settings;
 
 ghost use Rattle.std.specs.Prelude.{◌≡◌, ◌≤◌, length};
-ghost use Rattle.answers.specs.Outcome.{verdict_of};
 ghost use Rattle.shape.specs.Limits.{scratch_for};
 ghost use Rattle.shape.specs.Shapes.{entries_of};
 ghost use Rattle.shape.specs.Sizes.{SizesWithin};
@@ -26,18 +25,18 @@ pub fn lengths_ok(
     chain: usize,
     j: usize,
     scratch: usize,
-) -> answers::Verdict
+) -> Result<(), answers::Refusal>
     requires { SizesWithin s }
-    ensures { result ≡ verdict_of (lengths_ok s i chain j scratch) }
+    ensures { result ≡ lengths_ok s i chain j scratch }
 {
     let entries = s.entries();
     if chain != entries {
-        return answers::Verdict::Refused(answers::Refusal::Length(i));
+        return Err(answers::Refusal::Length(i));
     }
     if scratch != shape::scratch_for(entries) {
-        return answers::Verdict::Refused(answers::Refusal::Length(j));
+        return Err(answers::Refusal::Length(j));
     }
-    answers::Verdict::Fits
+    Ok(())
 }
 
 pub fn not_below_zero(x: f64) -> bool
@@ -71,20 +70,24 @@ pub fn cutting_ok(cutting: cutform::Cutting) -> bool
 }
 
 // Refusal 6: how it is cut, then the first core with a number that isn't finite.
-fn round_finite(s: shape::Shape, cutting: cutform::Cutting, chain: &[f64]) -> answers::Verdict
+fn round_finite(
+    s: shape::Shape,
+    cutting: cutform::Cutting,
+    chain: &[f64],
+) -> Result<(), answers::Refusal>
     requires sizes_within { SizesWithin s }
     requires s_in_bounds { entries_of s ≤ length chain.now }
-    ensures { result ≡ verdict_of (round_finite s cutting chain.now) }
+    ensures { result ≡ round_finite s cutting chain.now }
 {
     let d = s.d;
     if !cutting_finite(cutting) {
-        return answers::Verdict::Refused(answers::Refusal::Number(0));
+        return Err(answers::Refusal::Number(0));
     }
     let core = s.first_not_finite_core(chain);
     if core < d {
-        return answers::Verdict::Refused(answers::Refusal::Number(core));
+        return Err(answers::Refusal::Number(core));
     }
-    answers::Verdict::Fits
+    Ok(())
 }
 
 // All that a rounding asks.
@@ -93,23 +96,23 @@ pub fn round_ok(
     cutting: cutform::Cutting,
     chain: &[f64],
     scratch: usize,
-) -> answers::Verdict
-    ensures { result ≡ verdict_of (round_ok s cutting chain.now scratch) }
+) -> Result<(), answers::Refusal>
+    ensures { result ≡ round_ok s cutting chain.now scratch }
 {
     let shaped = s.check();
-    if let answers::Verdict::Refused(r) = shaped {
-        return answers::Verdict::Refused(r);
+    if let Err(r) = shaped {
+        return Err(r);
     }
     let lent = lengths_ok(s, 0, chain.len(), 1, scratch);
-    if let answers::Verdict::Refused(r) = lent {
-        return answers::Verdict::Refused(r);
+    if let Err(r) = lent {
+        return Err(r);
     }
     let finite = round_finite(s, cutting, chain);
-    if let answers::Verdict::Refused(r) = finite {
-        return answers::Verdict::Refused(r);
+    if let Err(r) = finite {
+        return Err(r);
     }
     if !cutting_ok(cutting) {
-        return answers::Verdict::Refused(answers::Refusal::Setting(0));
+        return Err(answers::Refusal::Setting(0));
     }
-    answers::Verdict::Fits
+    Ok(())
 }

@@ -1,6 +1,5 @@
 // What a step or an evolve asks before it works. The axis records come by value, with the number of those that were lent.
 ghost use Rattle.std.specs.Prelude.{◌≡◌, ℕ, ◌≤◌, ◌<◌, length};
-ghost use Rattle.answers.specs.Outcome.{verdict_of};
 ghost use Rattle.lists.specs.Lists.{first_not};
 ghost use Rattle.shape.specs.Limits.{most_axes};
 ghost use Rattle.shape.specs.Shapes.{entries_of};
@@ -96,21 +95,21 @@ fn zones_finite(
     s: shape::Shape,
     xs: [stepform::Axis; shape::MOST_AXES],
     chain: &[f64],
-) -> answers::Verdict
+) -> Result<(), answers::Refusal>
     requires sizes_within { SizesWithin s }
     requires s_in_bounds { entries_of s ≤ length chain.now }
-    ensures { result ≡ verdict_of (zones_finite s xs chain.now) }
+    ensures { result ≡ zones_finite s xs chain.now }
 {
     let d = s.d;
     let core = s.first_not_finite_core(chain);
     let axis = first_not_finite(d, xs);
     if core <= axis {
         if core < d {
-            return answers::Verdict::Refused(answers::Refusal::Number(core));
+            return Err(answers::Refusal::Number(core));
         }
-        return answers::Verdict::Fits;
+        return Ok(());
     }
-    answers::Verdict::Refused(answers::Refusal::Number(axis))
+    Err(answers::Refusal::Number(axis))
 }
 
 // Refusals 7 and 8.
@@ -119,23 +118,23 @@ fn settings_ok(
     set: stepform::Settings,
     s: shape::Shape,
     xs: [stepform::Axis; shape::MOST_AXES],
-) -> answers::Verdict
+) -> Result<(), answers::Refusal>
     requires { PointsWithin s }
-    ensures { result ≡ verdict_of (settings_ok mild set s xs) }
+    ensures { result ≡ settings_ok mild set s xs }
 {
     let d = s.d;
     if !mild {
-        return answers::Verdict::Refused(answers::Refusal::Setting(0));
+        return Err(answers::Refusal::Setting(0));
     }
     let record = first_out_of_order(d, xs);
     if record < d {
-        return answers::Verdict::Refused(answers::Refusal::Setting(record));
+        return Err(answers::Refusal::Setting(record));
     }
     let far = first_too_far(set, s, xs);
     if far < d {
-        return answers::Verdict::Refused(answers::Refusal::Reach(far));
+        return Err(answers::Refusal::Reach(far));
     }
-    answers::Verdict::Fits
+    Ok(())
 }
 
 // All that a step asks. `lone` and `mild` are what 6 and 7 ask of the lone settings.
@@ -148,26 +147,26 @@ pub fn step_ok(
     xs: [stepform::Axis; shape::MOST_AXES],
     chain: &[f64],
     scratch: usize,
-) -> answers::Verdict
-    ensures { result ≡ verdict_of (step_ok lone mild set s count xs chain.now scratch) }
+) -> Result<(), answers::Refusal>
+    ensures { result ≡ step_ok lone mild set s count xs chain.now scratch }
 {
     let shaped = s.check();
-    if let answers::Verdict::Refused(r) = shaped {
-        return answers::Verdict::Refused(r);
+    if let Err(r) = shaped {
+        return Err(r);
     }
     if count != s.d {
-        return answers::Verdict::Refused(answers::Refusal::Length(0));
+        return Err(answers::Refusal::Length(0));
     }
     let lent = crate::lengths_ok(s, 1, chain.len(), 2, scratch);
-    if let answers::Verdict::Refused(r) = lent {
-        return answers::Verdict::Refused(r);
+    if let Err(r) = lent {
+        return Err(r);
     }
     if !lone {
-        return answers::Verdict::Refused(answers::Refusal::Number(0));
+        return Err(answers::Refusal::Number(0));
     }
     let finite = zones_finite(s, xs, chain);
-    if let answers::Verdict::Refused(r) = finite {
-        return answers::Verdict::Refused(r);
+    if let Err(r) = finite {
+        return Err(r);
     }
     settings_ok(mild, set, s, xs)
 }

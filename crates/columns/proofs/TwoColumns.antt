@@ -14,7 +14,7 @@ use Rattle.numbers.specs.Arithmetic.{times, over, zero64, tolerance64}
 use Rattle.numbers.specs.Finite.{finite}
 use Rattle.numbers.specs.Magnitude.{magnitude_of}
 use Rattle.numbers.specs.Root.{root_of}
-use Rattle.answers.specs.declared.Stage.TheVariants.{Whole}
+use Rattle.std.specs.Prelude.{Ok}
 use Rattle.answers.specs.Outcome.{stage_of}
 use Rattle.lists.specs.Lists.{pick}
 use Rattle.lists.specs.Floats.{at, cell, sum_on, sum_to, all_finite, stored}
@@ -111,11 +111,11 @@ module _ (m n p q : ℕ) (a : List Float) (long : length a ≡ n * m) (hp : p < 
         go false true eb ed = let z = eqb_is col q ed in rw z (theirs row r)
         go false false eb ed = rest col row l r (eqb_not col p eb) (eqb_not col q ed)
 
-    all_whole : Whole ≡ stage_of (stored a)
+    all_whole : Ok tt ≡ stage_of (stored a)
     all_whole = sym (ap stage_of (stored_yes a (ap all_finite (grid_is n m (λ (col row : ℕ). cell m a col row) nan a long (λ col row l r. refl)) ∙ grid_finite n m (λ (col row : ℕ). cell m a col row) each)))
 
   -- by a look at both
-  pub two_finite : (f g : Bool) → f ≡ all_finite (part p) → g ≡ all_finite (part q) → f && g ≡ true → Whole ≡ stage_of (stored a)
+  pub two_finite : (f g : Bool) → f ≡ all_finite (part p) → g ≡ all_finite (part q) → f && g ≡ true → Ok tt ≡ stage_of (stored a)
   two_finite f g ef eg h = all_whole (λ row r. part_cell p row hp r (sym ef ∙ (both f g h).0)) (λ row r. part_cell q row hq r (sym eg ∙ (both f g h).1))
 
   -- by their sums of squares: a finite sum has finite terms
@@ -126,5 +126,5 @@ module _ (m n p q : ℕ) (a : List Float) (long : length a ≡ n * m) (hp : p < 
       let d : finite (sum_on zero64 m t) ≡ true = ap finite (sym (squares_at m n a ss es k h)) ∙ f in
       times_finite (cell m a k row) (cell m a k row) ((sum_finite t (λ i. mul-fits binary64 (cell m a k i) (cell m a k i)) zero64 m d).1 row g)
 
-  pub two_squared : (ss : List Float) → ss ≡ squares m n a → (f g : Bool) → f ≡ finite (at ss p) → g ≡ finite (at ss q) → f && g ≡ true → Whole ≡ stage_of (stored a)
+  pub two_squared : (ss : List Float) → ss ≡ squares m n a → (f g : Bool) → f ≡ finite (at ss p) → g ≡ finite (at ss q) → f && g ≡ true → Ok tt ≡ stage_of (stored a)
   two_squared ss es f g ef eg h = all_whole (λ row r. squared_cell ss es p row hp r (sym ef ∙ (both f g h).0)) (λ row r. squared_cell ss es q row hq r (sym eg ∙ (both f g h).1))

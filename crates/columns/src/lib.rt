@@ -173,27 +173,27 @@ pub fn stored_squared(
     p: usize,
     q: usize,
     ss: &[f64],
-) -> answers::Stage
+) -> Result<(), usize>
     requires { (length a.now ≡ n * m) × (p < n) × (q < n) × FiniteElsewhere m n p q a.now × (ss.now ≡ squares m n a.now) × (length ss.now ≡ n) }
     ensures { result ≡ stage_of (stored a.now) }
 {
     let first = numbers::is_finite(ss[p]);
     let second = numbers::is_finite(ss[q]);
     if first & second {
-        return answers::Stage::Whole;
+        return Ok(());
     }
     lists::stored(a)
 }
 
 // The same by a look at both columns.
-pub fn stored_but(a: &[f64], m: usize, n: usize, p: usize, q: usize) -> answers::Stage
+pub fn stored_but(a: &[f64], m: usize, n: usize, p: usize, q: usize) -> Result<(), usize>
     requires { (length a.now ≡ n * m) × (p < n) × (q < n) × FiniteElsewhere m n p q a.now }
     ensures { result ≡ stage_of (stored a.now) }
 {
     let first = column_finite(a, m, n, p);
     let second = column_finite(a, m, n, q);
     if first & second {
-        return answers::Stage::Whole;
+        return Ok(());
     }
     lists::stored(a)
 }

@@ -1,13 +1,14 @@
 -- The count that is answered is the number of sweeps that the stated iteration makes, in any mode: it went on while the matrix was not settled, and stopped at the first time it was, or at 50.
 -- No other count and no other flag meets that. Assumes nothing.
+use Rattle.std.specs.Prelude.{Ok}
 use mathlib.Core.Path.{◌≡◌, refl, sym, ap, ◌∙◌, subst}
 use mathlib.Core.Logic.{◌⊎◌, inl, inr}
 use Prim.Native.Nat.{ℕ, zero, suc, ◌+◌, ◌<◌}
 use native.Mathlib.Nat.{add-zero, zero-add, add-suc, suc-add, not-suc-le-zero, le_of_suc-le-suc}
 use native.Mathlib.Omega.{arith}
 use mathlib.Core.Bool.{Bool, true, false, true≢false}
-use Rattle.answers.specs.Outcome.{Made, done, bind}
-use Rattle.answers.proofs.Outcomes.{bind_done, done_inj}
+use Rattle.answers.specs.Outcome.{Made, bind}
+use Rattle.answers.proofs.Outcomes.{bind_ok, ok_inj}
 use Rattle.lists.proofs.Tests.{below_or_not}
 use Rattle.cutform.specs.Modes.{settled}
 use Rattle.cutform.specs.Sweeps.{Eig, Swept, swept, sweep, sweeps_from, diagonalized, most_sweeps}
@@ -26,7 +27,7 @@ module _ (mode n : ℕ) where
         ap (λ (x : Swept). x.count) (sym p) ∙ sym (add-zero c0),
         record {
           bound = omega arith;
-          made = ap done q;
+          made = ap Ok q;
           needed = λ i x l g. absurd (not-suc-le-zero l);
           flag = f ∙ sym t ∙ ap (λ (x : Eig). settled mode n x.g) q;
           stopped = subst (λ (x : Bool). (0 ≡ most) ⊎ (x ≡ true)) (sym f) s;
@@ -37,19 +38,19 @@ module _ (mode n : ℕ) where
   one_more a b (inl p) = inl (ap suc p)
   one_more a b (inr x) = inr x
 
-  earlier : (e x : Eig) (c : ℕ) → settled mode n e.g ≡ false → sweep mode n e ≡ done x → ((i : ℕ) (y : Eig) → i < c → sweeps i mode n x ≡ done y → settled mode n y.g ≡ false)
-      → (i : ℕ) (y : Eig) → i < suc c → sweeps i mode n e ≡ done y → settled mode n y.g ≡ false
+  earlier : (e x : Eig) (c : ℕ) → settled mode n e.g ≡ false → sweep mode n e ≡ Ok x → ((i : ℕ) (y : Eig) → i < c → sweeps i mode n x ≡ Ok y → settled mode n y.g ≡ false)
+      → (i : ℕ) (y : Eig) → i < suc c → sweeps i mode n e ≡ Ok y → settled mode n y.g ≡ false
   unfolding sweeps
-  earlier e x c t s f zero y l g = ap (λ (z : Eig). settled mode n z.g) (sym (done_inj g)) ∙ t
+  earlier e x c t s f zero y l g = ap (λ (z : Eig). settled mode n z.g) (sym (ok_inj g)) ∙ t
   earlier e x c t s f (suc i) y l g = f i y (le_of_suc-le-suc l) (sym (ap (λ (o : Made Eig). bind o (λ z. sweeps i mode n z)) s) ∙ g)
 
-  from_counted : (most : ℕ) (b : Bool) (c0 : ℕ) (e : Eig) (w : Swept) → settled mode n e.g ≡ b → sweeps_from most b mode n c0 e ≡ done w
+  from_counted : (most : ℕ) (b : Bool) (c0 : ℕ) (e : Eig) (w : Swept) → settled mode n e.g ≡ b → sweeps_from most b mode n c0 e ≡ Ok w
       → (c : ℕ) × (w.count ≡ c0 + c) × Counted mode most n e c w.settles w.eig
   unfolding sweeps_from sweeps
-  from_counted zero b c0 e w t h = at_once zero c0 b e w t (done_inj h) (inl refl)
-  from_counted (suc most) true c0 e w t h = at_once (suc most) c0 true e w t (done_inj h) (inr refl)
+  from_counted zero b c0 e w t h = at_once zero c0 b e w t (ok_inj h) (inl refl)
+  from_counted (suc most) true c0 e w t h = at_once (suc most) c0 true e w t (ok_inj h) (inr refl)
   from_counted (suc most) false c0 e w t h =
-      let S = bind_done (sweep mode n e) (λ x. sweeps_from most (settled mode n x.g) mode n (suc c0) x) w h in
+      let S = bind_ok (sweep mode n e) (λ x. sweeps_from most (settled mode n x.g) mode n (suc c0) x) w h in
       let R = from_counted most (settled mode n S.0.g) (suc c0) S.0 w refl S.2 in
       let C = R.2 in (
         suc R.0,
@@ -64,7 +65,7 @@ module _ (mode n : ℕ) where
       )
 
 -- THE COUNT, 0 to 50, and the flag beside it
-pub sweeps_counted : (mode n : ℕ) (e : Eig) (w : Swept) → diagonalized mode n e ≡ done w → Counted mode most_sweeps n e w.count w.settles w.eig
+pub sweeps_counted : (mode n : ℕ) (e : Eig) (w : Swept) → diagonalized mode n e ≡ Ok w → Counted mode most_sweeps n e w.count w.settles w.eig
 unfolding diagonalized
 sweeps_counted mode n e w h =
     let R = from_counted mode n most_sweeps (settled mode n e.g) 0 e w refl h in
@@ -83,5 +84,5 @@ module _ {mode most n : ℕ} {e : Eig} where
   pub counted_once : {c d : ℕ} {b a : Bool} {x y : Eig} → Counted mode most n e c b x → Counted mode most n e d a y → (c ≡ d) × (b ≡ a) × (x ≡ y)
   counted_once {c} {d} {b} {a} {x} {y} C D =
       let same : c ≡ d = below_or_not c d (λ l. absurd (no_more C D l)) (λ l. below_or_not d c (λ m. absurd (no_more D C m)) (λ m. omega arith)) in
-      let end : x ≡ y = done_inj (sym C.made ∙ ap (λ (k : ℕ). sweeps k mode n e) same ∙ D.made) in
+      let end : x ≡ y = ok_inj (sym C.made ∙ ap (λ (k : ℕ). sweeps k mode n e) same ∙ D.made) in
       (same, C.flag ∙ ap (λ (z : Eig). settled mode n z.g) end ∙ sym D.flag, end)

@@ -1,4 +1,5 @@
 -- Of every bond that a rounding cuts, the count and the flag are those of the stated iteration on the Gram matrix of the core as it then is, and no others are. Assumes nothing.
+use Rattle.std.specs.Prelude.{Ok}
 use mathlib.Core.Path.{◌≡◌, refl, sym, ap, ◌∙◌, subst}
 use Prim.Native.Nat.{ℕ, zero, suc, ◌<◌}
 use native.Mathlib.Nat.{zero-add, not-suc-le-zero, le_of_suc-le-suc}
@@ -7,8 +8,8 @@ use mathlib.Core.Bool.{Bool, true}
 use mathlib.Core.List.{List, [], ◌∷◌, ◌++◌, map}
 use lib.Dec.{ltb}
 use lib.ListN.{length, get_or}
-use Rattle.answers.specs.Outcome.{Answer, done}
-use Rattle.answers.proofs.Outcomes.{bind_done, done_inj}
+use Rattle.answers.specs.Outcome.{Answer}
+use Rattle.answers.proofs.Outcomes.{bind_ok, ok_inj}
 use Rattle.lists.specs.Lists.{flat}
 use Rattle.lists.specs.Walks.{state_at}
 use Rattle.lists.proofs.Tests.{ltb_yes}
@@ -32,14 +33,14 @@ record CutCounted (mode k : ℕ) (s : Carry) (c : Core) (r : Carry × Cut) : Typ
   bonds : r.1.bonds ≡ bond ∷ []
   told : BondCounted mode k s c bond
 
-cut_counted : (cutting : Cutting) (k : ℕ) (s : Carry) (c : Core) (r : Carry × Cut) → round_core cutting true k s c ≡ done r → CutCounted cutting.mode k s c r
+cut_counted : (cutting : Cutting) (k : ℕ) (s : Carry) (c : Core) (r : Carry × Cut) → round_core cutting true k s c ≡ Ok r → CutCounted cutting.mode k s c r
 unfolding round_core
 cut_counted cutting k s c r h =
-    let A = bind_done (taken_in k s c) (λ t. cut_if true k cutting t) r h in
-    let B = bind_done (cut_bond k cutting A.0) (λ b. done (some b.bond.rank b.carry, record { core = b.core; bonds = b.bond ∷ [] })) r A.2 in
+    let A = bind_ok (taken_in k s c) (λ t. cut_if true k cutting t) r h in
+    let B = bind_ok (cut_bond k cutting A.0) (λ b. Ok (some b.bond.rank b.carry, record { core = b.core; bonds = b.bond ∷ [] })) r A.2 in
     let S = stages k cutting A.0 B.0 B.1 in
     let w = S.swept in
-    let end = done_inj B.2 in
+    let end = ok_inj B.2 in
     record {
       bond = _;
       bonds = ap (λ (x : Carry × Cut). x.1.bonds) (sym end) ∙ ap (λ (b : CutCore). b.bond ∷ []) (sym S.end);
@@ -47,15 +48,15 @@ cut_counted cutting k s c r h =
     }
 
 -- ---- every bond
-module _ (cutting : Cutting) (cs : List Core) (cuts : List (Carry × Cut)) (ran : rounding cutting cs ≡ done cuts) (o : Carry × Cut) where
+module _ (cutting : Cutting) (cs : List Core) (cuts : List (Carry × Cut)) (ran : rounding cutting cs ≡ Ok cuts) (o : Carry × Cut) where
   abbrev turn : ℕ → Carry → Core → Answer (Carry × Cut)
   turn k = round_core cutting (ltb (suc k) (length cs)) k
 
-  turn_ran : (k : ℕ) → k < length cs → turn k (state_at none cuts k) (core_in cs k) ≡ done (get_or cuts k o)
+  turn_ran : (k : ℕ) → k < length cs → turn k (state_at none cuts k) (core_in cs k) ≡ Ok (get_or cuts k o)
   unfolding rounding
   turn_ran k lt =
       let Own : ℕ → Core → Type 0 = λ j c. c ≡ core_in cs j in
-      let Ran : ℕ → Carry → Carry × Cut → Type 0 = λ j s r. turn j s (core_in cs j) ≡ done r in
+      let Ran : ℕ → Carry → Carry × Cut → Type 0 = λ j s r. turn j s (core_in cs j) ≡ Ok r in
       let own : All Own 0 cs = subst (All Own 0) (tab_get_d_lem (core_with 0 0 0 []) cs) (listed_all Own (length cs) 0 (core_in cs) (λ j a b. refl)) in
       let W = walk_from turn Own Ran (λ j s c r e h. ap (turn j s) (sym e) ∙ h) 0 none cs cuts own ran in
       let n = walk_length turn 0 none cs cuts ran in
@@ -87,7 +88,7 @@ flat_ones {A = A} f p o (r ∷ rs) (suc k) lt ones a e =
     ap (λ (l : List A). get_or (l ++ flat (map f rs)) (suc k) o) (ones 0 (omega arith)).1
     ∙ flat_ones f p o rs k (le_of_suc-le-suc lt) (λ j m. ones (suc j) (omega arith)) a e
 
-pub rounding_counted : (cutting : Cutting) (cs : List Core) (cuts : List (Carry × Cut)) → rounding cutting cs ≡ done cuts
+pub rounding_counted : (cutting : Cutting) (cs : List Core) (cuts : List (Carry × Cut)) → rounding cutting cs ≡ Ok cuts
     → RoundCounted cutting cs (bonds_in cuts)
 unfolding rounding
 rounding_counted cutting cs cuts ran =
@@ -100,7 +101,7 @@ rounding_counted cutting cs cuts ran =
 -- ---- and no others are
 pub bond_once : {mode k : ℕ} {s : Carry} {c : Core} {a b : Bond} → BondCounted mode k s c a → BondCounted mode k s c b → (a.sweeps ≡ b.sweeps) × (a.settled ≡ b.settled)
 bond_once {mode} {b = b} P Q =
-    let e : Q.core ≡ P.core = done_inj (sym Q.taken ∙ P.taken) in
+    let e : Q.core ≡ P.core = ok_inj (sym Q.taken ∙ P.taken) in
     let O = counted_once P.counted
     (subst (λ (x : Core). Counted mode most_sweeps x.rr (eig (gram x) (eye x.rr)) b.sweeps b.settled Q.end) e Q.counted) in
     (O.0, O.1)
@@ -108,5 +109,5 @@ bond_once {mode} {b = b} P Q =
 pub round_once : {cutting : Cutting} {cs : List Core} {a b : List Bond} → RoundCounted cutting cs a → RoundCounted cutting cs b
     → (k : ℕ) → suc k < length cs → ((get_or a k no_bond).sweeps ≡ (get_or b k no_bond).sweeps) × ((get_or a k no_bond).settled ≡ (get_or b k no_bond).settled)
 round_once {cutting} {cs} {b = b} P Q k lt =
-    let e : Q.cuts ≡ P.cuts = done_inj (sym Q.ran ∙ P.ran) in
+    let e : Q.cuts ≡ P.cuts = ok_inj (sym Q.ran ∙ P.ran) in
     bond_once (P.bond k lt) (subst (λ (x : List (Carry × Cut)). BondCounted cutting.mode k (state_at none x k) (core_in cs k) (get_or b k no_bond)) e (Q.bond k lt))

@@ -7,9 +7,9 @@ use mathlib.Core.List.{List, [], ◌∷◌, ◌++◌}
 use lib.ListN.{length, get_or, replicate, length-replicate, get_or-replicate, get_or-eq_default}
 use lib.Seq.{get_or-take}
 use lib.Ieee.{Float}
-use Rattle.answers.specs.declared.Verdict.TheVariants.{Fits}
-use Rattle.answers.specs.Outcome.{Answer, done, refused, bind}
-use Rattle.answers.proofs.Outcomes.{bind_done}
+use Rattle.std.specs.Prelude.{Ok, Err}
+use Rattle.answers.specs.Outcome.{Answer, bind}
+use Rattle.answers.proofs.Outcomes.{bind_ok}
 use Rattle.answers.proofs.Checks.{then_is}
 use Rattle.lists.specs.Slots.{fit}
 use Rattle.lists.specs.Walks.{state_at}
@@ -39,12 +39,12 @@ unfolding fit
 in_array o n x k lt = get_or-take n (x ++ replicate n o) k o lt ∙ padded o n x k
 
 -- a chain that is accepted has no more cores than an array has places
-pub cores_most : (s : Shape) (chain : List Float) → chain_ok s ≡ done tt → length (cores_of s chain) ≤ most_axes
+pub cores_most : (s : Shape) (chain : List Float) → chain_ok s ≡ Ok tt → length (cores_of s chain) ≤ most_axes
 unfolding cores_of
 cores_most s chain ok = let m = (shaped s (λ (k : ℕ). true) ok).most in let n = listed_length s.d 0 (core_at s chain) in omega arith
 
 -- the array that a rounding of the cores cs leaves has its sweeps
-pub after_counted : (cutting : Cutting) (cs : List Core) (cuts : List (Carry × Cut)) → length cs ≤ most_axes → rounding cutting cs ≡ done cuts
+pub after_counted : (cutting : Cutting) (cs : List Core) (cuts : List (Carry × Cut)) → length cs ≤ most_axes → rounding cutting cs ≡ Ok cuts
     → RoundCounted cutting cs (after_cuts cuts).bonds
 after_counted cutting cs cuts most ran =
     let R = rounding_counted cutting cs cuts ran in
@@ -56,23 +56,23 @@ after_counted cutting cs cuts most ran =
 
 module _ (s : Shape) (chain scratch : List Float) where
   -- a call that ends so was accepted, with what its work left
-  pub left_fits : (o : Answer After) → (ended_as s chain scratch o).result.verdict ≡ Fits → (a : After) × (o ≡ done a)
+  pub left_fits : (o : Answer After) → (ended_as s chain scratch o).result.verdict ≡ Ok tt → (a : After) × (o ≡ Ok a)
   unfolding ended_as
-  left_fits (done a) e = (a, refl)
-  left_fits (refused r) e = let z : ◌≡◌ {A = ℕ} 0 1 = cc in absurd (omega arith)
+  left_fits (Ok a) e = (a, refl)
+  left_fits (Err r) e = let z : ◌≡◌ {A = ℕ} 0 1 = cc in absurd (omega arith)
 
-  pub ended_fits : (o : Answer (List (Carry × Cut))) → (ended_by s chain scratch o).result.verdict ≡ Fits → (cuts : List (Carry × Cut)) × (o ≡ done cuts)
-  ended_fits o e = let A = bind_done o (λ tr. done (after_cuts tr)) _ (left_fits (bind o (λ tr. done (after_cuts tr))) e).1 in (A.0, A.1)
+  pub ended_fits : (o : Answer (List (Carry × Cut))) → (ended_by s chain scratch o).result.verdict ≡ Ok tt → (cuts : List (Carry × Cut)) × (o ≡ Ok cuts)
+  ended_fits o e = let A = bind_ok o (λ tr. Ok (after_cuts tr)) _ (left_fits (bind o (λ tr. Ok (after_cuts tr))) e).1 in (A.0, A.1)
 
   -- and where that was a rounding of the cores cs, its sweeps are the rounding's
-  pub ended_counted : (cutting : Cutting) (cs : List Core) (o : Answer (List (Carry × Cut))) (cuts : List (Carry × Cut)) → length cs ≤ most_axes → o ≡ done cuts
-      → rounding cutting cs ≡ done cuts → RoundCounted cutting cs (ended_by s chain scratch o).result.bonds
+  pub ended_counted : (cutting : Cutting) (cs : List Core) (o : Answer (List (Carry × Cut))) (cuts : List (Carry × Cut)) → length cs ≤ most_axes → o ≡ Ok cuts
+      → rounding cutting cs ≡ Ok cuts → RoundCounted cutting cs (ended_by s chain scratch o).result.bonds
   unfolding ended_as
   ended_counted cutting cs o cuts most e ran =
       subst (λ (x : Answer (List (Carry × Cut))). RoundCounted cutting cs (ended_by s chain scratch x).result.bonds) (sym e) (after_counted cutting cs cuts most ran)
 
 -- THE CALL
-pub round_counted : (s : Shape) (cutting : Cutting) (chain scratch : List Float) → (round_call s cutting chain scratch).result.verdict ≡ Fits
+pub round_counted : (s : Shape) (cutting : Cutting) (chain scratch : List Float) → (round_call s cutting chain scratch).result.verdict ≡ Ok tt
     → RoundCounted cutting (cores_of s chain) (round_call s cutting chain scratch).result.bonds
 unfolding round_call round_ok
 round_counted s cutting chain scratch e =

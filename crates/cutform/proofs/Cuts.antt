@@ -1,4 +1,5 @@
 -- One core of a rounding: what is left of it, what its bond hands on, and that all of it is finite. Assumes nothing.
+use Rattle.std.specs.Prelude.{Ok}
 use mathlib.Core.Path.{◌≡◌, refl, sym, ap, ◌∙◌, subst}
 use Prim.Native.Nat.{ℕ, ◌*◌, ◌≤◌}
 use mathlib.Core.Bool.{Bool, true, false, cond}
@@ -6,8 +7,8 @@ use mathlib.Core.List.{List, [], ◌∷◌}
 use lib.ListN.{length}
 use lib.Ieee.{Float}
 use Rattle.answers.specs.declared.Part.TheVariants.{Factor}
-use Rattle.answers.specs.Outcome.{Answer, done, making}
-use Rattle.answers.proofs.Outcomes.{bind_done, done_inj}
+use Rattle.answers.specs.Outcome.{Answer, making}
+use Rattle.answers.proofs.Outcomes.{bind_ok, ok_inj}
 use Rattle.numbers.specs.Finite.{finite}
 use Rattle.lists.specs.Floats.{all_finite, stored}
 use Rattle.lists.proofs.Floats.{making_stored}
@@ -55,25 +56,25 @@ record Taken (s : Carry) (c d : Core) : Type 0 where
   fine : all_finite c.entries ≡ true → all_finite d.entries ≡ true
   long : length c.entries ≡ volume c → length d.entries ≡ volume d
 
-taken : (k : ℕ) (s : Carry) (c d : Core) → taken_in k s c ≡ done d → Taken s c d
+taken : (k : ℕ) (s : Carry) (c d : Core) → taken_in k s c ≡ Ok d → Taken s c d
 unfolding absorb
-taken k none c d h = subst (Taken none c) (done_inj h) (record { left = refl; points = refl; right = refl; fine = λ f. f; long = λ f. f })
+taken k none c d h = subst (Taken none c) (ok_inj h) (record { left = refl; points = refl; right = refl; fine = λ f. f; long = λ f. f })
 taken k (some r b) c d h =
-    let A = bind_done (making Factor k (stored (absorb r b c))) (λ l. done (core_with r c.n c.rr l)) d h in
+    let A = bind_ok (making Factor k (stored (absorb r b c))) (λ l. Ok (core_with r c.n c.rr l)) d h in
     let w = making_stored Factor k (absorb r b c) A.0 A.1 in
     let t : Taken (some r b) c (core_with r c.n c.rr A.0) = record { left = refl; points = refl; right = refl; fine = λ f. w.1; long = λ f. ap length (sym w.0) ∙ block_length r c.n c.rr _ } in
-    subst (Taken (some r b) c) (done_inj A.2) t
+    subst (Taken (some r b) c) (ok_inj A.2) t
 
 -- ---- and the cut
 abbrev handed : CutCore → Carry × Cut
 handed b = (some b.bond.rank b.carry, record { core = b.core; bonds = b.bond ∷ [] })
 
-module _ (k : ℕ) (cutting : Cutting) (c : Core) (r : Carry × Cut) (h : cut_if true k cutting c ≡ done r) where
-  behind : (b : CutCore) × (cut_bond k cutting c ≡ done b) × (◌≡◌ {A = Answer (Carry × Cut)} (done (handed b)) (done r))
-  behind = bind_done (cut_bond k cutting c) (λ b. done (handed b)) r h
+module _ (k : ℕ) (cutting : Cutting) (c : Core) (r : Carry × Cut) (h : cut_if true k cutting c ≡ Ok r) where
+  behind : (b : CutCore) × (cut_bond k cutting c ≡ Ok b) × (◌≡◌ {A = Answer (Carry × Cut)} (Ok (handed b)) (Ok r))
+  behind = bind_ok (cut_bond k cutting c) (λ b. Ok (handed b)) r h
 
   is_cut : handed behind.0 ≡ r
-  is_cut = done_inj behind.2
+  is_cut = ok_inj behind.2
 
   cut_made : CutFrom c behind.0
   cut_made = cut_from_lem k cutting c behind.0 behind.1
@@ -100,14 +101,14 @@ module _ (k : ℕ) (cutting : Cutting) (c : Core) (r : Carry × Cut) (h : cut_if
   cut_of : CutOf true none c r
   cut_of = let B = cut_made in subst (CutOf true none c) is_cut (record { left = B.left; points = B.points; right = B.kept; long = B.long })
 
-last_is : (k : ℕ) (cutting : Cutting) (c : Core) (r : Carry × Cut) → cut_if false k cutting c ≡ done r → c ≡ r.1.core
-last_is k cutting c r h = ap (λ (x : Carry × Cut). x.1.core) (done_inj h)
+last_is : (k : ℕ) (cutting : Cutting) (c : Core) (r : Carry × Cut) → cut_if false k cutting c ≡ Ok r → c ≡ r.1.core
+last_is k cutting c r h = ap (λ (x : Carry × Cut). x.1.core) (ok_inj h)
 
-either_fine : (more : Bool) (k : ℕ) (cutting : Cutting) (c : Core) (r : Carry × Cut) → all_finite c.entries ≡ true → cut_if more k cutting c ≡ done r → all_finite r.1.core.entries ≡ true
+either_fine : (more : Bool) (k : ℕ) (cutting : Cutting) (c : Core) (r : Carry × Cut) → all_finite c.entries ≡ true → cut_if more k cutting c ≡ Ok r → all_finite r.1.core.entries ≡ true
 either_fine true k cutting c r f h = cut_fine k cutting c r h
 either_fine false k cutting c r f h = ap (λ (x : Core). all_finite x.entries) (sym (last_is k cutting c r h)) ∙ f
 
-either_of : (more : Bool) (k : ℕ) (cutting : Cutting) (c : Core) (r : Carry × Cut) → length c.entries ≡ volume c → cut_if more k cutting c ≡ done r → CutOf more none c r
+either_of : (more : Bool) (k : ℕ) (cutting : Cutting) (c : Core) (r : Carry × Cut) → length c.entries ≡ volume c → cut_if more k cutting c ≡ Ok r → CutOf more none c r
 either_of true k cutting c r f h = cut_of k cutting c r h
 either_of false k cutting c r f h =
     let p = sym (last_is k cutting c r h) in
@@ -124,22 +125,22 @@ cut_taken more s c d r T C = record {
 
 -- ---- both
 module _ (cutting : Cutting) (k : ℕ) (s : Carry) (c : Core) (r : Carry × Cut) where
-  pub round_fine : (more : Bool) → all_finite c.entries ≡ true → round_core cutting more k s c ≡ done r → all_finite r.1.core.entries ≡ true
+  pub round_fine : (more : Bool) → all_finite c.entries ≡ true → round_core cutting more k s c ≡ Ok r → all_finite r.1.core.entries ≡ true
   unfolding round_core
   round_fine more f h =
-      let A = bind_done (taken_in k s c) (λ d. cut_if more k cutting d) r h in
+      let A = bind_ok (taken_in k s c) (λ d. cut_if more k cutting d) r h in
       either_fine more k cutting A.0 r ((taken k s c A.0 A.1).fine f) A.2
 
-  pub round_carried : 1 ≤ c.rr → round_core cutting true k s c ≡ done r → Carried c.rr r
+  pub round_carried : 1 ≤ c.rr → round_core cutting true k s c ≡ Ok r → Carried c.rr r
   unfolding round_core
   round_carried one h =
-      let A = bind_done (taken_in k s c) (λ d. cut_if true k cutting d) r h in
+      let A = bind_ok (taken_in k s c) (λ d. cut_if true k cutting d) r h in
       let same = (taken k s c A.0 A.1).right in
       subst (λ (n : ℕ). Carried n r) same (cut_carried k cutting A.0 r A.2 (subst (λ (n : ℕ). 1 ≤ n) (sym same) one))
 
-  pub round_of : (more : Bool) → length c.entries ≡ volume c → round_core cutting more k s c ≡ done r → CutOf more s c r
+  pub round_of : (more : Bool) → length c.entries ≡ volume c → round_core cutting more k s c ≡ Ok r → CutOf more s c r
   unfolding round_core
   round_of more f h =
-      let A = bind_done (taken_in k s c) (λ d. cut_if more k cutting d) r h in
+      let A = bind_ok (taken_in k s c) (λ d. cut_if more k cutting d) r h in
       let T = taken k s c A.0 A.1 in
       cut_taken more s c A.0 r T (either_of more k cutting A.0 r (T.long f) A.2)

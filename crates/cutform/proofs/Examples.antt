@@ -1,6 +1,7 @@
 -- Bonds worked out beside the definitions, by computation. Assumes nothing.
 -- D of the scope at and past the threshold, a rank above the number of rows, two cores that take one and three sweeps, as f64 arithmetic gives them, and D rounded
 -- with a core behind it. Then each comparison with 1e-30 at the numbers next to it and at itself, and sums whose only terms are -0.
+use Rattle.std.specs.Prelude.{Ok, Err}
 use mathlib.Core.Path.{◌≡◌, refl}
 use mathlib.Core.Bool.{Bool, true, false}
 use mathlib.Core.List.{List, [], ◌∷◌, map}
@@ -8,7 +9,7 @@ use Prim.Native.Nat.{ℕ}
 use lib.Ieee.{Float, binary64, add, sub, mul, div, neg, lt, le, eq, of_bits, to_bits}
 use lib.IntN.{pos, negsuc}
 use lib.Ieee.{fin}
-use Rattle.answers.specs.Outcome.{Answer, done, refused}
+use Rattle.answers.specs.Outcome.{Answer}
 use Rattle.numbers.specs.Arithmetic.{zero64}
 use Rattle.numbers.specs.Root.{root_in, whole_root, root_of_units, root_of}
 use Rattle.lists.specs.Lists.{pick, listed, flat, first, count, pairs, folded}
@@ -35,13 +36,13 @@ abbrev bits : List Float → List ℕ
 bits l = map (to_bits binary64) l
 
 abbrev pub seen : Answer CutCore → Seen
-seen (done b) = record { right = b.core.rr; bond = b.bond; left = bits b.core.entries; carry = bits b.carry }
-seen (refused r) = record { right = 0; bond = no_bond; left = []; carry = [] }
+seen (Ok b) = record { right = b.core.rr; bond = b.bond; left = bits b.core.entries; carry = bits b.carry }
+seen (Err r) = record { right = 0; bond = no_bond; left = []; carry = [] }
 
 -- the cores of a rounding
 abbrev cores : Answer (List (Carry × Cut)) → List (List ℕ)
-cores (done tr) = map (λ (c : Core). bits c.entries) (cores_in tr)
-cores (refused r) = []
+cores (Ok tr) = map (λ (c : Core). bits c.entries) (cores_in tr)
+cores (Err r) = []
 
 -- where x was dropped, and where all was kept
 abbrev saw_without : Float → ℕ → ℕ → List ℕ → List ℕ → Seen

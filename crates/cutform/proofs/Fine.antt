@@ -1,4 +1,5 @@
 -- What the bonds of a rounding dropped is finite, wherever it stands in the array that a call answers. Assumes nothing.
+use Rattle.std.specs.Prelude.{Ok}
 use mathlib.Core.Path.{◌≡◌, refl, ap, ◌∙◌, subst}
 use Prim.Native.Nat.{ℕ, zero, suc}
 use native.Mathlib.Omega.{arith}
@@ -8,8 +9,8 @@ use lib.Dec.{ltb}
 use lib.ListN.{length, get_or, get_or-eq_default}
 use lib.Ieee.{of_bits}
 use Rattle.numbers.specs.Finite.{finite}
-use Rattle.answers.specs.Outcome.{Answer, done}
-use Rattle.answers.proofs.Outcomes.{bind_done, done_inj}
+use Rattle.answers.specs.Outcome.{Answer}
+use Rattle.answers.proofs.Outcomes.{bind_ok, ok_inj}
 use Rattle.lists.specs.Lists.{flat}
 use Rattle.lists.specs.Slots.{fit}
 use Rattle.lists.proofs.Slots.{fit_length}
@@ -42,15 +43,15 @@ one_fine : (b : Bond) → finite b.dropped ≡ true → Fine (b ∷ [])
 one_fine b f zero = f
 one_fine b f (suc j) = none_fine j
 
-cut_fine : (more : Bool) (k : ℕ) (cutting : Cutting) (c : Core) (r : Carry × Cut) → cut_if more k cutting c ≡ done r → Fine r.1.bonds
+cut_fine : (more : Bool) (k : ℕ) (cutting : Cutting) (c : Core) (r : Carry × Cut) → cut_if more k cutting c ≡ Ok r → Fine r.1.bonds
 cut_fine true k cutting c r h =
-    let A = bind_done (cut_bond k cutting c) (λ b. done (some b.bond.rank b.carry, record { core = b.core; bonds = b.bond ∷ [] })) r h in
-    subst (λ (x : Carry × Cut). Fine x.1.bonds) (done_inj A.2) (one_fine A.0.bond (cut_from_lem k cutting c A.0 A.1).dropped_fine)
-cut_fine false k cutting c r h = subst (λ (x : Carry × Cut). Fine x.1.bonds) (done_inj h) none_fine
+    let A = bind_ok (cut_bond k cutting c) (λ b. Ok (some b.bond.rank b.carry, record { core = b.core; bonds = b.bond ∷ [] })) r h in
+    subst (λ (x : Carry × Cut). Fine x.1.bonds) (ok_inj A.2) (one_fine A.0.bond (cut_from_lem k cutting c A.0 A.1).dropped_fine)
+cut_fine false k cutting c r h = subst (λ (x : Carry × Cut). Fine x.1.bonds) (ok_inj h) none_fine
 
-zone_fine : (cutting : Cutting) (more : Bool) (k : ℕ) (s : Carry) (c : Core) (r : Carry × Cut) → round_core cutting more k s c ≡ done r → Fine r.1.bonds
+zone_fine : (cutting : Cutting) (more : Bool) (k : ℕ) (s : Carry) (c : Core) (r : Carry × Cut) → round_core cutting more k s c ≡ Ok r → Fine r.1.bonds
 unfolding round_core
-zone_fine cutting more k s c r h = let A = bind_done (taken_in k s c) (λ t. cut_if more k cutting t) r h in cut_fine more k cutting A.0 r A.2
+zone_fine cutting more k s c r h = let A = bind_ok (taken_in k s c) (λ t. cut_if more k cutting t) r h in cut_fine more k cutting A.0 r A.2
 
 -- all zones
 abbrev FineZone : ℕ → Carry × Cut → Type 0
@@ -71,7 +72,7 @@ any_core : (k : ℕ) (cs : List Core) → All (λ (j : ℕ) (c : Core). Unit {0}
 any_core k [] = tt
 any_core k (c ∷ cs) = (tt, any_core (suc k) cs)
 
-pub rounding_fine : (cutting : Cutting) (cs : List Core) (cuts : List (Carry × Cut)) → rounding cutting cs ≡ done cuts → Fine (after_cuts cuts).bonds
+pub rounding_fine : (cutting : Cutting) (cs : List Core) (cuts : List (Carry × Cut)) → rounding cutting cs ≡ Ok cuts → Fine (after_cuts cuts).bonds
 unfolding rounding
 rounding_fine cutting cs cuts h =
     let turn : ℕ → Carry → Core → Answer (Carry × Cut) = λ k. round_core cutting (ltb (suc k) (length cs)) k in

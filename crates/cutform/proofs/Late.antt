@@ -5,7 +5,7 @@ use mathlib.Core.List.{List, []}
 use lib.Dec.{ltb}
 use Rattle.answers.specs.declared.Part.TheVariants.{Spectrum, Factor}
 use Rattle.answers.specs.Table.{Late}
-use Rattle.answers.proofs.Late.{late_done, late_bind, late_then}
+use Rattle.answers.proofs.Late.{late_ok, late_bind, late_then}
 use Rattle.lists.specs.Walks.{walk}
 use Rattle.lists.specs.Floats.{stored}
 use Rattle.lists.proofs.Late.{late_walk}
@@ -29,15 +29,15 @@ late_bond k cutting c =
     let r = kept_rank cutting.eps c.rr ss in
     late_then Factor k (stored (left_factor cutting.mode c r ss js w.eig.v)) _ (λ u.
     late_then Factor k (stored (carry_of c.rr r ss js w.eig.v)) _ (λ b.
-    late_done _)))))
+    late_ok _)))))
 
 late_cut : (more : Bool) (k : ℕ) (cutting : Cutting) (c : Core) → Late (cut_if more k cutting c)
-late_cut false k cutting c = late_done (none, record { core = c; bonds = [] })
-late_cut true k cutting c = late_bind (cut_bond k cutting c) _ (late_bond k cutting c) (λ b. late_done _)
+late_cut false k cutting c = late_ok (none, record { core = c; bonds = [] })
+late_cut true k cutting c = late_bind (cut_bond k cutting c) _ (late_bond k cutting c) (λ b. late_ok _)
 
 late_taken : (k : ℕ) (s : Carry) (c : Core) → Late (taken_in k s c)
-late_taken k none c = late_done c
-late_taken k (some n b) c = late_then Factor k (stored (absorb n b c)) _ (λ l. late_done _)
+late_taken k none c = late_ok c
+late_taken k (some n b) c = late_then Factor k (stored (absorb n b c)) _ (λ l. late_ok _)
 
 pub late_rounding : (cutting : Cutting) (d k : ℕ) (s : Carry) (cs : List Core) → Late (walk (λ (k : ℕ). round_core cutting (ltb (suc k) d) k) k s cs)
 unfolding round_core

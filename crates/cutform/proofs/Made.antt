@@ -1,9 +1,9 @@
 -- What a cut leaves: how many numbers, all finite, and a rank of at least 1 and at most the core's. Assumes nothing.
+use Rattle.std.specs.Prelude.{Ok}
 use mathlib.Core.Path.{◌≡◌, refl, sym, ap, ◌∙◌, subst}
 use Prim.Native.Nat.{ℕ, ◌*◌, ◌≤◌}
 use mathlib.Core.Bool.{true}
 use lib.ListN.{length}
-use Rattle.answers.specs.Outcome.{done}
 use Rattle.numbers.specs.Finite.{finite}
 use Rattle.lists.specs.Floats.{all_finite}
 use Rattle.lists.proofs.Tables.{length_grid}
@@ -30,7 +30,7 @@ pub record CutFrom (c : Core) (b : CutCore) : Type 0 where
   pub carry_fine : all_finite b.carry ≡ true
   pub dropped_fine : finite b.bond.dropped ≡ true
 
-pub cut_from_lem : (k : ℕ) (cutting : Cutting) (c : Core) (b : CutCore) → cut_bond k cutting c ≡ done b → CutFrom c b
+pub cut_from_lem : (k : ℕ) (cutting : Cutting) (c : Core) (b : CutCore) → cut_bond k cutting c ≡ Ok b → CutFrom c b
 unfolding left_factor carry_of
 cut_from_lem k cutting c b h =
     let S = stages k cutting c b h in

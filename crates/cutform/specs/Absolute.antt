@@ -1,10 +1,10 @@
 -- A cut as the scope has it and the Rust makes it, without a mode: 1e-30 is a bound by itself. What stands in Sweeps, Factors, Bonds and Rounding gives this in
 -- absolute mode, which proofs/Absolute.antt proves; nothing else rests on it. Definitions only.
-use Rattle.std.specs.Prelude.{ℕ, zero, suc, Bool, true, false, List, [], ◌∷◌, ltb, length, get_or, Float}
+use Rattle.std.specs.Prelude.{ℕ, zero, suc, Bool, true, false, List, [], ◌∷◌, ltb, length, get_or, Float, Ok}
 use Rattle.std.specs.Float.Ieee.{lt}
 use Rattle.numbers.specs.Arithmetic.{times, over, zero64, tiny64}
 use Rattle.answers.specs.declared.Part.TheVariants.{Spectrum, Factor}
-use Rattle.answers.specs.Outcome.{Answer, Made, done, bind, making}
+use Rattle.answers.specs.Outcome.{Answer, Made, bind, making}
 use Rattle.lists.specs.Lists.{pick, pairs}
 use Rattle.lists.specs.Walks.{along, walk}
 use Rattle.lists.specs.Floats.{at, cell, sum_to, stored}
@@ -22,7 +22,7 @@ unfoldable pub rotate : ℕ → ℕ → ℕ → Eig → Made Eig
 rotate n p q e =
     let t = tangent_of (slope_of (cell n e.g p p) (cell n e.g q q) (cell n e.g p q)) in
     let c = cosine_of t in
-    pick (lt (times (cell n e.g p q) (cell n e.g p q)) tiny64) (done e) (turned n p q c (times t c) e)
+    pick (lt (times (cell n e.g p q) (cell n e.g p q)) tiny64) (Ok e) (turned n p q c (times t c) e)
 
 unfoldable pub sweep : ℕ → Eig → Made Eig
 sweep n e = along (pairs n) (λ (x : ℕ × ℕ). rotate n x.0 x.1) e
@@ -32,8 +32,8 @@ unfoldable pub settled : ℕ → List Float → Bool
 settled n g = lt (off_sum n g) tiny64
 
 unfoldable pub sweeps_from : ℕ → Bool → ℕ → ℕ → Eig → Made Swept
-sweeps_from zero b n c e = done (swept c b e)
-sweeps_from (suc left) true n c e = done (swept c true e)
+sweeps_from zero b n c e = Ok (swept c b e)
+sweeps_from (suc left) true n c e = Ok (swept c true e)
 sweeps_from (suc left) false n c e = bind (sweep n e) (λ x. sweeps_from left (settled n x.g) n (suc c) x)
 
 -- before each of at most 50 sweeps, stop if the sum is below 1e-30
@@ -56,15 +56,15 @@ cut_bond k eps c =
     let r = kept_rank eps c.rr ss in
     bind (making Factor k (stored (left_factor c r ss js w.eig.v))) (λ u.
     bind (making Factor k (stored (carry_of c.rr r ss js w.eig.v))) (λ b.
-    done (record {
+    Ok (record {
       core = core_with c.rl c.n r u;
       bond = record { rank = r; sweeps = w.count; settled = w.settles; dropped = dropped_from r ss };
       carry = b;
     }))))))
 
 abbrev pub cut_if : Bool → ℕ → Float → Core → Answer (Carry × Cut)
-cut_if true k eps c = bind (cut_bond k eps c) (λ b. done (some b.bond.rank b.carry, record { core = b.core; bonds = b.bond ∷ [] }))
-cut_if false k eps c = done (none, record { core = c; bonds = [] })
+cut_if true k eps c = bind (cut_bond k eps c) (λ b. Ok (some b.bond.rank b.carry, record { core = b.core; bonds = b.bond ∷ [] }))
+cut_if false k eps c = Ok (none, record { core = c; bonds = [] })
 
 unfoldable pub round_core : Float → Bool → ℕ → Carry → Core → Answer (Carry × Cut)
 round_core eps more k s c = bind (taken_in k s c) (λ t. cut_if more k eps t)

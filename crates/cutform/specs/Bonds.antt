@@ -1,9 +1,9 @@
 -- One bond: the Gram matrix of its left core, the cut, and a carry absorbed (000: `tt_round`). Definitions only.
-use Rattle.std.specs.Prelude.{ℕ, false, List, Float}
+use Rattle.std.specs.Prelude.{ℕ, false, List, Float, Ok}
 use Rattle.std.specs.Float.{nan}
 use Rattle.numbers.specs.Arithmetic.{times, zero64}
 use Rattle.answers.specs.declared.Part.TheVariants.{Spectrum, Factor}
-use Rattle.answers.specs.Outcome.{Answer, done, bind, making}
+use Rattle.answers.specs.Outcome.{Answer, bind, making}
 use Rattle.lists.specs.Lists.{grid}
 use Rattle.lists.specs.Floats.{cell, sum_to, sum_rows, stored}
 use Rattle.shape.specs.Cores.{Core, core_with, entry, block}
@@ -43,7 +43,7 @@ cut_bond k cutting c =
     let r = kept_rank cutting.eps c.rr ss in
     bind (making Factor k (stored (left_factor cutting.mode c r ss js w.eig.v))) (λ u.
     bind (making Factor k (stored (carry_of c.rr r ss js w.eig.v))) (λ b.
-    done (record {
+    Ok (record {
       core = core_with c.rl c.n r u;
       bond = record { rank = r; sweeps = w.count; settled = w.settles; dropped = dropped_from r ss };
       carry = b;

@@ -1,7 +1,6 @@
 -- The call `tt_round`: its answer, and what it leaves in the chain's slice and in scratch; its checks are passed on. Definitions only.
-use Rattle.std.specs.Prelude.{List, length, replicate, Float}
-use Rattle.answers.specs.declared.Verdict.TheVariants.{Fits, Refused}
-use Rattle.answers.specs.Outcome.{Answer, done, refused, bind, ◌then◌}
+use Rattle.std.specs.Prelude.{List, length, replicate, Float, Ok, Err}
+use Rattle.answers.specs.Outcome.{Answer, bind, ◌then◌}
 use Rattle.answers.specs.Table.{before_work}
 use Rattle.lists.specs.Lists.{pick}
 use Rattle.lists.specs.Floats.{zeros}
@@ -22,24 +21,24 @@ pub record Ended : Type 0 where
 
 -- scratch is unwritten after a refusal before the work, and all +0 after any other end
 unfoldable pub scratch_after : {A : Type 0} → List Float → Answer A → List Float
-scratch_after w (done a) = zeros (length w)
-scratch_after w (refused r) = pick (before_work r) w (zeros (length w))
+scratch_after w (Ok a) = zeros (length w)
+scratch_after w (Err r) = pick (before_work r) w (zeros (length w))
 
 unfoldable pub ended_as : Shape → List Float → List Float → Answer After → Ended
-ended_as s l w (done a) = record {
-  result = record { verdict = Fits; shape = reshaped 0 s a.cores; bonds = a.bonds };
+ended_as s l w (Ok a) = record {
+  result = record { verdict = Ok tt; shape = reshaped 0 s a.cores; bonds = a.bonds };
   chain = chain_after l a.cores;
-  scratch = scratch_after w (done a);
+  scratch = scratch_after w (Ok a);
 }
-ended_as s l w (refused r) = record {
-  result = record { verdict = Refused r; shape = s; bonds = replicate most_axes no_bond };
+ended_as s l w (Err r) = record {
+  result = record { verdict = Err r; shape = s; bonds = replicate most_axes no_bond };
   chain = l;
-  scratch = scratch_after {A = After} w (refused r);
+  scratch = scratch_after {A = After} w (Err r);
 }
 
 -- by its cuts
 abbrev pub ended_by : Shape → List Float → List Float → Answer (List (Carry × Cut)) → Ended
-ended_by s l w o = ended_as s l w (bind o (λ tr. done (after_cuts tr)))
+ended_by s l w o = ended_as s l w (bind o (λ tr. Ok (after_cuts tr)))
 
 unfoldable pub round_call : Shape → Cutting → List Float → List Float → Ended
 round_call s cutting chain scratch =

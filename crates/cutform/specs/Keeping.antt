@@ -1,8 +1,8 @@
 -- A rounding from zone z on, as memory has it: every core in the room where its source begins, the carry of each bond in a slot of its own,
 -- and an array with what is said of bond k at k. Definitions only.
-use Rattle.std.specs.Prelude.{ℕ, zero, suc, ◌-◌, ◌*◌, List, map, ltb, get_or, take, Float}
+use Rattle.std.specs.Prelude.{ℕ, zero, suc, ◌-◌, ◌*◌, List, map, ltb, get_or, take, Float, Ok}
 use Rattle.numbers.specs.Arithmetic.{zero64}
-use Rattle.answers.specs.Outcome.{Answer, done, bind}
+use Rattle.answers.specs.Outcome.{Answer, bind}
 use Rattle.lists.specs.Lists.{listed}
 use Rattle.lists.specs.Slots.{slot, write}
 use Rattle.lists.specs.Walks.{walk}
@@ -57,4 +57,4 @@ carry_left s t h (suc k) = some (rank_at h k) (take (rank_at h k * left_of t (su
 unfoldable pub round_from : Cutting → Shape → ℕ → Shape → Stepped → Answer (Shape × Stepped)
 round_from cutting s z t h =
     bind (walk (λ (k : ℕ). round_core cutting (ltb (suc k) s.d) k) z (carry_left s t h z) (listed (s.d - z) z (standing s t h.chain)))
-    (λ tr. done (reshaped z t (cores_in tr), keep_step s z tr h))
+    (λ tr. Ok (reshaped z t (cores_in tr), keep_step s z tr h))

@@ -1,7 +1,7 @@
 -- Rounding as a walk over the cores, left to right: the state is the carry (000: `tt_round`). Definitions only.
-use Rattle.std.specs.Prelude.{ℕ, suc, Bool, true, false, List, [], ◌∷◌, map, ltb, length, Float}
+use Rattle.std.specs.Prelude.{ℕ, suc, Bool, true, false, List, [], ◌∷◌, map, ltb, length, Float, Ok}
 use Rattle.answers.specs.declared.Part.TheVariants.{Factor}
-use Rattle.answers.specs.Outcome.{Answer, done, bind, making}
+use Rattle.answers.specs.Outcome.{Answer, bind, making}
 use Rattle.lists.specs.Walks.{walk}
 use Rattle.lists.specs.Lists.{flat}
 use Rattle.lists.specs.Slots.{fit}
@@ -24,13 +24,13 @@ pub record Cut : Type 0 where
 
 -- core 0 absorbs nothing; an absorbed core is core k's own
 abbrev pub taken_in : ℕ → Carry → Core → Answer Core
-taken_in k none c = done c
-taken_in k (some r b) c = bind (making Factor k (stored (absorb r b c))) (λ l. done (core_with r c.n c.rr l))
+taken_in k none c = Ok c
+taken_in k (some r b) c = bind (making Factor k (stored (absorb r b c))) (λ l. Ok (core_with r c.n c.rr l))
 
 -- a core with a bond to its right is cut, the last one is not
 abbrev pub cut_if : Bool → ℕ → Cutting → Core → Answer (Carry × Cut)
-cut_if true k cutting c = bind (cut_bond k cutting c) (λ b. done (some b.bond.rank b.carry, record { core = b.core; bonds = b.bond ∷ [] }))
-cut_if false k cutting c = done (none, record { core = c; bonds = [] })
+cut_if true k cutting c = bind (cut_bond k cutting c) (λ b. Ok (some b.bond.rank b.carry, record { core = b.core; bonds = b.bond ∷ [] }))
+cut_if false k cutting c = Ok (none, record { core = c; bonds = [] })
 
 unfoldable pub round_core : Cutting → Bool → ℕ → Carry → Core → Answer (Carry × Cut)
 round_core cutting more k s c = bind (taken_in k s c) (λ t. cut_if more k cutting t)

@@ -1,7 +1,7 @@
 -- Jacobi sweeps over a Gram matrix, with their count (000: `jacobi_gram_ev`, `jacobi_sweep`, `apply_jacobi_rotation`). Definitions only.
-use Rattle.std.specs.Prelude.{ℕ, zero, suc, ◌+◌, ◌*◌, Bool, true, false, List, set, Float}
+use Rattle.std.specs.Prelude.{ℕ, zero, suc, ◌+◌, ◌*◌, Bool, true, false, List, set, Float, Ok}
 use Rattle.numbers.specs.Arithmetic.{times, zero64}
-use Rattle.answers.specs.Outcome.{Made, done, bind}
+use Rattle.answers.specs.Outcome.{Made, bind}
 use Rattle.lists.specs.Lists.{pick, grid, pairs}
 use Rattle.lists.specs.Walks.{along}
 use Rattle.lists.specs.Floats.{cell, stored}
@@ -33,14 +33,14 @@ unfoldable pub turned : ℕ → ℕ → ℕ → Float → Float → Eig → Made
 turned n p q c s e =
     bind (stored (cleared n p q (turn_rows n p q c s (turn_columns n p q c s e.g)))) (λ g.
     bind (stored (turn_columns n p q c s e.v)) (λ v.
-    done (eig g v)))
+    Ok (eig g v)))
 
 -- a rotation, unless the pair is skipped
 unfoldable pub rotate : ℕ → ℕ → ℕ → ℕ → Eig → Made Eig
 rotate mode n p q e =
     let t = tangent_of (slope_of (cell n e.g p p) (cell n e.g q q) (cell n e.g p q)) in
     let c = cosine_of t in
-    pick (skipped mode n e.g p q) (done e) (turned n p q c (times t c) e)
+    pick (skipped mode n e.g p q) (Ok e) (turned n p q c (times t c) e)
 
 -- ---- sweeps
 unfoldable pub sweep : ℕ → ℕ → Eig → Made Eig
@@ -57,8 +57,8 @@ swept c b e = record { count = c; settles = b; eig = e }
 
 -- at most `left` more sweeps after c of them; b says whether the matrix is settled by now
 unfoldable pub sweeps_from : ℕ → Bool → ℕ → ℕ → ℕ → Eig → Made Swept
-sweeps_from zero b mode n c e = done (swept c b e)
-sweeps_from (suc left) true mode n c e = done (swept c true e)
+sweeps_from zero b mode n c e = Ok (swept c b e)
+sweeps_from (suc left) true mode n c e = Ok (swept c true e)
 sweeps_from (suc left) false mode n c e = bind (sweep mode n e) (λ x. sweeps_from left (settled mode n x.g) mode n (suc c) x)
 
 abbrev pub most_sweeps : ℕ

@@ -27,7 +27,7 @@ pub struct Cutting {
 // The chain's shape at the end, and what is said of each bond.
 #[derive(Clone, Copy)]
 pub struct Rounded {
-    pub verdict: answers::Verdict,
+    pub verdict: Result<(), answers::Refusal>,
     pub shape: shape::Shape,
     pub bonds: [Bond; shape::MOST_AXES],
 }

@@ -12,10 +12,9 @@ use lib.Seq.{length-take-le, get_or-set_same}
 use lib.Ieee.{Float}
 use Rattle.numbers.specs.Arithmetic.{zero64}
 use Rattle.answers.specs.declared.Refusal.{Refusal}
-use Rattle.answers.specs.declared.Verdict.{Verdict}
-use Rattle.answers.specs.declared.Verdict.TheVariants.{Fits, Refused}
-use Rattle.answers.specs.Outcome.{Answer, done, bind, answered}
-use Rattle.answers.proofs.Outcomes.{bind_assoc, bind_cong, bind_done, done_inj}
+use Rattle.std.specs.Prelude.{Ok, Err}
+use Rattle.answers.specs.Outcome.{Answer, bind, answered, Check}
+use Rattle.answers.proofs.Outcomes.{bind_assoc, bind_cong, bind_ok, ok_inj}
 use Rattle.lists.specs.Lists.{listed}
 use Rattle.lists.specs.Slots.{offset, slot, put, fit}
 use Rattle.lists.specs.Walks.{walk, turning}
@@ -93,7 +92,7 @@ module _ (cutting : Cutting) (s : Shape) where
         go zero e = refl
         go (suc j) e = refl
 
-    module _ (r : Carry × Cut) (e : round_core cutting (more k) k carry core ≡ done r) where
+    module _ (r : Carry × Cut) (e : round_core cutting (more k) k carry core ≡ Ok r) where
       abbrev new : Core
       new = r.1.core
 
@@ -244,41 +243,41 @@ module _ (cutting : Cutting) (s : Shape) where
 
   -- ---- all turns
   pub from_turns : (m z k : ℕ) (t : Shape) (h : Stepped) → k + m ≡ s.d → AtZone s z k t h
-      → bind (walk (λ (j : ℕ). round_core cutting (more j) j) k (carry_left s t h k) (listed m k (standing s t h.chain))) (λ tr. done (reshaped k t (cores_in tr), keep_step s k tr h))
+      → bind (walk (λ (j : ℕ). round_core cutting (more j) j) k (carry_left s t h k) (listed m k (standing s t h.chain))) (λ tr. Ok (reshaped k t (cores_in tr), keep_step s k tr h))
       ≡ turning m k (zone_turn cutting s) (t, h)
   unfolding walk listed turning reshaped zone_turn
-  from_turns zero z k t h d A = ap (λ (x : Stepped). done (t, x)) (keep_none k h (omega arith))
+  from_turns zero z k t h d A = ap (λ (x : Stepped). Ok (t, x)) (keep_none k h (omega arith))
   from_turns (suc m) z k t h d A =
       let f : ℕ → Carry → Core → Answer (Carry × Cut) = λ j. round_core cutting (more j) j in
       let lt : k < s.d = omega arith in
       let c = standing s t h.chain k in
       let o = f k (carry_left s t h k) c in
       let rest = listed m (suc k) (standing s t h.chain) in
-      let F : List (Carry × Cut) → Answer (Shape × Stepped) = λ tr. done (reshaped k t (cores_in tr), keep_step s k tr h) in
-      bind_assoc o (λ r. bind (walk f (suc k) r.0 rest) (λ rs. done (r ∷ rs))) F
-      ∙ bind_cong o (λ r. bind (bind (walk f (suc k) r.0 rest) (λ rs. done (r ∷ rs))) F) (λ r. turning m (suc k) (zone_turn cutting s) (with_core t k r.1.core, zone_turned s k r h)) (λ r e.
-      bind_assoc (walk f (suc k) r.0 rest) (λ rs. done (r ∷ rs)) F
+      let F : List (Carry × Cut) → Answer (Shape × Stepped) = λ tr. Ok (reshaped k t (cores_in tr), keep_step s k tr h) in
+      bind_assoc o (λ r. bind (walk f (suc k) r.0 rest) (λ rs. Ok (r ∷ rs))) F
+      ∙ bind_cong o (λ r. bind (bind (walk f (suc k) r.0 rest) (λ rs. Ok (r ∷ rs))) F) (λ r. turning m (suc k) (zone_turn cutting s) (with_core t k r.1.core, zone_turned s k r h)) (λ r e.
+      bind_assoc (walk f (suc k) r.0 rest) (λ rs. Ok (r ∷ rs)) F
       ∙ bind_cong (walk f (suc k) r.0 rest) (λ rs. F (r ∷ rs))
-      (λ rs. done (reshaped (suc k) (with_core t k r.1.core) (cores_in rs), keep_step s (suc k) rs (zone_turned s k r h)))
-      (λ rs _. ap (λ (x : Stepped). done (reshaped (suc k) (with_core t k r.1.core) (cores_in rs), x)) (keep_one z k t h A lt r rs))
-      ∙ ap (λ (w : Answer (List (Carry × Cut))). bind w (λ rs. done (reshaped (suc k) (with_core t k r.1.core) (cores_in rs), keep_step s (suc k) rs (zone_turned s k r h)))) (walk_next z k t h A lt r e m (omega arith))
+      (λ rs. Ok (reshaped (suc k) (with_core t k r.1.core) (cores_in rs), keep_step s (suc k) rs (zone_turned s k r h)))
+      (λ rs _. ap (λ (x : Stepped). Ok (reshaped (suc k) (with_core t k r.1.core) (cores_in rs), x)) (keep_one z k t h A lt r rs))
+      ∙ ap (λ (w : Answer (List (Carry × Cut))). bind w (λ rs. Ok (reshaped (suc k) (with_core t k r.1.core) (cores_in rs), keep_step s (suc k) rs (zone_turned s k r h)))) (walk_next z k t h A lt r e m (omega arith))
       ∙ from_turns m z (suc k) (with_core t k r.1.core) (zone_turned s k r h) (omega arith) (at_next z k t h A lt r e))
       ∙ sym (turn_open o k m t h)
     where
       turn_open : (o : Answer (Carry × Cut)) (k m : ℕ) (t : Shape) (h : Stepped)
-          → bind (bind o (λ r. done (with_core t k r.1.core, zone_turned s k r h))) (λ b. turning m (suc k) (zone_turn cutting s) b) ≡ bind o (λ r. turning m (suc k) (zone_turn cutting s) (with_core t k r.1.core, zone_turned s k r h))
-      turn_open o k m t h = bind_assoc o (λ r. done (with_core t k r.1.core, zone_turned s k r h)) (λ b. turning m (suc k) (zone_turn cutting s) b)
+          → bind (bind o (λ r. Ok (with_core t k r.1.core, zone_turned s k r h))) (λ b. turning m (suc k) (zone_turn cutting s) b) ≡ bind o (λ r. turning m (suc k) (zone_turn cutting s) (with_core t k r.1.core, zone_turned s k r h))
+      turn_open o k m t h = bind_assoc o (λ r. Ok (with_core t k r.1.core, zone_turned s k r h)) (λ b. turning m (suc k) (zone_turn cutting s) b)
 
   pub from_is : (z k : ℕ) (t : Shape) (h : Stepped) → k ≤ s.d → AtZone s z k t h → round_from cutting s k t h ≡ turning (s.d - k) k (zone_turn cutting s) (t, h)
   unfolding round_from
   from_is z k t h l A = from_turns (s.d - k) z k t h (omega arith) A
 
   -- a turn leaves memory at the next zone
-  pub turn_next : (z k : ℕ) (t : Shape) (h : Stepped) → AtZone s z k t h → k < s.d → (t' : Shape) (h' : Stepped) → zone_turn cutting s k (t, h) ≡ done (t', h') → AtZone s z (k + 1) t' h'
+  pub turn_next : (z k : ℕ) (t : Shape) (h : Stepped) → AtZone s z k t h → k < s.d → (t' : Shape) (h' : Stepped) → zone_turn cutting s k (t, h) ≡ Ok (t', h') → AtZone s z (k + 1) t' h'
   unfolding zone_turn
   turn_next z k t h A lt t' h' e =
-      let B = bind_done (round_core cutting (more k) k (carry_left s t h k) (standing s t h.chain k)) (λ r. done (with_core t k r.1.core, zone_turned s k r h)) (t', h') e in
-      rw add-one (subst (λ (x : Shape × Stepped). AtZone s z (suc k) x.0 x.1) (done_inj B.2) (at_next z k t h A lt B.0 B.1))
+      let B = bind_ok (round_core cutting (more k) k (carry_left s t h k) (standing s t h.chain k)) (λ r. Ok (with_core t k r.1.core, zone_turned s k r h)) (t', h') e in
+      rw add-one (subst (λ (x : Shape × Stepped). AtZone s z (suc k) x.0 x.1) (ok_inj B.2) (at_next z k t h A lt B.0 B.1))
 
 -- a chain that stands in the room of its source, before any turn
 pub at_start : (s t : Shape) (h : Stepped) → ((j : ℕ) → suc j < s.d → right_of s j ≡ left_of s (suc j)) → Inside s t → 1 ≤ s.d → length t.left ≡ most_axes → length t.right ≡ most_axes → length h.bonds ≡ most_axes
@@ -328,18 +327,18 @@ at_any s z k t h A = record {
 
 -- ---- the loop over zones: T is the whole
 module _ (cutting : Cutting) (s : Shape) (T : Answer (Shape × Stepped)) (z k : ℕ) (t : Shape) (h : Stepped) (e : T ≡ turning (s.d - k) k (zone_turn cutting s) (t, h)) where
-  module _ (lt : k < s.d) (v : Verdict) (t' : Shape) (h' : Stepped) (f : zone_turn cutting s k (t, h) ≡ answered v (t', h')) where
-    pub loop_more : v ≡ Fits → T ≡ turning (s.d - (k + 1)) (k + 1) (zone_turn cutting s) (t', h')
+  module _ (lt : k < s.d) (v : Check) (t' : Shape) (h' : Stepped) (f : zone_turn cutting s k (t, h) ≡ answered v (t', h')) where
+    pub loop_more : v ≡ Ok tt → T ≡ turning (s.d - (k + 1)) (k + 1) (zone_turn cutting s) (t', h')
     loop_more g = answer_more T s.d k (zone_turn cutting s) (t, h) e lt v (t', h') f g
 
-    pub loop_stop : (q : Refusal) → v ≡ Refused q → (x : Shape × Stepped) → T ≡ answered (Refused q) x
+    pub loop_stop : (q : Refusal) → v ≡ Err q → (x : Shape × Stepped) → T ≡ answered (Err q) x
     loop_stop q g x = answer_stop T s.d k (zone_turn cutting s) (t, h) e lt v (t', h') f q x g
 
-    pub loop_next : AtZone s z k t h → v ≡ Fits → AtZone s z (k + 1) t' h'
+    pub loop_next : AtZone s z k t h → v ≡ Ok tt → AtZone s z (k + 1) t' h'
     unfolding answered
     loop_next A g = turn_next cutting s z k t h A lt t' h' (f ∙ rw g)
 
-  pub loop_end : s.d ≤ k → T ≡ answered Fits (t, h)
+  pub loop_end : s.d ≤ k → T ≡ answered (Ok tt) (t, h)
   loop_end l = answer_done T s.d k (zone_turn cutting s) (t, h) e l
 
 -- the chain at the end stands in the room of its source
@@ -355,5 +354,5 @@ end_inside s z k t h A l o = record {
   last = A.last;
 }
 
-pub refused_fits : {P : Type 0} (v : Verdict) (q : Refusal) → v ≡ Refused q → v ≡ Fits → P
+pub refused_fits : {P : Type 0} (v : Check) (q : Refusal) → v ≡ Err q → v ≡ Ok tt → P
 refused_fits v q e f = let z : ◌≡◌ {A = ℕ} 0 1 = cc in let n : ⊥ = omega arith in absurd n

@@ -11,10 +11,9 @@ use lib.ListN.{length, take, drop, get_or, set}
 use lib.Seq.{drop-drop, set-get_or, get_or-set_same}
 use lib.Ieee.{Float}
 use Rattle.numbers.specs.Arithmetic.{zero64}
-use Rattle.answers.specs.declared.Verdict.{Verdict}
-use Rattle.answers.specs.declared.Verdict.TheVariants.{Fits, Refused}
-use Rattle.answers.specs.Outcome.{Answer, done, refused, bind, answered}
-use Rattle.answers.proofs.Outcomes.{done_inj, refused_inj, done_refused}
+use Rattle.std.specs.Prelude.{Ok, Err}
+use Rattle.answers.specs.Outcome.{Answer, bind, answered, Check}
+use Rattle.answers.proofs.Outcomes.{ok_inj, err_inj, ok_err}
 use Rattle.lists.specs.Slots.{offset, slot, put, fit}
 use Rattle.lists.proofs.Tests.{ltb_yes, ltb_is, ltb_not}
 use Rattle.lists.proofs.Slots.{offset_suc, offset_mono, slot_length}
@@ -129,7 +128,7 @@ module _ (s : Shape) (z k : ℕ) (t : Shape) (h : Stepped) (w : SizesWithin s) (
     start_fits = subst (λ (p : Places). p.at ≤ p.end) (sym e) (omega arith)
 
   -- ---- the zone, by what its code says of the parts it was lent
-  module _ (cutting : Cutting) (r : ℕ) (q : r ≡ rank_left k t h.bonds) (v : Verdict) (b : Bond) (x carries : List Float) where
+  module _ (cutting : Cutting) (r : ℕ) (q : r ≡ rank_left k t h.bonds) (v : Check) (b : Bond) (x carries : List Float) where
     abbrev lent : Places → List Float
     lent p = take (p.end - p.at) (drop p.at h.chain)
 
@@ -137,7 +136,7 @@ module _ (s : Shape) (z k : ℕ) (t : Shape) (h : Stepped) (w : SizesWithin s) (
     own p = take (p.to - p.mid) (drop p.mid carries)
 
     abbrev zone : Bool → Carry → Core → ℕ → ℕ → Answer Laid
-    zone more cy c m n = bind (round_core cutting more k cy c) (λ y. done (laid_cut m n y))
+    zone more cy c m n = bind (round_core cutting more k cy c) (λ y. Ok (laid_cut m n y))
 
     abbrev Claim : Places → Type 0
     Claim p =
@@ -194,12 +193,12 @@ module _ (s : Shape) (z k : ℕ) (t : Shape) (h : Stepped) (w : SizesWithin s) (
 
 -- ---- a turn, by what its zone came to
 -- what code says of one reading of an answer it says of another
-answered_by : {A B C : Type 0} (o : Answer A) (g : A → B) (f : A → C) (v : Verdict) (y : B) (z : C) → bind o (λ x. done (g x)) ≡ answered v y → ((x : A) → g x ≡ y → f x ≡ z) → bind o (λ x. done (f x)) ≡ answered v z
+answered_by : {A B C : Type 0} (o : Answer A) (g : A → B) (f : A → C) (v : Check) (y : B) (z : C) → bind o (λ x. Ok (g x)) ≡ answered v y → ((x : A) → g x ≡ y → f x ≡ z) → bind o (λ x. Ok (f x)) ≡ answered v z
 unfolding answered
-answered_by (done x) g f Fits y z e h = ap done (h x (done_inj e))
-answered_by (done x) g f (Refused q) y z e h = absurd (done_refused e)
-answered_by (refused r) g f Fits y z e h = absurd (done_refused (sym e))
-answered_by (refused r) g f (Refused q) y z e h = ap refused (refused_inj e)
+answered_by (Ok x) g f (Ok _) y z e h = ap Ok (h x (ok_inj e))
+answered_by (Ok x) g f (Err q) y z e h = absurd (ok_err e)
+answered_by (Err r) g f (Ok _) y z e h = absurd (ok_err (sym e))
+answered_by (Err r) g f (Err q) y z e h = ap Err (err_inj e)
 
 -- the slots of a zone, one by one
 turned_is : (s : Shape) (k : ℕ) (h : Stepped) {bonds : List Bond} {chain carries : List Float} (r : Carry × Cut)
@@ -210,7 +209,7 @@ turned_is : (s : Shape) (k : ℕ) (h : Stepped) {bonds : List Bond} {chain carri
 unfolding zone_turned
 turned_is s k h r a b c = cc (a, b, c)
 
-module _ (cutting : Cutting) (s : Shape) (k : ℕ) (t : Shape) (h : Stepped) (v : Verdict) (b : Bond) (work carries : List Float)
+module _ (cutting : Cutting) (s : Shape) (k : ℕ) (t : Shape) (h : Stepped) (v : Check) (b : Bond) (work carries : List Float)
     (Z : ZoneCut cutting s k t h v b work carries) (lt : k < s.d) (room : k < length h.bonds) where
   abbrev answer : Bool → Laid
   answer more = laid_as more (rank_left k t h.bonds) b (slot (core_size s) k work) (slot (carry_size s) k carries)

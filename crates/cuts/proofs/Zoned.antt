@@ -12,10 +12,8 @@ use mir.Syntax.{w64}
 use mir.Val as val
 use Rattle.answers.specs.declared.Part.TheVariants.{Factor}
 use Rattle.answers.specs.declared.Refusal.{Refusal}
-use Rattle.answers.specs.declared.Stage.{Stage}
-use Rattle.answers.specs.declared.Verdict.{Verdict}
-use Rattle.answers.specs.declared.Verdict.TheVariants.{Fits, Refused}
-use Rattle.answers.specs.Outcome.{Made, Answer, done, refused, bind, making, stage_of, staged, answered, stored_in}
+use Rattle.std.specs.Prelude.{Ok, Err}
+use Rattle.answers.specs.Outcome.{Made, Answer, bind, making, stage_of, staged, answered, stored_in, Stage, Check}
 use Rattle.answers.proofs.Outcomes.{stored_answered}
 use Rattle.numbers.specs.Arithmetic.{zero64}
 use Rattle.lists.specs.Slots.{fit}
@@ -99,64 +97,64 @@ module _ (k r rl n rr : ℕ) (carry slot : List Float) where
   Taken = taken_in k (carry_from k r (take (r * rl) carry)) (core_with rl n rr (take (rl * n * rr) slot))
 
   -- core 0 takes in nothing
-  pub taken_none : k < 1 → (k ≡ 0 → r ≡ rl) → Taken ≡ answered Fits (core_with r n rr (take (r * n * rr) slot))
+  pub taken_none : k < 1 → (k ≡ 0 → r ≡ rl) → Taken ≡ answered (Ok tt) (core_with r n rr (take (r * n * rr) slot))
   unfolding answered
   taken_none l f = go k (omega arith)
     where
-      go : (j : ℕ) → j ≡ 0 → taken_in j (carry_from j r (take (r * rl) carry)) (core_with rl n rr (take (rl * n * rr) slot)) ≡ done (core_with r n rr (take (r * n * rr) slot))
-      go zero e = let h : r ≡ rl = f (omega arith) in ap (λ (m : ℕ). done (core_with m n rr (take (m * n * rr) slot))) (sym h)
+      go : (j : ℕ) → j ≡ 0 → taken_in j (carry_from j r (take (r * rl) carry)) (core_with rl n rr (take (rl * n * rr) slot)) ≡ Ok (core_with r n rr (take (r * n * rr) slot))
+      go zero e = let h : r ≡ rl = f (omega arith) in ap (λ (m : ℕ). Ok (core_with m n rr (take (m * n * rr) slot))) (sym h)
       go (suc j) e = let z : ⊥ = omega arith in absurd z
 
   module _ (l : 1 ≤ k) (s : Stage) (after : List Float) (e : stored (absorb r (take (r * rl) carry) (core_with rl n rr (take (rl * n * rr) slot))) ≡ staged s (take (r * n * rr) after)) where
-    taken_opened : Taken ≡ bind (making Factor k (staged s (take (r * n * rr) after))) (λ x. done (core_with r n rr x))
-    taken_opened = go k l ∙ ap (λ (m : Made (List Float)). bind (making Factor k m) (λ x. done (core_with r n rr x))) e
+    taken_opened : Taken ≡ bind (making Factor k (staged s (take (r * n * rr) after))) (λ x. Ok (core_with r n rr x))
+    taken_opened = go k l ∙ ap (λ (m : Made (List Float)). bind (making Factor k m) (λ x. Ok (core_with r n rr x))) e
       where
         go : (j : ℕ) → 1 ≤ j
             → taken_in j (carry_from j r (take (r * rl) carry)) (core_with rl n rr (take (rl * n * rr) slot))
-            ≡ bind (making Factor j (stored (absorb r (take (r * rl) carry) (core_with rl n rr (take (rl * n * rr) slot))))) (λ x. done (core_with r n rr x))
+            ≡ bind (making Factor j (stored (absorb r (take (r * rl) carry) (core_with rl n rr (take (rl * n * rr) slot))))) (λ x. Ok (core_with r n rr x))
         go zero o = let z : ⊥ = omega arith in absurd z
         go (suc j) o = refl
 
     -- v is what the call answers of that stage
-    pub taken_made : (v : Verdict) → v ≡ stored_in Factor k s → Taken ≡ answered v (core_with r n rr (take (r * n * rr) after))
+    pub taken_made : (v : Check) → v ≡ stored_in Factor k s → Taken ≡ answered v (core_with r n rr (take (r * n * rr) after))
     unfolding answered
     taken_made v h =
         taken_opened
-        ∙ ap (λ (o : Answer (List Float)). bind o (λ x. done (core_with r n rr x))) (stored_answered Factor k s v (take (r * n * rr) after) h)
+        ∙ ap (λ (o : Answer (List Float)). bind o (λ x. Ok (core_with r n rr x))) (stored_answered Factor k s v (take (r * n * rr) after) h)
         ∙ go v
       where
-        go : (v : Verdict) → bind (answered v (take (r * n * rr) after)) (λ x. done (core_with r n rr x)) ≡ answered v (core_with r n rr (take (r * n * rr) after))
-        go Fits = refl
-        go (Refused q) = refl
+        go : (v : Check) → bind (answered v (take (r * n * rr) after)) (λ x. Ok (core_with r n rr x)) ≡ answered v (core_with r n rr (take (r * n * rr) after))
+        go (Ok _) = refl
+        go (Err q) = refl
 
 -- ---- a bond cut
-module _ (k : ℕ) (cutting : Cutting) (c : Core) (v : Verdict) (b : CutCore) (e : cut_bond k cutting c ≡ answered v b) where
+module _ (k : ℕ) (cutting : Cutting) (c : Core) (v : Check) (b : CutCore) (e : cut_bond k cutting c ≡ answered v b) where
   abbrev laying : ℕ → ℕ → Answer CutCore → Answer Laid
-  laying x y o = bind (bind o (λ b. done (some b.bond.rank b.carry, record { core = b.core; bonds = b.bond ∷ [] }))) (λ p. done (laid_cut x y p))
+  laying x y o = bind (bind o (λ b. Ok (some b.bond.rank b.carry, record { core = b.core; bonds = b.bond ∷ [] }))) (λ p. Ok (laid_cut x y p))
 
-  pub rank_most : v ≡ Fits → 1 ≤ c.rr → b.bond.rank ≤ c.rr
+  pub rank_most : v ≡ Ok tt → 1 ≤ c.rr → b.bond.rank ≤ c.rr
   unfolding answered
   rank_most h o = (cut_from_lem k cutting c b (e ∙ rw h)).most o
 
   -- what it leaves, laid into slots of x and y numbers
-  pub cut_laid : v ≡ Fits → (x y x' y' : ℕ) (core carry : List Float) → core ≡ fit zero64 x' b.core.entries → carry ≡ fit zero64 y' b.carry → x' ≡ x → y' ≡ y
-      → bind (cut_if true k cutting c) (λ p. done (laid_cut x y p)) ≡ answered v (laid_as true b.core.rl b.bond core carry)
+  pub cut_laid : v ≡ Ok tt → (x y x' y' : ℕ) (core carry : List Float) → core ≡ fit zero64 x' b.core.entries → carry ≡ fit zero64 y' b.carry → x' ≡ x → y' ≡ y
+      → bind (cut_if true k cutting c) (λ p. Ok (laid_cut x y p)) ≡ answered v (laid_as true b.core.rl b.bond core carry)
   unfolding answered
   cut_laid h x y x' y' core carry f g i j =
-      let d : cut_bond k cutting c ≡ done b = e ∙ rw h in
+      let d : cut_bond k cutting c ≡ Ok b = e ∙ rw h in
       ap (laying x y) d ∙ rw (h, f, g, i, j, (cut_from_lem k cutting c b d).kept)
 
-  pub cut_stopped : (q : Refusal) → v ≡ Refused q → (x y : ℕ) (l : Laid) → bind (cut_if true k cutting c) (λ p. done (laid_cut x y p)) ≡ answered v l
+  pub cut_stopped : (q : Refusal) → v ≡ Err q → (x y : ℕ) (l : Laid) → bind (cut_if true k cutting c) (λ p. Ok (laid_cut x y p)) ≡ answered v l
   unfolding answered
-  cut_stopped q h x y l = let d : cut_bond k cutting c ≡ refused q = e ∙ rw h in ap (laying x y) d ∙ rw h
+  cut_stopped q h x y l = let d : cut_bond k cutting c ≡ Err q = e ∙ rw h in ap (laying x y) d ∙ rw h
 
 -- the front of a slot that was lent and came back as p
-module _ (k : ℕ) (cutting : Cutting) (rl n rr : ℕ) (slot : List Float) (v : Verdict) (b : Bond) (p carry : List Float)
+module _ (k : ℕ) (cutting : Cutting) (rl n rr : ℕ) (slot : List Float) (v : Check) (b : Bond) (p carry : List Float)
     (e : cut_bond k cutting (core_with rl n rr (take (rl * n * rr - 0) slot)) ≡ answered v (cut_into rl n rr b p carry)) where
   front_whole : cut_bond k cutting (core_with rl n rr (take (rl * n * rr) slot)) ≡ answered v (cut_into rl n rr b p carry)
   front_whole = ap (λ (m : ℕ). cut_bond k cutting (core_with rl n rr (take m slot))) (sym (sub-zero (rl * n * rr))) ∙ e
 
-  pub front_rank : 1 ≤ rr → v ≡ Fits → b.rank ≤ rr
+  pub front_rank : 1 ≤ rr → v ≡ Ok tt → b.rank ≤ rr
   front_rank o h = rank_most k cutting (core_with rl n rr (take (rl * n * rr) slot)) v _ front_whole h o
 
   pub front_cut : 1 ≤ rr → length p ≡ rl * n * rr → (rest : List Float)
@@ -164,47 +162,47 @@ module _ (k : ℕ) (cutting : Cutting) (rl n rr : ℕ) (slot : List Float) (v : 
   unfolding answered
   front_cut o l rest = go v refl
     where
-      go : (w : Verdict) → v ≡ w → cut_bond k cutting (core_with rl n rr (take (rl * n * rr) slot)) ≡ answered v (cut_into rl n rr b (p ++ rest) carry)
-      go Fits h =
+      go : (w : Check) → v ≡ w → cut_bond k cutting (core_with rl n rr (take (rl * n * rr) slot)) ≡ answered v (cut_into rl n rr b (p ++ rest) carry)
+      go (Ok _) h =
           let m : rl * n * b.rank ≤ length p = omega (arith, mul-le-mul_left (rl * n) (front_rank o h), l) in
           front_whole ∙ ap (λ (x : List Float). answered v (record { core = core_with rl n b.rank x; bond = b; carry = take (b.rank * rr) carry }))
           (sym (take-append-le (rl * n * b.rank) p rest m))
-      go (Refused q) h = front_whole ∙ rw h
+      go (Err q) h = front_whole ∙ rw h
 
 -- ---- with a bond to the right or without
 module _ (k : ℕ) (cutting : Cutting) (c : Core) (x y : ℕ) (more : Bool) where
-  pub if_cut : more ≡ true → (v : Verdict) (l : ℕ) (b : Bond) (core carry : List Float)
-      → bind (cut_if true k cutting c) (λ p. done (laid_cut x y p)) ≡ answered v (laid_as true l b core carry)
-      → bind (cut_if more k cutting c) (λ p. done (laid_cut x y p)) ≡ answered v (laid_as more l b core carry)
+  pub if_cut : more ≡ true → (v : Check) (l : ℕ) (b : Bond) (core carry : List Float)
+      → bind (cut_if true k cutting c) (λ p. Ok (laid_cut x y p)) ≡ answered v (laid_as true l b core carry)
+      → bind (cut_if more k cutting c) (λ p. Ok (laid_cut x y p)) ≡ answered v (laid_as more l b core carry)
   if_cut h v l b core carry e = rw h e
 
   -- the last core has no room for a carry
-  pub if_last : more ≡ false → (v : Verdict) (b : Bond) (core carry : List Float) → v ≡ Fits → b.rank ≡ c.rr → core ≡ fit zero64 x c.entries → length carry ≡ y → y ≡ 0
-      → bind (cut_if more k cutting c) (λ p. done (laid_cut x y p)) ≡ answered v (laid_as more c.rl b core carry)
+  pub if_last : more ≡ false → (v : Check) (b : Bond) (core carry : List Float) → v ≡ Ok tt → b.rank ≡ c.rr → core ≡ fit zero64 x c.entries → length carry ≡ y → y ≡ 0
+      → bind (cut_if more k cutting c) (λ p. Ok (laid_cut x y p)) ≡ answered v (laid_as more c.rl b core carry)
   unfolding answered fit
   if_last h v b core carry f g i j z =
       rw (h, f, g, i)
-      (ap (λ (l : List Float). done (record { left = c.rl; right = c.rr; bonds = []; core = fit zero64 x c.entries; carry = l })) (go carry (omega arith)))
+      (ap (λ (l : List Float). Ok (record { left = c.rl; right = c.rr; bonds = []; core = fit zero64 x c.entries; carry = l })) (go carry (omega arith)))
     where
       go : (l : List Float) → length l ≡ 0 → fit zero64 y [] ≡ l
       go [] e = ap (λ (m : ℕ). fit zero64 m []) z
       go (a ∷ l) e = let w : ⊥ = omega arith in absurd w
 
 -- ---- a zone: the carry taken in, then the cut
-module _ (cutting : Cutting) (more : Bool) (k : ℕ) (s : Carry) (c : Core) (v : Verdict) (t : Core) (e : taken_in k s c ≡ answered v t) (x y : ℕ) where
-  pub zone_stops : (q : Refusal) → v ≡ Refused q → (w : Verdict) → w ≡ Refused q → (l : Laid) → bind (round_core cutting more k s c) (λ p. done (laid_cut x y p)) ≡ answered w l
+module _ (cutting : Cutting) (more : Bool) (k : ℕ) (s : Carry) (c : Core) (v : Check) (t : Core) (e : taken_in k s c ≡ answered v t) (x y : ℕ) where
+  pub zone_stops : (q : Refusal) → v ≡ Err q → (w : Check) → w ≡ Err q → (l : Laid) → bind (round_core cutting more k s c) (λ p. Ok (laid_cut x y p)) ≡ answered w l
   unfolding round_core answered
-  zone_stops q h w g l = let d : taken_in k s c ≡ refused q = e ∙ rw h in rw g (ap (λ (o : Answer Core). bind (bind o (λ t. cut_if more k cutting t)) (λ p. done (laid_cut x y p))) d)
+  zone_stops q h w g l = let d : taken_in k s c ≡ Err q = e ∙ rw h in rw g (ap (λ (o : Answer Core). bind (bind o (λ t. cut_if more k cutting t)) (λ p. Ok (laid_cut x y p))) d)
 
-  pub zone_goes : v ≡ Fits → (w : Verdict) (l : ℕ) (b : Bond) (core carry carry' : List Float) (x' y' : ℕ)
-      → bind (cut_if more k cutting t) (λ p. done (laid_cut x' y' p)) ≡ answered w (laid_as more l b core carry) → x' ≡ x → y' ≡ y → carry' ≡ carry
-      → bind (round_core cutting more k s c) (λ p. done (laid_cut x y p)) ≡ answered w (laid_as more l b core carry')
+  pub zone_goes : v ≡ Ok tt → (w : Check) (l : ℕ) (b : Bond) (core carry carry' : List Float) (x' y' : ℕ)
+      → bind (cut_if more k cutting t) (λ p. Ok (laid_cut x' y' p)) ≡ answered w (laid_as more l b core carry) → x' ≡ x → y' ≡ y → carry' ≡ carry
+      → bind (round_core cutting more k s c) (λ p. Ok (laid_cut x y p)) ≡ answered w (laid_as more l b core carry')
   unfolding round_core answered
   zone_goes h w l b core carry carry' x' y' f i j g =
-      let d : taken_in k s c ≡ done t = e ∙ rw h in
-      ap (λ (o : Answer Core). bind (bind o (λ t. cut_if more k cutting t)) (λ p. done (laid_cut x y p))) d
-      ∙ ap (λ (m : ℕ). bind (cut_if more k cutting t) (λ p. done (laid_cut m y p))) (sym i)
-      ∙ ap (λ (m : ℕ). bind (cut_if more k cutting t) (λ p. done (laid_cut x' m p))) (sym j)
+      let d : taken_in k s c ≡ Ok t = e ∙ rw h in
+      ap (λ (o : Answer Core). bind (bind o (λ t. cut_if more k cutting t)) (λ p. Ok (laid_cut x y p))) d
+      ∙ ap (λ (m : ℕ). bind (cut_if more k cutting t) (λ p. Ok (laid_cut m y p))) (sym i)
+      ∙ ap (λ (m : ℕ). bind (cut_if more k cutting t) (λ p. Ok (laid_cut x' m p))) (sym j)
       ∙ f
       ∙ ap (λ (z : List Float). answered w (laid_as more l b core z)) (sym g)
 

@@ -1,9 +1,7 @@
 -- Zone after zone in their slots. Definitions for loops only.
-use Rattle.std.specs.Prelude.{◌≡◌, ℕ, zero, suc, ◌+◌, ◌-◌, ◌≤◌, ◌<◌, List, ltb, length, get_or, replicate, Float}
+use Rattle.std.specs.Prelude.{◌≡◌, ℕ, zero, suc, ◌+◌, ◌-◌, ◌≤◌, ◌<◌, List, ltb, length, get_or, replicate, Float, Ok}
 use Rattle.numbers.specs.Arithmetic.{zero64}
-use Rattle.answers.specs.declared.Verdict.{Verdict}
-use Rattle.answers.specs.declared.Verdict.TheVariants.{Fits}
-use Rattle.answers.specs.Outcome.{Answer, done, bind, answered}
+use Rattle.answers.specs.Outcome.{Answer, bind, answered, Check}
 use Rattle.lists.specs.Slots.{offset, slot, put, fit}
 use Rattle.shape.specs.declared.Shape.{Shape}
 use Rattle.shape.specs.Limits.{most_axes}
@@ -21,7 +19,7 @@ use Rattle.cutform.specs.Keeping.{bond_size, carry_size, Stepped, rank_at, carry
 
 -- a chain before any of its bonds is cut
 abbrev pub unrounded : Shape → Walked
-unrounded s = record { verdict = Fits; shape = s; bonds = replicate most_axes no_bond }
+unrounded s = record { verdict = Ok tt; shape = s; bonds = replicate most_axes no_bond }
 
 -- ---- zone after zone
 -- what zone k leaves, in its slots
@@ -35,7 +33,7 @@ zone_turned s k r h = record {
 unfoldable pub zone_turn : Cutting → Shape → ℕ → Shape × Stepped → Answer (Shape × Stepped)
 zone_turn cutting s k x =
     bind (round_core cutting (ltb (suc k) s.d) k (carry_left s x.0 x.1 k) (standing s x.0 x.1.chain k))
-    (λ r. done (with_core x.0 k r.1.core, zone_turned s k r x.1))
+    (λ r. Ok (with_core x.0 k r.1.core, zone_turned s k r x.1))
 
 -- the rank on the left of zone k
 unfoldable pub rank_left : ℕ → Shape → List Bond → ℕ
@@ -86,9 +84,9 @@ places_of s k = record {
 }
 
 -- zone k as its code answers it: only its own slots are written
-pub record ZoneCut (cutting : Cutting) (s : Shape) (k : ℕ) (t : Shape) (h : Stepped) (v : Verdict) (b : Bond) (work carries : List Float) : Type 0 where
+pub record ZoneCut (cutting : Cutting) (s : Shape) (k : ℕ) (t : Shape) (h : Stepped) (v : Check) (b : Bond) (work carries : List Float) : Type 0 where
   pub laid : bind (round_core cutting (ltb (suc k) s.d) k (carry_left s t h k) (standing s t h.chain k))
-      (λ x. done (laid_cut (core_size s k) (carry_size s k) x))
+      (λ x. Ok (laid_cut (core_size s k) (carry_size s k) x))
       ≡ answered v (laid_as (ltb (suc k) s.d) (rank_left k t h.bonds) b (slot (core_size s) k work) (slot (carry_size s) k carries))
   pub chain : work ≡ put (core_size s) k (slot (core_size s) k work) h.chain
   pub carried : carries ≡ put (carry_size s) k (slot (carry_size s) k carries) h.carries

@@ -4,8 +4,7 @@
 
 pub mod zone;
 
-ghost use Rattle.std.specs.Prelude.{◌≡◌, cond, ◌+◌, ◌-◌, ◌*◌, ◌≤◌, ◌<◌, length};
-ghost use Rattle.answers.specs.declared.Verdict.TheVariants.{Fits};
+ghost use Rattle.std.specs.Prelude.{◌≡◌, cond, ◌+◌, ◌-◌, ◌*◌, ◌≤◌, ◌<◌, length, Ok};
 ghost use Rattle.answers.specs.Outcome.{answered};
 ghost use Rattle.lists.specs.Slots.{offset};
 ghost use Rattle.shape.specs.Limits.{most_axes, most_core};
@@ -41,7 +40,7 @@ pub fn carry_offset(s: shape::Shape, k: usize) -> usize
 // What a rounding from some zone on came to: the chain's shape, and what is said of each bond.
 #[derive(Clone, Copy)]
 pub struct Walked {
-    pub verdict: answers::Verdict,
+    pub verdict: Result<(), answers::Refusal>,
     pub shape: shape::Shape,
     pub bonds: [cutform::Bond; shape::MOST_AXES],
 }
@@ -52,7 +51,7 @@ pub fn unrounded(s: shape::Shape) -> Walked
 {
     let none = bond::no_bond();
     Walked {
-        verdict: answers::Verdict::Fits,
+        verdict: Ok(()),
         shape: s,
         bonds: [none; shape::MOST_AXES],
     }
@@ -171,7 +170,7 @@ pub fn round_from(
     requires sizes_within { SizesWithin s }
     requires z_le_d { (z ≤ s.d) × (most_core ≤ length room.old) × AtZone s z z w.shape (held_by w work.old carries.old) }
     ensures { (round_from cutting s z w.shape (held_by w work.old carries.old)
-        ≡ answered result.verdict (result.shape, held_by result work.new carries.new)) × (z ≡ 0 → result.verdict ≡ Fits → Inside s result.shape) }
+        ≡ answered result.verdict (result.shape, held_by result work.new carries.new)) × (z ≡ 0 → result.verdict ≡ Ok tt → Inside s result.shape) }
 {
     let mut shape = w.shape;
     let mut bonds = w.bonds;
@@ -180,9 +179,9 @@ pub fn round_from(
     while k < s.d {
         let cut = zone_cut(k, s, shape, r, cutting, work, carries, room);
         let verdict = cut.verdict;
-        if let answers::Verdict::Refused(q) = verdict {
+        if let Err(q) = verdict {
             return Walked {
-                verdict: answers::Verdict::Refused(q),
+                verdict: Err(q),
                 shape,
                 bonds,
             };
@@ -195,7 +194,7 @@ pub fn round_from(
         k += 1;
     }
     Walked {
-        verdict: answers::Verdict::Fits,
+        verdict: Ok(()),
         shape,
         bonds,
     }

@@ -1,7 +1,6 @@
 // One core of a rounding in place: the carry on its left absorbed, its bond cut.
-ghost use Rattle.std.specs.Prelude.{◌≡◌, true, false, ◌-◌, ◌*◌, ◌≤◌, ◌<◌, ◌++◌, length, take, drop};
-ghost use Rattle.answers.specs.declared.Verdict.TheVariants.{Fits, Refused};
-ghost use Rattle.answers.specs.Outcome.{staged, answered, bind, done};
+ghost use Rattle.std.specs.Prelude.{◌≡◌, true, false, ◌-◌, ◌*◌, ◌≤◌, ◌<◌, ◌++◌, length, take, drop, Ok, Err};
+ghost use Rattle.answers.specs.Outcome.{staged, answered, bind};
 ghost use Rattle.numbers.specs.Arithmetic.{zero64};
 ghost use Rattle.lists.specs.Slots.{fit};
 ghost use Rattle.lists.specs.Floats.{stored};
@@ -29,7 +28,7 @@ fn absorbed(
     n: usize,
     rr: usize,
     out: &mut [f64],
-) -> answers::Stage
+) -> Result<(), usize>
     requires { (length core.now ≡ rl * n * rr) × (1 ≤ rl) × (r * rl ≤ length carry.now) × (length out.old ≡ r * n * rr) }
     ensures { stored (absorb r (take (r * rl) carry.now) (core_with rl n rr core.now)) ≡ staged result out.new }
 {
@@ -46,7 +45,7 @@ fn take_in(
     carry: &[f64],
     r: usize,
     room: &mut [f64],
-) -> answers::Stage
+) -> Result<(), usize>
     requires { (rl * n * rr ≤ length slot.old) × (r * n * rr ≤ rl * n * rr) × (r * n * rr ≤ length slot.old) × (r * n * rr ≤ length room.old)
         × (1 ≤ rl) × (1 ≤ rr) × (r * rl ≤ length carry.now) }
     ensures { stored (absorb r (take (r * rl) carry.now) (core_with rl n rr (take (rl * n * rr) slot.old)))
@@ -69,14 +68,14 @@ fn taken(
     carry: &[f64],
     r: usize,
     room: &mut [f64],
-) -> answers::Verdict
+) -> Result<(), answers::Refusal>
     requires { (rl * n * rr ≤ length slot.old) × (r * n * rr ≤ rl * n * rr) × (r * n * rr ≤ length slot.old) × (r * n * rr ≤ length room.old)
         × (1 ≤ rl) × (1 ≤ rr) × (k ≡ 0 → r ≡ rl) × (1 ≤ k → r * rl ≤ length carry.now) }
     ensures { taken_in k (carry_from k r (take (r * rl) carry.now)) (core_with rl n rr (take (rl * n * rr) slot.old))
         ≡ answered result (core_with r n rr (take (r * n * rr) slot.new)) }
 {
     if k < 1 {
-        return answers::Verdict::Fits;
+        return Ok(());
     }
     let made = take_in(slot, rl, n, rr, carry, r, room);
     answers::stored_in(made, answers::Part::Factor, k)
@@ -96,7 +95,7 @@ fn cut_front(
     requires { (rl * n * rr ≤ length slot.old) × (rl * n * rr ≤ length room.old) × (1 ≤ rl) × (1 ≤ n) × (1 ≤ rr) × (rr ≤ most_rank)
         × (rr * rr ≤ length carry.old) }
     ensures { (cut_bond k cutting (core_with rl n rr (take (rl * n * rr) slot.old))
-        ≡ answered result.verdict (cut_into rl n rr result.bond slot.new carry.new)) × (result.verdict ≡ Fits → result.bond.rank ≤ rr) }
+        ≡ answered result.verdict (cut_into rl n rr result.bond slot.new carry.new)) × (result.verdict ≡ Ok tt → result.bond.rank ≤ rr) }
 {
     let size = rl * n * rr;
     bond::cut_bond(&mut slot[0..size], k, rl, n, rr, cutting, carry, room)
@@ -116,12 +115,12 @@ fn cut_in(
     requires { (rl * n * rr ≤ length slot.old) × (rl * n * rr ≤ length room.old) × (1 ≤ rl) × (1 ≤ n) × (1 ≤ rr) × (rr ≤ most_rank)
         × (rr * rr ≤ length carry.old) }
     ensures { bind (cut_if true k cutting (core_with rl n rr (take (rl * n * rr) slot.old)))
-        (λ x. done (laid_cut (length slot.old) (length carry.old) x))
+        (λ x. Ok (laid_cut (length slot.old) (length carry.old) x))
         ≡ answered result.verdict (laid_as true rl result.bond slot.new carry.new) }
 {
     let cut = cut_front(slot, k, rl, n, rr, cutting, carry, room);
     let verdict = cut.verdict;
-    if let answers::Verdict::Refused(q) = verdict {
+    if let Err(q) = verdict {
         return cut;
     }
     let rank = cut.bond.rank;
@@ -133,12 +132,12 @@ fn cut_in(
 // The last core is not cut: it keeps its right rank, makes no sweeps and drops nothing.
 fn last_in(slot: &mut [f64], rl: usize, n: usize, rr: usize) -> bond::BondCut
     requires { (rl * n * rr ≤ length slot.old) × (1 ≤ rr) }
-    ensures { (result ≡ record { verdict = Fits; bond = record { rank = rr; sweeps = 0; settled = false; dropped = zero64 } })
+    ensures { (result ≡ record { verdict = Ok tt; bond = record { rank = rr; sweeps = 0; settled = false; dropped = zero64 } })
         × (slot.new ≡ fit zero64 (length slot.old) (take (rl * n * rr) slot.old)) }
 {
     clear_behind(slot, rl * n * rr);
     bond::BondCut {
-        verdict: answers::Verdict::Fits,
+        verdict: Ok(()),
         bond: cutform::Bond {
             rank: rr,
             sweeps: 0,
@@ -163,7 +162,7 @@ fn cut_if(
     requires { (rl * n * rr ≤ length slot.old) × (rl * n * rr ≤ length room.old) × (1 ≤ rl) × (1 ≤ n) × (1 ≤ rr) × (rr ≤ most_rank)
         × (more ≡ true → rr * rr ≤ length carry.old) × (more ≡ false → length carry.old ≡ 0) }
     ensures { bind (cut_if more k cutting (core_with rl n rr (take (rl * n * rr) slot.old)))
-        (λ x. done (laid_cut (length slot.old) (length carry.old) x))
+        (λ x. Ok (laid_cut (length slot.old) (length carry.old) x))
         ≡ answered result.verdict (laid_as more rl result.bond slot.new carry.new) }
 {
     if more {
@@ -173,10 +172,10 @@ fn cut_if(
 }
 
 pub fn refused_cut(q: answers::Refusal) -> bond::BondCut
-    ensures { result ≡ record { verdict = Refused q; bond = no_bond } }
+    ensures { result ≡ record { verdict = Err q; bond = no_bond } }
 {
     bond::BondCut {
-        verdict: answers::Verdict::Refused(q),
+        verdict: Err(q),
         bond: bond::no_bond(),
     }
 }
@@ -200,13 +199,13 @@ pub fn round_core(
 ) -> bond::BondCut
     requires { ZoneFits k more r rl n rr from mid to (length slot.old) (length carries.old) (length room.old) }
     ensures { (bind (round_core cutting more k (carry_from k r (take (r * rl) (take (mid - from) (drop from carries.old))))
-        (core_with rl n rr (take (rl * n * rr) slot.old))) (λ x. done (laid_cut (length slot.old) (to - mid) x))
+        (core_with rl n rr (take (rl * n * rr) slot.old))) (λ x. Ok (laid_cut (length slot.old) (to - mid) x))
         ≡ answered result.verdict (laid_as more r result.bond slot.new (take (to - mid) (drop mid carries.new))))
         × (carries.new ≡ take mid carries.old
         ++ (take (to - mid) (drop mid carries.new) ++ drop to carries.old)) }
 {
     let ready = taken(slot, k, rl, n, rr, &carries[from..mid], r, room);
-    if let answers::Verdict::Refused(q) = ready {
+    if let Err(q) = ready {
         return refused_cut(q);
     }
     cut_if(

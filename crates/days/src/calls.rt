@@ -45,10 +45,10 @@ pub fn same_told(a: Told, b: Told) -> bool {
     (a.number == b.number) & (a.place == b.place) & (a.index == b.index)
 }
 
-pub fn reading(v: answers::Verdict) -> Told {
+pub fn reading(v: Result<(), answers::Refusal>) -> Told {
     match v {
-        answers::Verdict::Fits => checked(0, 0),
-        answers::Verdict::Refused(q) => Told {
+        Ok(()) => checked(0, 0),
+        Err(q) => Told {
             number: answers::number(q) as usize,
             place: answers::place(q),
             index: answers::index(q),
@@ -124,7 +124,7 @@ pub struct Ended {
 fn ending(ran: runform::Ran, scratch: &[f64; SCRATCH], n: usize) -> Ended {
     let v = ran.verdict;
     let mut left = 0.0;
-    if let answers::Verdict::Refused(q) = v {
+    if let Err(q) = v {
         if answers::before_work(q) {
             left = MARK;
         }

@@ -279,7 +279,7 @@ pub struct Turned {
 }
 
 // Whether a fresh run that is refused left alone what it was to write.
-fn unwritten(v: answers::Verdict, held: &[f64; calls::HELD]) -> bool {
+fn unwritten(v: Result<(), answers::Refusal>, held: &[f64; calls::HELD]) -> bool {
     if calls::reading(v).number == 0 {
         return true;
     }

@@ -87,7 +87,7 @@ pub fn starts(s: shape::Shape, k: usize) -> Places {
         sums: 0,
     };
     let verdict = s.check();
-    if let answers::Verdict::Refused(q) = verdict {
+    if let Err(q) = verdict {
         return nowhere;
     }
     if s.d < k {

@@ -6,12 +6,11 @@ use mathlib.Core.List.{List}
 use lib.ListN.{length, replicate}
 use lib.Ieee.{Float}
 use Rattle.answers.specs.declared.Refusal.{Refusal}
-use Rattle.answers.specs.declared.Verdict.{Verdict}
-use Rattle.answers.specs.declared.Verdict.TheVariants.{Fits, Refused}
-use Rattle.answers.specs.Outcome.{Answer, Check, ◌then◌, bind, demand, done, refused, verdict_of}
+use Rattle.std.specs.Prelude.{Ok, Err}
+use Rattle.answers.specs.Outcome.{Answer, Check, ◌then◌, bind, demand}
 use Rattle.answers.specs.Table.{Late}
-use Rattle.answers.proofs.Late.{late_done, late_bind}
-use Rattle.answers.proofs.Outcomes.{fits_done, bind_cong}
+use Rattle.answers.proofs.Late.{late_ok, late_bind}
+use Rattle.answers.proofs.Outcomes.{passed_ok, bind_cong}
 use Rattle.lists.proofs.Tests.{both}
 use Rattle.shape.specs.declared.Shape.{Shape}
 use Rattle.shape.specs.Limits.{most_axes, within}
@@ -38,11 +37,11 @@ use Rattle.steps.proofs.Asked.{not_fits}
 use Rattle.stepform.proofs.Late.{late_step}
 use Rattle.evolution.proofs.Ends.{finished_is, over_stops, over_goes, over_passed}
 
-pub came_inside : (T : Answer After) (s t : Shape) (v : Verdict) (u : Shape) (bonds : List Bond) (w : List Float) → Came T s t v u bonds w
-    → v ≡ Fits → Inside s u
-came_inside T s t v u bonds w C h = let D = fits_done T (sym C.verdict ∙ h) in (C.ends D.0 D.1).inside
+pub came_inside : (T : Answer After) (s t : Shape) (v : Check) (u : Shape) (bonds : List Bond) (w : List Float) → Came T s t v u bonds w
+    → v ≡ Ok tt → Inside s u
+came_inside T s t v u bonds w C h = let D = passed_ok T (sym C.verdict ∙ h) in (C.ends D.0 D.1).inside
 
-pub ok_sizes : (s : Shape) → chain_ok s ≡ done tt → SizesWithin s
+pub ok_sizes : (s : Shape) → chain_ok s ≡ Ok tt → SizesWithin s
 ok_sizes s e = (shaped s (λ (k : ℕ). true) e).sizes
 
 -- ---- the end
@@ -50,12 +49,12 @@ ok_sizes s e = (shaped s (λ (k : ℕ). true) e).sizes
 pub finished_as : (s : Shape) (w : Walked) (l v : List Float) (e : Ended) → e ≡ finished s w l v → Finished s w l v e.result e.chain e.scratch
 finished_as s w l v e p = go w.verdict refl p
   where
-    go : (x : Verdict) → w.verdict ≡ x → e ≡ finished_by x s w l v → Finished s w l v e.result e.chain e.scratch
-    go Fits h p = record { cleared = ap (λ (y : Ended). y.scratch) p; refused = λ q g. absurd (not_fits w.verdict q g h); made = λ g. (ap (λ (y : Ended). y.result) p, ap (λ (y : Ended). y.chain) p) }
-    go (Refused q) h p =
+    go : (x : Check) → w.verdict ≡ x → e ≡ finished_by x s w l v → Finished s w l v e.result e.chain e.scratch
+    go (Ok _) h p = record { cleared = ap (λ (y : Ended). y.scratch) p; refused = λ q g. absurd (not_fits w.verdict q g h); made = λ g. (ap (λ (y : Ended). y.result) p, ap (λ (y : Ended). y.chain) p) }
+    go (Err q) h p =
         record {
           cleared = ap (λ (y : Ended). y.scratch) p;
-          refused = λ r g. let z : q ≡ r = cc in (ap (λ (y : Ended). y.result) p ∙ ap (λ (y : Refusal). record { verdict = Refused y; shape = s; bonds = replicate most_axes no_bond }) z, ap (λ (y : Ended). y.chain) p);
+          refused = λ r g. let z : q ≡ r = cc in (ap (λ (y : Ended). y.result) p ∙ ap (λ (y : Refusal). record { verdict = Err y; shape = s; bonds = replicate most_axes no_bond }) z, ap (λ (y : Ended). y.chain) p);
           made = λ g. absurd (not_fits w.verdict q h g);
         }
 
@@ -65,16 +64,16 @@ work_done T s w l u x r l' v' n L C F = finished_is s w l u x r l' v' F n T L C
 
 -- one step refuses late
 pub late_once : (set : Settings) (xs : List Axis) (cs : List Core) → Late (step_of set xs cs)
-late_once set xs cs = late_bind (step set xs cs) _ (late_step set xs cs) (λ tr. late_done _)
+late_once set xs cs = late_bind (step set xs cs) _ (late_step set xs cs) (λ tr. late_ok _)
 
 -- ---- `step`
 module _ (set : Settings) (s : Shape) (count : ℕ) (xs : List Axis) (l x : List Float) (lone mild : Bool)
     (a : lone ≡ lone_finite set) (b : mild ≡ lone_ok set)
-    (v : Verdict) (e : v ≡ verdict_of (step_ok lone mild set s count xs l (length x))) where
+    (v : Check) (e : v ≡ step_ok lone mild set s count xs l (length x)) where
   -- what is left, once the checks have passed
-  checked_first : (c : Check) → bind (c then step set xs (cores_of s l)) (λ tr. done (after_cuts tr)) ≡ c then step_of set xs (cores_of s l)
-  checked_first (done u) = refl
-  checked_first (refused q) = refl
+  checked_first : (c : Check) → bind (c then step set xs (cores_of s l)) (λ tr. Ok (after_cuts tr)) ≡ c then step_of set xs (cores_of s l)
+  checked_first (Ok u) = refl
+  checked_first (Err q) = refl
 
   step_opened : ended_as s l x (step_ok lone mild set s count xs l (length x) then step_of set xs (cores_of s l)) ≡ step_over set s count xs l x
   unfolding step_over
@@ -83,10 +82,10 @@ module _ (set : Settings) (s : Shape) (count : ℕ) (xs : List Axis) (l x : List
       ∙ ap (λ (y : Bool). ended_as s l x (step_ok (lone_finite set) y set s count xs l (length x) then step_of set xs (cores_of s l))) b
       ∙ ap (ended_as s l x) (sym (checked_first (step_ok (lone_finite set) (lone_ok set) set s count xs l (length x))))
 
-  pub step_stops : (q : Refusal) → v ≡ Refused q → (r : Rounded) → r ≡ record { verdict = Refused q; shape = s; bonds = replicate most_axes no_bond } → Answers (step_over set s count xs l x) r l x
+  pub step_stops : (q : Refusal) → v ≡ Err q → (r : Rounded) → r ≡ record { verdict = Err q; shape = s; bonds = replicate most_axes no_bond } → Answers (step_over set s count xs l x) r l x
   step_stops q h r f = subst (λ (y : Ended). Answers y r l x) step_opened (over_stops lone mild set s count xs l (length x) v e (step_of set xs (cores_of s l)) x q h r f)
 
-  pub step_goes : v ≡ Fits → (r : Rounded) (l' v' : List Float) → Answers (ended_by s l x (step set xs (cores_of s l))) r l' v' → Answers (step_over set s count xs l x) r l' v'
+  pub step_goes : v ≡ Ok tt → (r : Rounded) (l' v' : List Float) → Answers (ended_by s l x (step set xs (cores_of s l))) r l' v' → Answers (step_over set s count xs l x) r l' v'
   step_goes h r l' v' A = subst (λ (y : Ended). Answers y r l' v') step_opened (over_goes lone mild set s count xs l (length x) v e (step_of set xs (cores_of s l)) x h r l' v' A)
 
 -- an accepted number of steps
@@ -104,7 +103,7 @@ alike_checks k y z s count xs l n = refl
 -- ---- `evolve`
 module _ (final : Float) (steps : ℕ) (c : Float) (cutting : Cutting) (s : Shape) (count : ℕ) (xs : List Axis) (l x : List Float) (lone mild : Bool) (set : Settings)
     (a : lone ≡ course_finite final c cutting) (b : mild ≡ course_ok final steps cutting) (t : steps ≤ most_steps → set ≡ settings_for final steps c cutting)
-    (v : Verdict) (e : v ≡ verdict_of (step_ok lone mild set s count xs l (length x))) where
+    (v : Check) (e : v ≡ step_ok lone mild set s count xs l (length x)) where
   abbrev all : Settings → Answer After
   all y = steps_of steps y xs (cores_of s l)
 
@@ -117,8 +116,8 @@ module _ (final : Float) (steps : ℕ) (c : Float) (cutting : Cutting) (s : Shap
       (bind_cong (step_ok k false set s count xs l (length x)) _ _ (λ a e. absurd (never k set e))
       ∙ ap (λ (y : Check). y then all (settings_for final steps c cutting)) (alike_checks k set (settings_for final steps c cutting) s count xs l (length x)))
     where
-      never : (k : Bool) (y : Settings) {a : Unit {0}} → step_ok k false y s count xs l (length x) ≡ done a → ⊥
-      never k y e = true≢false (sym (over_passed k false y s count xs l (length x) (verdict_of (step_ok k false y s count xs l (length x))) refl (ap verdict_of e)).within)
+      never : (k : Bool) (y : Settings) {a : Unit {0}} → step_ok k false y s count xs l (length x) ≡ Ok a → ⊥
+      never k y e = true≢false (sym (over_passed k false y s count xs l (length x) ((step_ok k false y s count xs l (length x))) refl e).within)
 
   evolve_opened : ended_as s l x (step_ok lone mild set s count xs l (length x) then all set) ≡ evolve_over final steps c cutting s count xs l x
   unfolding evolve_over
@@ -127,10 +126,10 @@ module _ (final : Float) (steps : ℕ) (c : Float) (cutting : Cutting) (s : Shap
       ∙ ap (λ (y : Bool). ended_as s l x (step_ok y mild (settings_for final steps c cutting) s count xs l (length x) then all (settings_for final steps c cutting))) a
       ∙ ap (λ (y : Bool). ended_as s l x (step_ok (course_finite final c cutting) y (settings_for final steps c cutting) s count xs l (length x) then all (settings_for final steps c cutting))) b
 
-  pub evolve_stops : (q : Refusal) → v ≡ Refused q → (r : Rounded) → r ≡ record { verdict = Refused q; shape = s; bonds = replicate most_axes no_bond } → Answers (evolve_over final steps c cutting s count xs l x) r l x
+  pub evolve_stops : (q : Refusal) → v ≡ Err q → (r : Rounded) → r ≡ record { verdict = Err q; shape = s; bonds = replicate most_axes no_bond } → Answers (evolve_over final steps c cutting s count xs l x) r l x
   evolve_stops q h r f = subst (λ (y : Ended). Answers y r l x) evolve_opened (over_stops lone mild set s count xs l (length x) v e (all set) x q h r f)
 
-  pub evolve_goes : v ≡ Fits → (r : Rounded) (l' v' : List Float) → Answers (ended_as s l x (all set)) r l' v' → Answers (evolve_over final steps c cutting s count xs l x) r l' v'
+  pub evolve_goes : v ≡ Ok tt → (r : Rounded) (l' v' : List Float) → Answers (ended_as s l x (all set)) r l' v' → Answers (evolve_over final steps c cutting s count xs l x) r l' v'
   evolve_goes h r l' v' A = subst (λ (y : Ended). Answers y r l' v') evolve_opened (over_goes lone mild set s count xs l (length x) v e (all set) x h r l' v' A)
 
 -- ---- records that were lent

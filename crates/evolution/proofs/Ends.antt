@@ -10,9 +10,8 @@ use lib.Ieee.{Float}
 use Rattle.numbers.specs.Arithmetic.{zero64}
 use Rattle.answers.specs.declared.Refusal.{Refusal}
 use Rattle.answers.specs.declared.Refusal.TheVariants.{Length, Number, Setting, Reach}
-use Rattle.answers.specs.declared.Verdict.{Verdict}
-use Rattle.answers.specs.declared.Verdict.TheVariants.{Fits, Refused}
-use Rattle.answers.specs.Outcome.{Answer, done, refused, Check, ◌then◌, demand, demand_each, verdict_of}
+use Rattle.std.specs.Prelude.{Ok, Err}
+use Rattle.answers.specs.Outcome.{Answer, Check, ◌then◌, demand, demand_each}
 use Rattle.answers.specs.Table.{before_work, Late}
 use Rattle.answers.proofs.Checks.{demand_is, then_is, each_is, verdict_passed, verdict_refused}
 use Rattle.answers.proofs.Late.{Early, early_demand, early_then, early_each}
@@ -48,19 +47,19 @@ module _ (s : Shape) (w : Walked) (l u x : List Float) (r : Rounded) (l' v' : Li
 
   pub finished_is : (T : Answer After) → Late T → Came T s s w.verdict w.shape w.bonds u → Answers (ended_as s l x T) r l' v'
   unfolding ended_as scratch_after standing
-  finished_is (done a) L C =
+  finished_is (Ok a) L C =
       let E = C.ends a refl in
       let M = F.made C.verdict in
       record {
         result = M.0
-            ∙ ap (λ (y : Shape). record { verdict = Fits; shape = y; bonds = w.bonds }) E.shape
-            ∙ ap (λ (y : List Bond). record { verdict = Fits; shape = reshaped 0 s a.cores; bonds = y }) E.said;
+            ∙ ap (λ (y : Shape). record { verdict = Ok tt; shape = y; bonds = w.bonds }) E.shape
+            ∙ ap (λ (y : List Bond). record { verdict = Ok tt; shape = reshaped 0 s a.cores; bonds = y }) E.said;
         chain = M.1
             ∙ ap (λ (y : List (List Float)). fit zero64 (length l) (flat y))
             (sym (ap (map (λ (c : Core). c.entries)) E.cores ∙ tab_map (λ (c : Core). c.entries) s.d (standing s w.shape u)));
         scratch = cleared;
       }
-  finished_is (refused q) L C =
+  finished_is (Err q) L C =
       let M = F.refused q C.verdict in
       record { result = M.0; chain = M.1; scratch = cleared ∙ unpicked (before_work q) (L q refl) }
     where
@@ -84,27 +83,27 @@ module _ (lone mild : Bool) (t : Settings) (s : Shape) (count : ℕ) (xs : List 
       (early_then (demand_each Setting _ s.d 0) _ (early_each Setting _ s.d 0 (λ j. refl)) (early_each Reach _ s.d 0 (λ j. refl))))))))
 
   -- v is the verdict on the checks
-  module _ (v : Verdict) (e : v ≡ verdict_of ok) (T : Answer After) (x : List Float) where
-    pub over_stops : (q : Refusal) → v ≡ Refused q → (r : Rounded) → r ≡ record { verdict = Refused q; shape = s; bonds = replicate most_axes no_bond } → Answers (ended_as s l x (ok then T)) r l x
+  module _ (v : Check) (e : v ≡ ok) (T : Answer After) (x : List Float) where
+    pub over_stops : (q : Refusal) → v ≡ Err q → (r : Rounded) → r ≡ record { verdict = Err q; shape = s; bonds = replicate most_axes no_bond } → Answers (ended_as s l x (ok then T)) r l x
     unfolding ended_as scratch_after
     over_stops q h r f =
         let c = verdict_refused ok v q e h in
-        let g : ok then T ≡ refused q = ap (λ (y : Check). y then T) c in
+        let g : ok then T ≡ Err q = ap (λ (y : Check). y then T) c in
         subst (λ (y : Answer After). Answers (ended_as s l x y) r l x) (sym g)
         (record { result = f; chain = refl; scratch = pick_true x (zeros (length x)) x (before_work q) (early_over.first q c) refl })
 
-    pub over_goes : v ≡ Fits → (r : Rounded) (l' v' : List Float) → Answers (ended_as s l x T) r l' v' → Answers (ended_as s l x (ok then T)) r l' v'
+    pub over_goes : v ≡ Ok tt → (r : Rounded) (l' v' : List Float) → Answers (ended_as s l x T) r l' v' → Answers (ended_as s l x (ok then T)) r l' v'
     over_goes h r l' v' A = subst (λ (c : Check). Answers (ended_as s l x (c then T)) r l' v') (sym (verdict_passed ok v e h)) A
 
   -- what passed checks let the work ask
   pub record Passed : Type 0 where
-    pub shape : chain_ok s ≡ done tt
+    pub shape : chain_ok s ≡ Ok tt
     pub long : length l ≡ entries_of s
     pub wide : entries_of s ≤ scratch
     pub within : mild ≡ true
     pub reach : (k : ℕ) → k < s.d → axis_reaches t s xs k ≡ true
 
-  pub over_passed : (v : Verdict) → v ≡ verdict_of ok → v ≡ Fits → Passed
+  pub over_passed : (v : Check) → v ≡ ok → v ≡ Ok tt → Passed
   unfolding step_ok lengths_ok settings_ok
   over_passed v e h =
       let a = then_is (chain_ok s) _ tt (verdict_passed ok v e h) in

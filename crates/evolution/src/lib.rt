@@ -1,8 +1,7 @@
 // The calls `step` and `evolve`. Work is done in scratch, and the chain is written once, at the very end.
 #![tactic(auto)]
 
-ghost use Rattle.std.specs.Prelude.{◌≡◌, true, ℕ, ◌≤◌, ◌<◌, length};
-ghost use Rattle.answers.specs.Outcome.{done};
+ghost use Rattle.std.specs.Prelude.{◌≡◌, true, ℕ, ◌≤◌, ◌<◌, length, Ok};
 ghost use Rattle.shape.specs.Shapes.{chain_ok, entries_of};
 ghost use Rattle.shape.specs.Cores.{cores_of};
 ghost use Rattle.cutform.specs.Call.{ended_as, ended_by};
@@ -23,7 +22,7 @@ fn work_once(
     chain: &mut [f64],
     scratch: &mut [f64],
 ) -> cutform::Rounded
-    requires s_value { (chain_ok s ≡ done tt) × ((k : ℕ) → k < s.d → axis_reaches set s xs k ≡ true) }
+    requires s_value { (chain_ok s ≡ Ok tt) × ((k : ℕ) → k < s.d → axis_reaches set s xs k ≡ true) }
     requires chain_len { (length chain.old ≡ entries_of s) × (entries_of s ≤ length scratch.old) }
     ensures { Answers (ended_by s chain.old scratch.old (step set xs (cores_of s chain.old)))
         result chain.new scratch.new }
@@ -41,7 +40,7 @@ fn work(
     chain: &mut [f64],
     scratch: &mut [f64],
 ) -> cutform::Rounded
-    requires s_value { (chain_ok s ≡ done tt) × ((k : ℕ) → k < s.d → axis_reaches set s xs k ≡ true) }
+    requires s_value { (chain_ok s ≡ Ok tt) × ((k : ℕ) → k < s.d → axis_reaches set s xs k ≡ true) }
     requires chain_len { (length chain.old ≡ entries_of s) × (entries_of s ≤ length scratch.old) }
     ensures { Answers (ended_as s chain.old scratch.old (steps_of m set xs (cores_of s chain.old)))
         result chain.new scratch.new }
@@ -64,7 +63,7 @@ pub fn step_over(
     let lone = checks::settings::lone_finite(set);
     let mild = checks::settings::lone_ok(set);
     let ok = checks::settings::step_ok(lone, mild, set, s, count, xs, chain, scratch.len());
-    if let answers::Verdict::Refused(q) = ok {
+    if let Err(q) = ok {
         return rounding::refused_rounding(q, s);
     }
     work_once(s, set, xs, chain, scratch)
@@ -124,7 +123,7 @@ pub fn evolve_over(
     let mild = course_mild(p);
     let set = course_settings(p);
     let ok = checks::settings::step_ok(lone, mild, set, s, count, xs, chain, scratch.len());
-    if let answers::Verdict::Refused(q) = ok {
+    if let Err(q) = ok {
         return rounding::refused_rounding(q, s);
     }
     work(p.steps, s, set, xs, chain, scratch)

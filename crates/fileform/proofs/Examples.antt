@@ -5,9 +5,8 @@ use mathlib.Core.List.{List, [], ◌∷◌, ◌++◌, map}
 use lib.ListN.{replicate, take, set}
 use lib.Ieee.{Float, nan, binary64, of_bits, to_bits}
 use Rattle.answers.specs.declared.Refusal.TheVariants.{Axes, Size, Ranks, Length, Number, File}
-use Rattle.answers.specs.declared.Verdict.{Verdict}
-use Rattle.answers.specs.declared.Verdict.TheVariants.{Fits, Refused}
-use Rattle.answers.specs.Outcome.{demand, demand_each}
+use Rattle.std.specs.Prelude.{Ok, Err}
+use Rattle.answers.specs.Outcome.{demand, demand_each, Check}
 use Rattle.numbers.specs.Arithmetic.{zero64, one64}
 use Rattle.lists.specs.Lists.{listed, flat}
 use Rattle.lists.specs.Slots.{offset, slot, fit}
@@ -23,7 +22,7 @@ use Rattle.fileform.specs.Writing.{write_call, write_exit, writing, write_ok, wr
 use Rattle.fileform.specs.Reading.{read_call, read_exit, reading, read_contents, read_header, read_table, table_ok, shape_with, shape_in, entry_ok, lengths_ok, numbers_in, read_numbers, trimmed}
 
 -- ---- the two calls, with so much room lent
-writes : Shape → List Float → ℕ → Exit Verdict ℕ
+writes : Shape → List Float → ℕ → Exit Check ℕ
 unfolding write_call write_exit writing write_ok write_lent shape_ok demand demand_each size_ok bond_ok core_size offset file_length body_start numbers_ok slot all_finite file_of header table_entry bytes_of to_bits of_bits listed flat
 writes s chain room = write_call s chain (replicate room 7)
 
@@ -52,11 +51,11 @@ file =
     ∷ 0 ∷ 0 ∷ 0 ∷ 0 ∷ 0 ∷ 0 ∷ 0x30 ∷ 0x40
     ∷ 0 ∷ 0 ∷ 0 ∷ 0 ∷ 0 ∷ 0 ∷ 0 ∷ 0 ∷ []
 
-written : writes one numbers 52 ≡ record { result = Fits; out = file }
+written : writes one numbers 52 ≡ record { result = Ok tt; out = file }
 unfolding writes
 written = refl
 
-back : reads file 5 ≡ record { result = record { verdict = Fits; shape = trimmed one }; out = numbers ++ (zero64 ∷ []) }
+back : reads file 5 ≡ record { result = record { verdict = Ok tt; shape = trimmed one }; out = numbers ++ (zero64 ∷ []) }
 unfolding reads trimmed
 back = refl
 
@@ -88,7 +87,7 @@ read_cases =
     ∷ []
 
 read_refusals : map (λ (c : List ℕ × ℕ). (reads c.0 c.1).result.verdict) read_cases
-    ≡ map Refused (File 7 ∷ File 0 ∷ File 6 ∷ Axes ∷ Axes ∷ File 19 ∷ Size 0 ∷ File 14 ∷ File 16 ∷ Ranks 0 ∷ File 51 ∷ File 53 ∷ Length 1 ∷ Number 0 ∷ [])
+    ≡ map Err (File 7 ∷ File 0 ∷ File 6 ∷ Axes ∷ Axes ∷ File 19 ∷ Size 0 ∷ File 14 ∷ File 16 ∷ Ranks 0 ∷ File 51 ∷ File 53 ∷ Length 1 ∷ Number 0 ∷ [])
 unfolding reads read_cases
 read_refusals = refl
 
@@ -106,7 +105,7 @@ faults =
     number ∷ long ∷ bond ∷ place ∷ clear ∷ size ∷ axes ∷ header ∷ set header 0 0 ∷ []
 
 first_refusals : map (λ (bytes : List ℕ). (reads bytes 3).result.verdict) faults
-    ≡ map Refused (Length 1 ∷ File 53 ∷ Ranks 0 ∷ File 16 ∷ File 14 ∷ Size 0 ∷ Axes ∷ File 6 ∷ File 0 ∷ [])
+    ≡ map Err (Length 1 ∷ File 53 ∷ Ranks 0 ∷ File 16 ∷ File 14 ∷ Size 0 ∷ Axes ∷ File 6 ∷ File 0 ∷ [])
 unfolding reads faults
 first_refusals = refl
 
@@ -118,6 +117,6 @@ write_refusals : (writes (shaped 0 (1 ∷ []) (0 ∷ []) (2 ∷ [])) [] 51).resu
     ∷ (writes one (set numbers 2 nan) 51).result
     ∷ (writes one (set numbers 2 nan) 52).result
     ∷ []
-    ≡ map Refused (Axes ∷ Size 0 ∷ Ranks 0 ∷ Length 0 ∷ Length 1 ∷ Number 0 ∷ [])
+    ≡ map Err (Axes ∷ Size 0 ∷ Ranks 0 ∷ Length 0 ∷ Length 1 ∷ Number 0 ∷ [])
 unfolding writes
 write_refusals = refl

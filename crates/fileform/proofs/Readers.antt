@@ -11,9 +11,9 @@ use lib.Ieee.{Float, nan, binary64, fits}
 use lib.Ieee.Bits.{of_bits-fits}
 use lib.Seq.{ext_get_or}
 use Rattle.answers.specs.declared.Refusal.TheVariants.{File}
-use Rattle.answers.specs.declared.Verdict.TheVariants.{Fits}
-use Rattle.answers.specs.Outcome.{done, refused, bind, Answer, ◌then◌, demand}
-use Rattle.answers.proofs.Outcomes.{done_inj, bind_done}
+use Rattle.std.specs.Prelude.{Ok, Err}
+use Rattle.answers.specs.Outcome.{bind, Answer, ◌then◌, demand}
+use Rattle.answers.proofs.Outcomes.{ok_inj, bind_ok}
 use Rattle.answers.proofs.Checks.{demand_yes, demand_is, then_is, then_skip}
 use Rattle.numbers.specs.Arithmetic.{zero64}
 use Rattle.lists.specs.Lists.{tab}
@@ -44,14 +44,14 @@ pub record Header (bytes : List ℕ) (d : ℕ) : Type 0 where
   pub few : within most_axes d ≡ true
   pub axes : u16_at bytes 4 ≡ d
 
-pub header_is : (bytes : List ℕ) (d : ℕ) → read_header bytes ≡ done d → Header bytes d
+pub header_is : (bytes : List ℕ) (d : ℕ) → read_header bytes ≡ Ok d → Header bytes d
 unfolding read_header
 header_is bytes d h =
     let a = then_is _ _ d h in
     let b = then_is _ _ d a.1 in
     let c = then_is _ _ d b.1 in
     let e = then_is _ _ d c.1 in
-    let axes = done_inj e.1 in
+    let axes = ok_inj e.1 in
     record {
       there = leb_is _ _ (demand_is _ _ a.0);
       marked = eqb_is _ _ (demand_is _ _ b.0);
@@ -60,13 +60,13 @@ header_is bytes d h =
       axes = axes;
     }
 
-header_yes : (bytes : List ℕ) (d : ℕ) → Header bytes d → read_header bytes ≡ done d
+header_yes : (bytes : List ℕ) (d : ℕ) → Header bytes d → read_header bytes ≡ Ok d
 unfolding read_header
 header_yes bytes d h =
     then_skip _ _ _ (demand_yes _ _ (leb_yes _ _ h.there))
     (then_skip _ _ _ (demand_yes _ _ (eqb_yes _ _ h.marked))
     (then_skip _ _ _ (demand_yes _ _ (eqb_yes _ _ h.clear))
-    (then_skip _ _ _ (demand_yes _ _ (ap (within most_axes) h.axes ∙ h.few)) (ap done h.axes))))
+    (then_skip _ _ _ (demand_yes _ _ (ap (within most_axes) h.axes ∙ h.few)) (ap Ok h.axes))))
 
 -- ---- the shape
 module _ (d : ℕ) (few : d ≤ most_axes) (k : ℕ) (lt : k < d) where
@@ -100,7 +100,7 @@ pub record Entry (bytes : List ℕ) (s : Shape) (k : ℕ) : Type 0 where
   pub void : u16_at bytes (entry_start k + 6) ≡ 0
   pub body : u32_at bytes (entry_start k + 8) ≡ body_start s k
 
-pub entry_is : (bytes : List ℕ) (s : Shape) (k : ℕ) → entry_ok bytes s k ≡ done tt → Entry bytes s k
+pub entry_is : (bytes : List ℕ) (s : Shape) (k : ℕ) → entry_ok bytes s k ≡ Ok tt → Entry bytes s k
 unfolding entry_ok
 entry_is bytes s k h =
     let a = then_is _ _ tt h in
@@ -111,7 +111,7 @@ entry_is bytes s k h =
       body = eqb_is _ _ (demand_is _ _ b.1);
     }
 
-entry_yes : (bytes : List ℕ) (s : Shape) (k : ℕ) → Entry bytes s k → entry_ok bytes s k ≡ done tt
+entry_yes : (bytes : List ℕ) (s : Shape) (k : ℕ) → Entry bytes s k → entry_ok bytes s k ≡ Ok tt
 unfolding entry_ok
 entry_yes bytes s k h =
     then_skip _ _ _ (demand_yes _ _ h.sizes)
@@ -126,16 +126,16 @@ pub record Table (bytes : List ℕ) (s : Shape) : Type 0 where
 module _ (bytes : List ℕ) where
   -- what `read_table` makes of the shape that it finds
   abbrev table_of : ℕ → Shape → Answer Shape
-  table_of d s = demand (leb (entry_start d) (length bytes)) (File (length bytes)) then table_ok bytes s then done s
+  table_of d s = demand (leb (entry_start d) (length bytes)) (File (length bytes)) then table_ok bytes s then Ok s
 
-  table_is : (d : ℕ) (s : Shape) → read_table bytes d ≡ done s → (shape_in bytes d ≡ s) × Table bytes (shape_in bytes d)
+  table_is : (d : ℕ) (s : Shape) → read_table bytes d ≡ Ok s → (shape_in bytes d ≡ s) × Table bytes (shape_in bytes d)
   unfolding read_table table_ok shape_in shape_with
   table_is d s h =
       let sh = shape_in bytes d in
       let a = then_is _ _ s h in
-      let b = then_is (table_ok bytes sh) (done sh) s a.1 in
+      let b = then_is (table_ok bytes sh) (Ok sh) s a.1 in
       let c = then_is _ _ tt b.0 in (
-        done_inj b.1,
+        ok_inj b.1,
         record {
           there = leb_is _ _ (demand_is _ _ a.0);
           entries = λ k lt. entry_is bytes sh k (turning_is (entry_ok bytes sh) d 0 c.0 k zero-le (rw zero-add lt));
@@ -143,7 +143,7 @@ module _ (bytes : List ℕ) where
         },
       )
 
-  table_yes : (s : Shape) → shape_in bytes s.d ≡ s → Table bytes s → read_table bytes s.d ≡ done s
+  table_yes : (s : Shape) → shape_in bytes s.d ≡ s → Table bytes s → read_table bytes s.d ≡ Ok s
   unfolding read_table table_ok
   table_yes s e h =
       ap (table_of s.d) e
@@ -153,7 +153,7 @@ module _ (bytes : List ℕ) where
       refl)
 
 -- ---- header and table
-contents_yes : (bytes : List ℕ) (s : Shape) (chain : List Float) → Meets s → Holds bytes s chain → read_contents bytes ≡ done (trimmed s)
+contents_yes : (bytes : List ℕ) (s : Shape) (chain : List Float) → Meets s → Holds bytes s chain → read_contents bytes ≡ Ok (trimmed s)
 unfolding read_contents trimmed shape_with file_length
 contents_yes bytes s chain m h =
     let long : length bytes ≡ 8 + 12 * s.d + 8 * entries_of s = h.long in
@@ -173,10 +173,10 @@ pub record Contents (bytes : List ℕ) (s : Shape) : Type 0 where
   pub table : Table bytes s
   pub found : shape_in bytes s.d ≡ s
 
-pub contents_is : (bytes : List ℕ) (s : Shape) → read_contents bytes ≡ done s → Contents bytes s
+pub contents_is : (bytes : List ℕ) (s : Shape) → read_contents bytes ≡ Ok s → Contents bytes s
 unfolding read_contents shape_in shape_with
 contents_is bytes s h =
-    let a = bind_done (read_header bytes) (read_table bytes) s h in
+    let a = bind_ok (read_header bytes) (read_table bytes) s h in
     let d = a.0 in
     let b = table_is bytes d s a.2 in
     subst (Contents bytes) b.0 (record { header = header_is bytes d a.1; table = b.1; found = refl })
@@ -187,7 +187,7 @@ module _ (bytes : List ℕ) (s : Shape) where
   abbrev found : ℕ → Float
   found i = f64_at bytes (entry_start s.d + 8 * i)
 
-  numbers_yes : (chain : List Float) → Sound s chain → Holds bytes s chain → read_numbers bytes (trimmed s) ≡ done chain
+  numbers_yes : (chain : List Float) → Sound s chain → Holds bytes s chain → read_numbers bytes (trimmed s) ≡ Ok chain
   unfolding read_numbers numbers_in numbers_from trimmed shape_with
   numbers_yes chain ok h =
       let N = entries_of s in
@@ -196,33 +196,33 @@ module _ (bytes : List ℕ) (s : Shape) where
       let e : tab (entries_of t) found ≡ chain
       = ap (λ (m : ℕ). tab m found) (sym (alike_entries s t a))
       ∙ ext_get_or nan (tab N found) chain (length_tab N found ∙ sym ok.whole) (λ i lt. let here : i < N = rw length_tab at lt in get_or_tab_lem N found i nan here ∙ h.numbers i here) in
-      ap (λ (l : List Float). numbers_ok t l then done l) e ∙ then_skip _ _ _ (sym (alike_numbers s t a chain) ∙ ok.finites) refl
+      ap (λ (l : List Float). numbers_ok t l then Ok l) e ∙ then_skip _ _ _ (sym (alike_numbers s t a chain) ∙ ok.finites) refl
 
-  numbers_is : (chain : List Float) → read_numbers bytes s ≡ done chain → (tab (entries_of s) found ≡ chain) × (numbers_ok s chain ≡ done tt)
+  numbers_is : (chain : List Float) → read_numbers bytes s ≡ Ok chain → (tab (entries_of s) found ≡ chain) × (numbers_ok s chain ≡ Ok tt)
   unfolding read_numbers numbers_in numbers_from
   numbers_is chain h =
       let a = then_is _ _ chain h in
-      let e = done_inj a.1 in
+      let e = ok_inj a.1 in
       (e, ap (numbers_ok s) (sym e) ∙ a.0)
 
 -- ---- all of it
 module _ (bytes : List ℕ) (out : List Float) where
   abbrev rest : Shape → Answer Chain
-  rest s = lengths_ok s (length bytes) (length out) then bind (read_numbers bytes s) (λ chain. done (record { shape = s; numbers = chain }))
+  rest s = lengths_ok s (length bytes) (length out) then bind (read_numbers bytes s) (λ chain. Ok (record { shape = s; numbers = chain }))
 
-  lengths_yes : (s : Shape) → length bytes ≡ file_length s → entries_of s ≤ length out → lengths_ok s (length bytes) (length out) ≡ done tt
+  lengths_yes : (s : Shape) → length bytes ≡ file_length s → entries_of s ≤ length out → lengths_ok s (length bytes) (length out) ≡ Ok tt
   unfolding lengths_ok
   lengths_yes s long fit = then_skip _ _ _ (demand_yes _ _ (eqb_yes _ _ long)) (demand_yes _ _ (leb_yes _ _ fit))
 
   pub reading_yes : (s : Shape) (chain : List Float) → Sound s chain → Holds bytes s chain → entries_of s ≤ length out
-      → reading bytes out ≡ done (record { shape = trimmed s; numbers = chain })
+      → reading bytes out ≡ Ok (record { shape = trimmed s; numbers = chain })
   unfolding reading
   reading_yes s chain ok h room =
       let t = trimmed s in
       let a = trimmed_alike s (met s ok.meets).most in
       ap (λ (o : Answer Shape). bind o rest) (contents_yes bytes s chain ok.meets h)
       ∙ then_skip _ _ _ (lengths_yes t (h.long ∙ alike_length s t a) (omega (arith, alike_entries s t a)))
-      (ap (λ (o : Answer (List Float)). bind o (λ l. done (record { shape = t; numbers = l }))) (numbers_yes bytes s chain ok h))
+      (ap (λ (o : Answer (List Float)). bind o (λ l. Ok (record { shape = t; numbers = l }))) (numbers_yes bytes s chain ok h))
 
   pub record Accepted (c : Chain) : Type 0 where
     pub sound : Sound c.shape c.numbers
@@ -263,7 +263,7 @@ module _ (bytes : List ℕ) (out : List Float) where
           numbers = number;
         }
 
-    accepted : numbers_ok s chain ≡ done tt → entries_of s ≤ length out → Accepted (record { shape = s; numbers = chain })
+    accepted : numbers_ok s chain ≡ Ok tt → entries_of s ≤ length out → Accepted (record { shape = s; numbers = chain })
     accepted finites fit =
         record {
           sound = record { meets = contents.table.meets; whole = whole; finites = finites };
@@ -273,27 +273,27 @@ module _ (bytes : List ℕ) (out : List Float) where
           room = fit;
         }
 
-  pub reading_is : (c : Chain) → reading bytes out ≡ done c → Accepted c
+  pub reading_is : (c : Chain) → reading bytes out ≡ Ok c → Accepted c
   unfolding reading lengths_ok
   reading_is c h =
-      let a = bind_done (read_contents bytes) rest c h in
+      let a = bind_ok (read_contents bytes) rest c h in
       let s = a.0 in
       let b = then_is (lengths_ok s (length bytes) (length out)) _ c a.2 in
-      let e = bind_done (read_numbers bytes s) (λ l. done (record { shape = s; numbers = l })) c b.1 in
+      let e = bind_ok (read_numbers bytes s) (λ l. Ok (record { shape = s; numbers = l })) c b.1 in
       let l = then_is _ _ tt b.0 in
       let n = numbers_is bytes s e.0 e.1 in
-      subst Accepted (done_inj e.2)
+      subst Accepted (ok_inj e.2)
       (accepted s e.0 (contents_is bytes s a.1) (eqb_is _ _ (demand_is _ _ l.0)) n.0 n.1 (leb_is _ _ (demand_is _ _ l.1)))
 
 -- ---- an accepted call, and what it leaves
 -- what reading leaves where it answers c
 abbrev pub read_as : List Float → Chain → Exit Read Float
-read_as out c = record { result = record { verdict = Fits; shape = c.shape }; out = fit zero64 (length out) c.numbers }
+read_as out c = record { result = record { verdict = Ok tt; shape = c.shape }; out = fit zero64 (length out) c.numbers }
 
-pub read_fits : (bytes : List ℕ) (out : List Float) → (read_call bytes out).result.verdict ≡ Fits → (c : Chain) × Accepted bytes out c × (read_call bytes out ≡ read_as out c)
+pub read_fits : (bytes : List ℕ) (out : List Float) → (read_call bytes out).result.verdict ≡ Ok tt → (c : Chain) × Accepted bytes out c × (read_call bytes out ≡ read_as out c)
 unfolding read_call read_exit
 read_fits bytes out h = go (reading bytes out) refl h
   where
-    go : (o : Answer Chain) → reading bytes out ≡ o → (read_exit out o).result.verdict ≡ Fits → (c : Chain) × Accepted bytes out c × (read_exit out (reading bytes out) ≡ read_as out c)
-    go (done c) e f = (c, reading_is bytes out c e, ap (read_exit out) e)
-    go (refused r) e f = let z : ◌≡◌ {A = ℕ} 0 1 = cc in absurd (omega arith)
+    go : (o : Answer Chain) → reading bytes out ≡ o → (read_exit out o).result.verdict ≡ Ok tt → (c : Chain) × Accepted bytes out c × (read_exit out (reading bytes out) ≡ read_as out c)
+    go (Ok c) e f = (c, reading_is bytes out c e, ap (read_exit out) e)
+    go (Err r) e f = let z : ◌≡◌ {A = ℕ} 0 1 = cc in absurd (omega arith)

@@ -1,4 +1,5 @@
 -- Laws of shapes: what an accepted one meets, and that what stands in the places from d on decides nothing. Assumes nothing.
+use Rattle.std.specs.Prelude.{Ok, Err}
 use mathlib.Core.Path.{◌≡◌, refl, sym, ap, ◌∙◌}
 use Prim.Native.Nat.{ℕ, zero, suc, ◌≤◌, ◌<◌, zero-le}
 use native.Mathlib.Nat.{le_refl}
@@ -8,8 +9,8 @@ use lib.Dec.{ltb, eqb}
 use Rattle.answers.specs.declared.Refusal.{Refusal}
 use Rattle.answers.specs.declared.Refusal.TheVariants.{Axes, Size, Ranks}
 use Rattle.answers.specs.Table.{number_of}
-use Rattle.answers.specs.Outcome.{done, refused, Check, ◌then◌, demand, demand_each}
-use Rattle.answers.proofs.Outcomes.{done_refused, refused_inj}
+use Rattle.answers.specs.Outcome.{Check, ◌then◌, demand, demand_each}
+use Rattle.answers.proofs.Outcomes.{ok_err, err_inj}
 use Rattle.answers.proofs.Checks.{demand_yes, demand_is, then_is, then_skip, each_yes, each_is}
 use Rattle.lists.specs.Slots.{offset}
 use Rattle.lists.proofs.Tests.{both, and_yes, ltb_is}
@@ -39,7 +40,7 @@ module _ (s : Shape) where
   abbrev bonds_ok : Check
   bonds_ok = demand_each Ranks (λ (k : ℕ). bond_ok s k && true) s.d 0
 
-  pub ok_meets : chain_ok s ≡ done tt → Meets s
+  pub ok_meets : chain_ok s ≡ Ok tt → Meets s
   unfolding shape_ok
   ok_meets h =
       let a = then_is axes_ok (sizes_ok then start_ok then bonds_ok) tt h in
@@ -52,31 +53,31 @@ module _ (s : Shape) where
         bonds = λ k lt. (both (bond_ok s k) true (each_is Ranks (λ (j : ℕ). bond_ok s j && true) s.d 0 c.1 k zero-le (omega arith))).0;
       }
 
-  pub meets_ok : Meets s → chain_ok s ≡ done tt
+  pub meets_ok : Meets s → chain_ok s ≡ Ok tt
   unfolding shape_ok
   meets_ok m =
-      then_skip axes_ok (sizes_ok then start_ok then bonds_ok) (done tt) (demand_yes (within most_axes s.d) Axes m.axes)
-      (then_skip sizes_ok (start_ok then bonds_ok) (done tt) (each_yes Size (size_ok s) s.d 0 (λ k a b. m.sizes k (omega arith)))
-      (then_skip start_ok bonds_ok (done tt) (demand_yes (eqb (left_of s 0) 1) (Ranks 0) m.start)
+      then_skip axes_ok (sizes_ok then start_ok then bonds_ok) (Ok tt) (demand_yes (within most_axes s.d) Axes m.axes)
+      (then_skip sizes_ok (start_ok then bonds_ok) (Ok tt) (each_yes Size (size_ok s) s.d 0 (λ k a b. m.sizes k (omega arith)))
+      (then_skip start_ok bonds_ok (Ok tt) (demand_yes (eqb (left_of s 0) 1) (Ranks 0) m.start)
       (each_yes Ranks (λ (k : ℕ). bond_ok s k && true) s.d 0 (λ k a b. and_yes (bond_ok s k) true (m.bonds k (omega arith)) refl))))
 
 -- where 1 and 2 have been ruled out, 3 is the refusal that is left
-each_refused : (r : ℕ → Refusal) (p : ℕ → Bool) (m k : ℕ) (x : Refusal) → demand_each r p m k ≡ refused x → (j : ℕ) × (r j ≡ x)
+each_refused : (r : ℕ → Refusal) (p : ℕ → Bool) (m k : ℕ) (x : Refusal) → demand_each r p m k ≡ Err x → (j : ℕ) × (r j ≡ x)
 unfolding demand_each demand
-each_refused r p zero k x h = absurd (done_refused h)
+each_refused r p zero k x h = absurd (ok_err h)
 each_refused r p (suc m) k x h = go (p k) (each_refused r p m (suc k) x) h
   where
-    go : (b : Bool) → (demand_each r p m (suc k) ≡ refused x → (j : ℕ) × (r j ≡ x)) → demand b (r k) then demand_each r p m (suc k) ≡ refused x → (j : ℕ) × (r j ≡ x)
+    go : (b : Bool) → (demand_each r p m (suc k) ≡ Err x → (j : ℕ) × (r j ≡ x)) → demand b (r k) then demand_each r p m (suc k) ≡ Err x → (j : ℕ) × (r j ≡ x)
     go true later e = later e
-    go false later e = (k, refused_inj e)
+    go false later e = (k, err_inj e)
 
-pub bonds_only : (s : Shape) (x : Refusal) → within most_axes s.d ≡ true → ((k : ℕ) → k < s.d → size_ok s k ≡ true) → chain_ok s ≡ refused x → number_of x ≡ 3
+pub bonds_only : (s : Shape) (x : Refusal) → within most_axes s.d ≡ true → ((k : ℕ) → k < s.d → size_ok s k ≡ true) → chain_ok s ≡ Err x → number_of x ≡ 3
 unfolding shape_ok demand
 bonds_only s x axes sizes h = go (eqb (left_of s 0) 1) (sym first ∙ h)
   where
-    go : (b : Bool) → demand b (Ranks 0) then bonds_ok s ≡ refused x → number_of x ≡ 3
+    go : (b : Bool) → demand b (Ranks 0) then bonds_ok s ≡ Err x → number_of x ≡ 3
     go true e = ap number_of (sym (each_refused Ranks (λ (k : ℕ). bond_ok s k && true) s.d 0 x e).1)
-    go false e = ap number_of (sym (refused_inj e))
+    go false e = ap number_of (sym (err_inj e))
 
     first : chain_ok s ≡ start_ok s then bonds_ok s
     first = then_skip (axes_ok s) _ _ (demand_yes _ _ axes) (then_skip (sizes_ok s) _ _ (each_yes Size (size_ok s) s.d 0 (λ k a b. sizes k (omega arith))) refl)

@@ -8,10 +8,9 @@ use lib.ListN.{length, take, drop, replicate, length-replicate}
 use lib.Seq.{take_at, get_or-take, get_or-drop}
 use lib.Ieee.{Float, nan}
 use Rattle.answers.specs.declared.Refusal.{Refusal}
-use Rattle.answers.specs.declared.Verdict.{Verdict}
-use Rattle.answers.specs.declared.Verdict.TheVariants.{Fits, Refused}
-use Rattle.answers.specs.Outcome.{done, refused, Answer}
-use Rattle.answers.proofs.Outcomes.{done_inj}
+use Rattle.std.specs.Prelude.{Ok, Err}
+use Rattle.answers.specs.Outcome.{Answer, Check}
+use Rattle.answers.proofs.Outcomes.{ok_inj}
 use Rattle.numbers.specs.Arithmetic.{zero64}
 use Rattle.lists.specs.Slots.{offset, slot, fit}
 use Rattle.lists.specs.Floats.{at, zeros}
@@ -30,14 +29,14 @@ use Rattle.fileform.proofs.Readers.{Accepted, reading_yes, reading_is, read_fits
 use Rattle.fileform.proofs.Writers.{sound_finite, writing_yes, write_fits}
 
 -- ---- 1. what was written is read again: the shape, and the chain bit for bit
-module _ (s : Shape) (chain : List Float) (doubles : AreDoubles chain) (out : List ℕ) (accepted : (write_call s chain out).result ≡ Fits) (room : List Float) where
+module _ (s : Shape) (chain : List Float) (doubles : AreDoubles chain) (out : List ℕ) (accepted : (write_call s chain out).result ≡ Ok tt) (room : List Float) where
   pub write_read : entries_of s ≤ length room
-      → read_call (write_call s chain out).out room ≡ record { result = record { verdict = Fits; shape = trimmed s }; out = fit zero64 (length room) chain }
+      → read_call (write_call s chain out).out room ≡ record { result = record { verdict = Ok tt; shape = trimmed s }; out = fit zero64 (length room) chain }
   unfolding read_call read_exit
   write_read enough =
       let w = write_fits s chain out accepted in
       let ok = w.0 in
-      ap (λ (x : Exit Verdict ℕ). read_call x.out room) w.2
+      ap (λ (x : Exit Check ℕ). read_call x.out room) w.2
       ∙ ap (read_exit room) (reading_yes (file_of s chain) room s chain ok (file_holds s chain ok.meets ok.whole doubles) enough)
 
   -- with exactly the room that it needs, the output is the chain
@@ -55,7 +54,7 @@ shape_read bytes out = (read_call bytes out).result.shape
 abbrev pub chain_read : List ℕ → List Float → List Float
 chain_read bytes out = take (entries_of (shape_read bytes out)) (read_call bytes out).out
 
-module _ (bytes : List ℕ) (out : List Float) (accepted : (read_call bytes out).result.verdict ≡ Fits) where
+module _ (bytes : List ℕ) (out : List Float) (accepted : (read_call bytes out).result.verdict ≡ Ok tt) where
   read_accepted : Accepted bytes out (record { shape = shape_read bytes out; numbers = chain_read bytes out })
   read_accepted =
       let r = read_fits bytes out accepted in
@@ -77,11 +76,11 @@ module _ (bytes : List ℕ) (out : List Float) (accepted : (read_call bytes out)
         holds_file bytes are (shape_read bytes out) (chain_read bytes out) a.holds (sound_finite (shape_read bytes out) (chain_read bytes out) a.sound)
 
     -- by the call, into an output of the bytes' length
-    pub read_write_call : (file : List ℕ) → length file ≡ length bytes → write_call (shape_read bytes out) (chain_read bytes out) file ≡ record { result = Fits; out = bytes }
+    pub read_write_call : (file : List ℕ) → length file ≡ length bytes → write_call (shape_read bytes out) (chain_read bytes out) file ≡ record { result = Ok tt; out = bytes }
     unfolding write_call write_exit
     read_write_call file long =
         let a = read_accepted in
-        ap (write_exit file) (writing_yes (shape_read bytes out) (chain_read bytes out) file a.sound (long ∙ a.holds.long) ∙ ap done read_write)
+        ap (write_exit file) (writing_yes (shape_read bytes out) (chain_read bytes out) file a.sound (long ∙ a.holds.long) ∙ ap Ok read_write)
 
 -- ---- 3. reading accepts exactly what writing makes, where there is room for it
 pub record MadeFor (bytes : List ℕ) (out : List Float) : Type 0 where
@@ -89,40 +88,40 @@ pub record MadeFor (bytes : List ℕ) (out : List Float) : Type 0 where
   pub chain : List Float
   pub doubles : AreDoubles chain
   pub file : List ℕ
-  pub made : write_call shape chain file ≡ record { result = Fits; out = bytes }
+  pub made : write_call shape chain file ≡ record { result = Ok tt; out = bytes }
   pub room : entries_of shape ≤ length out
 
-pub accepted_exactly : (bytes : List ℕ) → AreBytes bytes → (out : List Float) → ((read_call bytes out).result.verdict ≡ Fits) ↔ MadeFor bytes out
+pub accepted_exactly : (bytes : List ℕ) → AreBytes bytes → (out : List Float) → ((read_call bytes out).result.verdict ≡ Ok tt) ↔ MadeFor bytes out
 accepted_exactly bytes are out = (there, back)
   where
-    there : (read_call bytes out).result.verdict ≡ Fits → MadeFor bytes out
+    there : (read_call bytes out).result.verdict ≡ Ok tt → MadeFor bytes out
     there e =
         let a = read_accepted bytes out e in
         record { shape = shape_read bytes out; chain = chain_read bytes out; doubles = a.doubles; file = bytes; made = read_write_call bytes out e are bytes refl; room = a.room }
 
-    back : MadeFor bytes out → (read_call bytes out).result.verdict ≡ Fits
+    back : MadeFor bytes out → (read_call bytes out).result.verdict ≡ (Ok tt)
     back m =
-        let fits = ap (λ (x : Exit Verdict ℕ). x.result) m.made in
-        let same = ap (λ (x : Exit Verdict ℕ). x.out) m.made in
+        let fits = ap (λ (x : Exit Check ℕ). x.result) m.made in
+        let same = ap (λ (x : Exit Check ℕ). x.out) m.made in
         ap (λ (b : List ℕ). (read_call b out).result.verdict) (sym same)
         ∙ ap (λ (x : Exit Read Float). x.result.verdict) (write_read m.shape m.chain m.doubles m.file fits out m.room)
 
 -- ---- 4. a file has one chain, and a chain one file
-pub one_chain : (s t : Shape) (l m : List Float) → AreDoubles l → AreDoubles m → (o p : List ℕ) → (write_call s l o).result ≡ Fits → (write_call t m p).result ≡ Fits
+pub one_chain : (s t : Shape) (l m : List Float) → AreDoubles l → AreDoubles m → (o p : List ℕ) → (write_call s l o).result ≡ Ok tt → (write_call t m p).result ≡ Ok tt
     → (write_call s l o).out ≡ (write_call t m p).out → (trimmed s ≡ trimmed t) × (l ≡ m)
 one_chain s t l m dl dm o p ws wt same =
     let a = write_fits s l o ws in
     let b = write_fits t m p wt in
     let room = zeros (entries_of s + entries_of t) in
     let len = length-replicate (entries_of s + entries_of t) zero64 in
-    let file : file_of s l ≡ file_of t m = sym (ap (λ (x : Exit Verdict ℕ). x.out) a.2) ∙ same ∙ ap (λ (x : Exit Verdict ℕ). x.out) b.2 in
+    let file : file_of s l ≡ file_of t m = sym (ap (λ (x : Exit Check ℕ). x.out) a.2) ∙ same ∙ ap (λ (x : Exit Check ℕ). x.out) b.2 in
     let rs = reading_yes (file_of s l) room s l a.0 (file_holds s l a.0.meets a.0.whole dl) (omega arith) in
     let rt = reading_yes (file_of t m) room t m b.0 (file_holds t m b.0.meets b.0.whole dm) (omega arith) in
-    let e = done_inj (sym rs ∙ ap (λ (f : List ℕ). reading f room) file ∙ rt) in
+    let e = ok_inj (sym rs ∙ ap (λ (f : List ℕ). reading f room) file ∙ rt) in
     (ap (λ (c : Chain). c.shape) e, ap (λ (c : Chain). c.numbers) e)
 
 -- what stands in the shape's places from d on is in no file
-pub one_file : (s : Shape) (l : List Float) → AreDoubles l → (o : List ℕ) → (write_call s l o).result ≡ Fits → file_of (trimmed s) l ≡ file_of s l
+pub one_file : (s : Shape) (l : List Float) → AreDoubles l → (o : List ℕ) → (write_call s l o).result ≡ Ok tt → file_of (trimmed s) l ≡ file_of s l
 one_file s l dl o ws =
     let ok = (write_fits s l o ws).0 in
     let room = zeros (entries_of s) in
@@ -132,7 +131,7 @@ one_file s l dl o ws =
     holds_file (file_of s l) (file_bytes s l) (trimmed s) l a.holds (sound_finite (trimmed s) l a.sound)
 
 -- ---- 5. entry k's offset is where core k's numbers stand
-pub body_there : (s : Shape) (l : List Float) → AreDoubles l → (o : List ℕ) → (write_call s l o).result ≡ Fits
+pub body_there : (s : Shape) (l : List Float) → AreDoubles l → (o : List ℕ) → (write_call s l o).result ≡ Ok tt
     → (k j : ℕ) → k < s.d → j < core_size s k → f64_at (file_of s l) (body_start s k + 8 * j) ≡ at (slot (core_size s) k l) j
 unfolding slot body_start
 body_there s l dl o ws k j lt here =
@@ -144,18 +143,18 @@ body_there s l dl o ws k j lt here =
     ap (f64_at (file_of s l)) at_byte ∙ h.numbers (start + j) inside ∙ sym (get_or-take (core_size s k) (drop start l) j nan here ∙ get_or-drop start l j nan)
 
 -- ---- 6. refused, nothing is written
-pub write_refused : (s : Shape) (l : List Float) (o : List ℕ) (r : Refusal) → (write_call s l o).result ≡ Refused r → (write_call s l o).out ≡ o
+pub write_refused : (s : Shape) (l : List Float) (o : List ℕ) (r : Refusal) → (write_call s l o).result ≡ Err r → (write_call s l o).out ≡ o
 unfolding write_call write_exit
 write_refused s l o r h = go (writing s l o) h
   where
-    go : (a : Answer (List ℕ)) → (write_exit o a).result ≡ Refused r → (write_exit o a).out ≡ o
-    go (done file) e = let z : ◌≡◌ {A = ℕ} 0 1 = cc in absurd (omega arith)
-    go (refused x) e = refl
+    go : (a : Answer (List ℕ)) → (write_exit o a).result ≡ Err r → (write_exit o a).out ≡ o
+    go (Ok file) e = let z : ◌≡◌ {A = ℕ} 0 1 = cc in absurd (omega arith)
+    go (Err x) e = refl
 
-pub read_refused : (bytes : List ℕ) (out : List Float) (r : Refusal) → (read_call bytes out).result.verdict ≡ Refused r → read_call bytes out ≡ record { result = record { verdict = Refused r; shape = no_shape }; out = out }
+pub read_refused : (bytes : List ℕ) (out : List Float) (r : Refusal) → (read_call bytes out).result.verdict ≡ Err r → read_call bytes out ≡ record { result = record { verdict = Err r; shape = no_shape }; out = out }
 unfolding read_call read_exit
 read_refused bytes out r h = go (reading bytes out) h
   where
-    go : (a : Answer Chain) → (read_exit out a).result.verdict ≡ Refused r → read_exit out a ≡ record { result = record { verdict = Refused r; shape = no_shape }; out = out }
-    go (done c) e = let z : ◌≡◌ {A = ℕ} 0 1 = cc in absurd (omega arith)
-    go (refused x) e = λ i. record { result = record { verdict = e i; shape = no_shape }; out = out }
+    go : (a : Answer Chain) → (read_exit out a).result.verdict ≡ Err r → read_exit out a ≡ record { result = record { verdict = Err r; shape = no_shape }; out = out }
+    go (Ok c) e = let z : ◌≡◌ {A = ℕ} 0 1 = cc in absurd (omega arith)
+    go (Err x) e = λ i. record { result = record { verdict = e i; shape = no_shape }; out = out }

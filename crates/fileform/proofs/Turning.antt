@@ -1,10 +1,11 @@
 -- Laws of turns that only check: all pass exactly where each does. Assumes nothing.
+use Rattle.std.specs.Prelude.{Ok}
 use mathlib.Core.Path.{◌≡◌, refl, sym, ap, ◌∙◌}
 use Prim.Native.Nat.{ℕ, zero, suc, ◌+◌, ◌≤◌, ◌<◌}
 use native.Mathlib.Nat.{le_refl, eq-or-lt_of_le}
 use native.Mathlib.Omega.{arith}
 use mathlib.Core.Logic.{⊎_elim}
-use Rattle.answers.specs.Outcome.{done, Check}
+use Rattle.answers.specs.Outcome.{Check}
 use Rattle.answers.proofs.Checks.{then_is, then_skip}
 use Rattle.lists.specs.Walks.{turning}
 
@@ -12,12 +13,12 @@ module _ (c : ℕ → Check) where
   abbrev turns : ℕ → ℕ → Check
   turns m k = turning m k (λ (j : ℕ) _. c j) tt
 
-  pub turning_yes : (m k : ℕ) → ((j : ℕ) → k ≤ j → j < k + m → c j ≡ done tt) → turns m k ≡ done tt
+  pub turning_yes : (m k : ℕ) → ((j : ℕ) → k ≤ j → j < k + m → c j ≡ Ok tt) → turns m k ≡ Ok tt
   unfolding turning
   turning_yes zero k h = refl
-  turning_yes (suc m) k h = then_skip (c k) (turns m (suc k)) (done tt) (h k (le_refl k) (omega arith)) (turning_yes m (suc k) (λ j a b. h j (omega arith) (omega arith)))
+  turning_yes (suc m) k h = then_skip (c k) (turns m (suc k)) (Ok tt) (h k (le_refl k) (omega arith)) (turning_yes m (suc k) (λ j a b. h j (omega arith) (omega arith)))
 
-  pub turning_is : (m k : ℕ) → turns m k ≡ done tt → (j : ℕ) → k ≤ j → j < k + m → c j ≡ done tt
+  pub turning_is : (m k : ℕ) → turns m k ≡ Ok tt → (j : ℕ) → k ≤ j → j < k + m → c j ≡ Ok tt
   unfolding turning
   turning_is zero k e j a b = let z : ⊥ = omega arith in absurd z
   turning_is (suc m) k e j a b =

@@ -8,9 +8,9 @@ use lib.ListN.{length}
 use lib.Seq.{take_all}
 use lib.Ieee.{Float, nan}
 use Rattle.answers.specs.declared.Refusal.TheVariants.{Number}
-use Rattle.answers.specs.declared.Verdict.TheVariants.{Fits}
-use Rattle.answers.specs.Outcome.{done, refused, Answer}
-use Rattle.answers.proofs.Outcomes.{done_inj}
+use Rattle.std.specs.Prelude.{Ok, Err}
+use Rattle.answers.specs.Outcome.{Answer}
+use Rattle.answers.proofs.Outcomes.{ok_inj}
 use Rattle.answers.proofs.Checks.{demand_yes, then_is, then_skip, each_is}
 use Rattle.numbers.specs.Finite.{finite}
 use Rattle.lists.specs.Slots.{slot}
@@ -30,9 +30,9 @@ use Rattle.fileform.proofs.Shapes.{Meets, meets_ok, ok_meets}
 pub record Sound (s : Shape) (chain : List Float) : Type 0 where
   pub meets : Meets s
   pub whole : length chain ≡ entries_of s
-  pub finites : numbers_ok s chain ≡ done tt
+  pub finites : numbers_ok s chain ≡ Ok tt
 
-pub numbers_finite : (s : Shape) (chain : List Float) → length chain ≡ entries_of s → numbers_ok s chain ≡ done tt → all_finite chain ≡ true
+pub numbers_finite : (s : Shape) (chain : List Float) → length chain ≡ entries_of s → numbers_ok s chain ≡ Ok tt → all_finite chain ≡ true
 unfolding numbers_ok
 numbers_finite s chain e ok =
     let slots = each_is Number (λ (k : ℕ). all_finite (slot (core_size s) k chain)) s.d 0 ok in
@@ -43,16 +43,16 @@ sound_finite s chain ok i lt = finite_get_d_lem chain i nan (omega (arith, ok.wh
 
 -- ---- writing
 module _ (s : Shape) (chain : List Float) (out : List ℕ) where
-  writing_is : (file : List ℕ) → writing s chain out ≡ done file → Sound s chain × (length out ≡ file_length s) × (file_of s chain ≡ file)
+  writing_is : (file : List ℕ) → writing s chain out ≡ Ok file → Sound s chain × (length out ≡ file_length s) × (file_of s chain ≡ file)
   unfolding writing write_ok write_lent
   writing_is file h =
       let w = then_is _ _ file h in
       let a = then_is _ _ tt w.0 in
       let b = then_is _ _ tt a.1 in
       let l = lengths_say _ _ _ _ _ _ b.0 in
-      (record { meets = ok_meets s a.0; whole = l.0; finites = b.1 }, l.1, done_inj w.1)
+      (record { meets = ok_meets s a.0; whole = l.0; finites = b.1 }, l.1, ok_inj w.1)
 
-  pub writing_yes : Sound s chain → length out ≡ file_length s → writing s chain out ≡ done (file_of s chain)
+  pub writing_yes : Sound s chain → length out ≡ file_length s → writing s chain out ≡ Ok (file_of s chain)
   unfolding writing write_ok write_lent
   writing_yes ok long =
       then_skip _ _ _
@@ -61,14 +61,14 @@ module _ (s : Shape) (chain : List Float) (out : List ℕ) where
       refl
 
 -- ---- a call that was accepted, and what it leaves
-pub write_fits : (s : Shape) (chain : List Float) (out : List ℕ) → (write_call s chain out).result ≡ Fits
-    → Sound s chain × (length out ≡ file_length s) × (write_call s chain out ≡ record { result = Fits; out = file_of s chain })
+pub write_fits : (s : Shape) (chain : List Float) (out : List ℕ) → (write_call s chain out).result ≡ Ok tt
+    → Sound s chain × (length out ≡ file_length s) × (write_call s chain out ≡ record { result = Ok tt; out = file_of s chain })
 unfolding write_call write_exit
 write_fits s chain out h = go (writing s chain out) refl h
   where
-    go : (o : Answer (List ℕ)) → writing s chain out ≡ o → (write_exit out o).result ≡ Fits
-        → Sound s chain × (length out ≡ file_length s) × (write_exit out (writing s chain out) ≡ record { result = Fits; out = file_of s chain })
-    go (done file) e f =
+    go : (o : Answer (List ℕ)) → writing s chain out ≡ o → (write_exit out o).result ≡ Ok tt
+        → Sound s chain × (length out ≡ file_length s) × (write_exit out (writing s chain out) ≡ record { result = Ok tt; out = file_of s chain })
+    go (Ok file) e f =
         let w = writing_is s chain out file e in
-        (w.0, w.1, ap (write_exit out) (e ∙ ap done (sym w.2)))
-    go (refused r) e f = let z : ◌≡◌ {A = ℕ} 0 1 = cc in absurd (omega arith)
+        (w.0, w.1, ap (write_exit out) (e ∙ ap Ok (sym w.2)))
+    go (Err r) e f = let z : ◌≡◌ {A = ℕ} 0 1 = cc in absurd (omega arith)

@@ -1,10 +1,9 @@
 -- Reading a chain file. The call is lent the file's bytes (position 0) and an output with room for at least N numbers (position 1).
 -- A read beyond the end counts as 0, but none decides anything: a header, a table and bodies are looked into only behind
 -- the check that they are there. Definitions only.
-use Rattle.std.specs.Prelude.{ℕ, ◌+◌, List, leb, eqb, length, replicate, Float}
+use Rattle.std.specs.Prelude.{ℕ, ◌+◌, List, leb, eqb, length, replicate, Float, Ok, Err}
 use Rattle.answers.specs.declared.Refusal.TheVariants.{Axes, Size, Length, File}
-use Rattle.answers.specs.declared.Verdict.TheVariants.{Fits, Refused}
-use Rattle.answers.specs.Outcome.{done, refused, bind, Answer, Check, ◌then◌, demand}
+use Rattle.answers.specs.Outcome.{bind, Answer, Check, ◌then◌, demand}
 use Rattle.numbers.specs.Arithmetic.{zero64}
 use Rattle.lists.specs.Lists.{tab}
 use Rattle.lists.specs.Slots.{fit}
@@ -24,7 +23,7 @@ read_header bytes =
     then demand (eqb (u32_at bytes 0) (u32_at mark 0)) (File 0)
     then demand (eqb (u16_at bytes 6) 0) (File 6)
     then demand (within most_axes (u16_at bytes 4)) Axes
-    then done (u16_at bytes 4)
+    then Ok (u16_at bytes 4)
 
 -- ---- the table: it answers the shape
 -- d cores of these sizes; the places of its arrays from d on are 0
@@ -57,7 +56,7 @@ read_table bytes d =
     let s = shape_in bytes d in
     demand (leb (entry_start d) (length bytes)) (File (length bytes))
     then table_ok bytes s
-    then done s
+    then Ok s
 
 -- header and table: the contents, bodies aside
 unfoldable pub read_contents : List ℕ → Answer Shape
@@ -68,8 +67,8 @@ abbrev pub no_shape : Shape
 no_shape = record { d = 0; left = replicate most_axes 0; n = replicate most_axes 0; right = replicate most_axes 0 }
 
 abbrev pub read_by : Answer Shape → Read
-read_by (done s) = record { verdict = Fits; shape = s }
-read_by (refused r) = record { verdict = Refused r; shape = no_shape }
+read_by (Ok s) = record { verdict = Ok tt; shape = s }
+read_by (Err r) = record { verdict = Err r; shape = no_shape }
 
 -- ---- the lengths
 unfoldable pub lengths_ok : Shape → ℕ → ℕ → Check
@@ -82,7 +81,7 @@ unfoldable pub numbers_in : List ℕ → Shape → List Float
 numbers_in bytes s = numbers_from bytes (entry_start s.d) (entries_of s)
 
 unfoldable pub read_numbers : List ℕ → Shape → Answer (List Float)
-read_numbers bytes s = numbers_ok s (numbers_in bytes s) then done (numbers_in bytes s)
+read_numbers bytes s = numbers_ok s (numbers_in bytes s) then Ok (numbers_in bytes s)
 
 -- ---- all of it
 pub record Chain : Type 0 where
@@ -95,19 +94,19 @@ read_ok bytes room =
     bind (read_contents bytes) (λ s.
     lengths_ok s (length bytes) room
     then numbers_ok s (numbers_in bytes s)
-    then done s)
+    then Ok s)
 
 unfoldable pub reading : List ℕ → List Float → Answer Chain
 reading bytes out =
     bind (read_contents bytes) (λ s.
     lengths_ok s (length bytes) (length out)
     then bind (read_numbers bytes s) (λ chain.
-    done record { shape = s; numbers = chain }))
+    Ok record { shape = s; numbers = chain }))
 
 -- accepted: the numbers at the front of the output, +0 in the rest; refused, the output is unwritten
 unfoldable pub read_exit : List Float → Answer Chain → Exit Read Float
-read_exit out (done c) = record { result = read_by (done c.shape); out = fit zero64 (length out) c.numbers }
-read_exit out (refused r) = record { result = read_by (refused r); out = out }
+read_exit out (Ok c) = record { result = read_by (Ok c.shape); out = fit zero64 (length out) c.numbers }
+read_exit out (Err r) = record { result = read_by (Err r); out = out }
 
 -- THE CALL
 unfoldable pub read_call : List ℕ → List Float → Exit Read Float

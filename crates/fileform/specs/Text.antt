@@ -1,8 +1,7 @@
 -- The text that `ttlist` prints, in ASCII. Definitions only.
-use Rattle.std.specs.Prelude.{ℕ, zero, suc, ◌+◌, ◌/◌, ◌%◌, List, [], ◌∷◌, ◌++◌, ltb, length}
+use Rattle.std.specs.Prelude.{ℕ, zero, suc, ◌+◌, ◌/◌, ◌%◌, List, [], ◌∷◌, ◌++◌, ltb, length, Ok, Err}
 use Rattle.answers.specs.declared.Refusal.{Refusal}
-use Rattle.answers.specs.declared.Verdict.{Verdict}
-use Rattle.answers.specs.declared.Verdict.TheVariants.{Fits, Refused}
+use Rattle.answers.specs.Outcome.{Check}
 use Rattle.answers.specs.Table.{number_of, place_of}
 use Rattle.lists.specs.Lists.{pick, joined}
 use Rattle.lists.specs.Floats.{zeros}
@@ -47,9 +46,9 @@ chain_text s = headline s ++ joined s.d (axis_line s)
 unfoldable pub refused_text : Refusal → List ℕ
 refused_text r = (114 ∷ 101 ∷ 102 ∷ 117 ∷ 115 ∷ 101 ∷ 100 ∷ 32 ∷ []) ++ (digits_of (number_of r) ++ ((32 ∷ 97 ∷ 116 ∷ 32 ∷ []) ++ field (place_of r) newline))
 
-abbrev pub verdict_text : Verdict → Shape → List ℕ
-verdict_text Fits s = chain_text s
-verdict_text (Refused r) s = refused_text r
+abbrev pub verdict_text : Check → Shape → List ℕ
+verdict_text (Ok _) s = chain_text s
+verdict_text (Err r) s = refused_text r
 
 -- ---- a file: "too large" above so many bytes, else what reading it answers, with room for so many numbers
 abbrev pub most_bytes : ℕ

@@ -1,9 +1,7 @@
 -- Writing a chain file. The call is lent the chain (position 0) and an output of exactly the file's length (position 1). Definitions only.
-use Rattle.std.specs.Prelude.{ℕ, List, eqb, length, Float}
+use Rattle.std.specs.Prelude.{ℕ, List, eqb, length, Float, Ok, Err}
 use Rattle.answers.specs.declared.Refusal.TheVariants.{Length}
-use Rattle.answers.specs.declared.Verdict.{Verdict}
-use Rattle.answers.specs.declared.Verdict.TheVariants.{Fits, Refused}
-use Rattle.answers.specs.Outcome.{done, refused, Answer, Check, ◌then◌, demand}
+use Rattle.answers.specs.Outcome.{Answer, Check, ◌then◌, demand}
 use Rattle.shape.specs.declared.Shape.{Shape}
 use Rattle.shape.specs.Shapes.{chain_ok, entries_of}
 use Rattle.fileform.specs.File.{file_length, file_of}
@@ -19,13 +17,13 @@ write_ok s chain out = chain_ok s then write_lent s (length chain) out then numb
 
 -- then the file
 unfoldable pub writing : Shape → List Float → List ℕ → Answer (List ℕ)
-writing s chain out = write_ok s chain (length out) then done (file_of s chain)
+writing s chain out = write_ok s chain (length out) then Ok (file_of s chain)
 
 -- refused, the output is unwritten
-unfoldable pub write_exit : List ℕ → Answer (List ℕ) → Exit Verdict ℕ
-write_exit out (done file) = record { result = Fits; out = file }
-write_exit out (refused r) = record { result = Refused r; out = out }
+unfoldable pub write_exit : List ℕ → Answer (List ℕ) → Exit Check ℕ
+write_exit out (Ok file) = record { result = Ok tt; out = file }
+write_exit out (Err r) = record { result = Err r; out = out }
 
 -- THE CALL
-unfoldable pub write_call : Shape → List Float → List ℕ → Exit Verdict ℕ
+unfoldable pub write_call : Shape → List Float → List ℕ → Exit Check ℕ
 write_call s chain out = write_exit out (writing s chain out)

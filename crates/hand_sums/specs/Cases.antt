@@ -1,9 +1,8 @@
 -- The sums done by hand of the scope, as one list: what the definitions give, and what is written there. Definitions only.
-use Rattle.std.specs.Prelude.{ℕ, ◌≡◌, List, [], ◌∷◌, ◌++◌, map, ℤ, pos, negsuc, length, take, replicate, Float, true, false, cond}
+use Rattle.std.specs.Prelude.{ℕ, ◌≡◌, List, [], ◌∷◌, ◌++◌, map, ℤ, pos, negsuc, length, take, replicate, Float, true, false, cond, Ok, Err}
 use Rattle.std.specs.Float.{fin, binary64}
 use Rattle.std.specs.Float.Ieee.{to_bits}
-use Rattle.answers.specs.declared.Verdict.{Verdict}
-use Rattle.answers.specs.declared.Verdict.TheVariants.{Fits, Refused}
+use Rattle.answers.specs.Outcome.{Check}
 use Rattle.answers.specs.Table.{told_of}
 use Rattle.numbers.specs.Arithmetic.{zero64, one64, two64, half64, quarter64}
 use Rattle.numbers.specs.Root.{root_of}
@@ -54,9 +53,9 @@ abbrev D : List Float
 D = D-with one64
 
 -- ---- what a call answers: what is told of a refusal, or the right ranks, the sweeps and the chain of n cores
-abbrev ended : ℕ → Rounded → List Float → Verdict → List ℕ
-ended n r l Fits = take n r.shape.right ++ (take n (map (λ (b : Bond). b.sweeps) r.bonds) ++ bits l)
-ended n r l (Refused e) = told_of (Refused e)
+abbrev ended : ℕ → Rounded → List Float → Check → List ℕ
+ended n r l (Ok _) = take n r.shape.right ++ (take n (map (λ (b : Bond). b.sweeps) r.bonds) ++ bits l)
+ended n r l (Err e) = told_of (Err e)
 
 abbrev pub ended_bits : ℕ → Ended → List ℕ
 ended_bits n e = ended n e.result e.chain e.result.verdict
@@ -65,9 +64,9 @@ abbrev rounded : Shape → Float → List Float → List ℕ
 rounded s eps l = ended_bits 2 (round_call s (absolute_cut eps) l (zeros (scratch_for (length l))))
 
 -- or the shape that it leaves: d, then the left ranks, the sizes and the right ranks of two cores
-abbrev shape_left : Shape → Verdict → List ℕ
-shape_left s Fits = s.d ∷ take 2 s.left ++ (take 2 s.n ++ take 2 s.right)
-shape_left s (Refused e) = told_of (Refused e)
+abbrev shape_left : Shape → Check → List ℕ
+shape_left s (Ok _) = s.d ∷ take 2 s.left ++ (take 2 s.n ++ take 2 s.right)
+shape_left s (Err e) = told_of (Err e)
 
 abbrev shape_rounded : Shape → Float → List Float → List ℕ
 shape_rounded s eps l = let r = (round_call s (absolute_cut eps) l (zeros (scratch_for (length l)))).result in shape_left r.shape r.verdict

@@ -1,7 +1,6 @@
 -- Calls with two things wrong at once, as one list: which refusal is told; and slabs whose only terms are -0. Definitions only.
 use Rattle.std.specs.Prelude.{ℕ, true, false, List, [], ◌∷◌, pos, replicate, Float}
 use Rattle.std.specs.Float.{fin, nan}
-use Rattle.answers.specs.Outcome.{verdict_of}
 use Rattle.answers.specs.Table.{told_of}
 use Rattle.numbers.specs.Arithmetic.{zero64, one64}
 use Rattle.lists.specs.Floats.{zeros}
@@ -29,7 +28,7 @@ minus_nought = fin true 0 (pos 0)
 abbrev three_cores : ℕ → ℕ → ℕ → ℕ → ℕ → ℕ → List ℕ
 three_cores l0 r0 l1 r1 l2 r2 =
     let none : List ℕ = replicate 13 0 in
-    told_of (verdict_of (chain_ok (record { d = 3; left = l0 ∷ l1 ∷ l2 ∷ none; n = 1 ∷ 1 ∷ 1 ∷ none; right = r0 ∷ r1 ∷ r2 ∷ none })))
+    told_of ((chain_ok (record { d = 3; left = l0 ∷ l1 ∷ l2 ∷ none; n = 1 ∷ 1 ∷ 1 ∷ none; right = r0 ∷ r1 ∷ r2 ∷ none })))
 
 -- ---- D with another last number, and with these settings
 abbrev axis : Float → Float → Axis

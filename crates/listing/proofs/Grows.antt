@@ -9,8 +9,8 @@ use lib.Seq.{take_at}
 use lib.Ieee.{Float}
 use borrow.Author.Tests.{lt-ltb, le-ltb}
 use Rattle.answers.specs.declared.Refusal.{Refusal}
-use Rattle.answers.specs.declared.Verdict.{Verdict}
-use Rattle.answers.specs.declared.Verdict.TheVariants.{Fits, Refused}
+use Rattle.std.specs.Prelude.{Ok, Err}
+use Rattle.answers.specs.Outcome.{Check}
 use Rattle.answers.specs.Table.{number_of, place_of}
 use Rattle.lists.specs.Lists.{pick, joined}
 use Rattle.lists.specs.Floats.{zeros}
@@ -122,7 +122,7 @@ module _ (s : Shape) (at : ℕ) (l : List ℕ) where
         put_wide (omega arith) (put_same (ap (λ (i : ℕ). joined i (axis_line s)) z) A.lines)
 
 -- ---- what a reading answered
-pub read_sized : (bytes : List ℕ) (out : List Float) (x : Read) → x ≡ (read_call bytes out).result → x.verdict ≡ Fits → SizesWithin x.shape
+pub read_sized : (bytes : List ℕ) (out : List Float) (x : Read) → x ≡ (read_call bytes out).result → x.verdict ≡ Ok tt → SizesWithin x.shape
 read_sized bytes out x e h =
     let f = read_fits bytes out (ap (λ (y : Read). y.verdict) (sym e) ∙ h) in
     let c = f.0 in
@@ -130,13 +130,13 @@ read_sized bytes out x e h =
     subst SizesWithin same (met c.shape f.1.sound.meets).sizes
 
 module _ (x : Read) (l m : List ℕ) (e : ℕ) where
-  pub refused_put : (r : Refusal) → x.verdict ≡ Refused r → Put 53 0 (refused_text r) l m e → Put 1735 0 (read_text x) l m e
+  pub refused_put : (r : Refusal) → x.verdict ≡ Err r → Put 53 0 (refused_text r) l m e → Put 1735 0 (read_text x) l m e
   unfolding read_text
-  refused_put r h p = put_same (sym (ap (λ (v : Verdict). verdict_text v x.shape) h)) (put_wide (omega arith) p)
+  refused_put r h p = put_same (sym (ap (λ (v : Check). verdict_text v x.shape) h)) (put_wide (omega arith) p)
 
-  pub accepted_put : x.verdict ≡ Fits → Put 1735 0 (chain_text x.shape) l m e → Put 1735 0 (read_text x) l m e
+  pub accepted_put : x.verdict ≡ Ok tt → Put 1735 0 (chain_text x.shape) l m e → Put 1735 0 (read_text x) l m e
   unfolding read_text
-  accepted_put h p = put_same (sym (ap (λ (v : Verdict). verdict_text v x.shape) h)) p
+  accepted_put h p = put_same (sym (ap (λ (v : Check). verdict_text v x.shape) h)) p
 
 -- ---- the listing
 module _ (bytes : List ℕ) (l m : List ℕ) (e : ℕ) where

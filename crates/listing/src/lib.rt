@@ -1,8 +1,7 @@
 // The listing of a chain file, as text in a lent array.
 #![tactic(auto)]
 
-ghost use Rattle.std.specs.Prelude.{◌≡◌, ◌+◌, ◌≤◌, ◌<◌, length};
-ghost use Rattle.answers.specs.declared.Verdict.TheVariants.{Fits};
+ghost use Rattle.std.specs.Prelude.{◌≡◌, ◌+◌, ◌≤◌, ◌<◌, length, Ok};
 ghost use Rattle.lists.specs.Lists.{joined};
 ghost use Rattle.shape.specs.Limits.{most_axes};
 ghost use Rattle.shape.specs.Sizes.{SizesWithin};
@@ -113,12 +112,12 @@ fn put_refusal(r: answers::Refusal, text: &mut [u8]) -> usize
 
 // What reading a file answered.
 fn put_read(x: fileform::Read, text: &mut [u8]) -> usize
-    requires sizes_within { x.verdict ≡ Fits → SizesWithin x.shape }
+    requires sizes_within { x.verdict ≡ Ok tt → SizesWithin x.shape }
     requires in_bounds { 1735 ≤ length text.old }
     ensures { Put 1735 0 (read_text x) text.old text.new result }
 {
     let told = x.verdict;
-    if let answers::Verdict::Refused(r) = told {
+    if let Err(r) = told {
         return put_refusal(r, text);
     }
     put_chain(x.shape, text)

@@ -1,4 +1,5 @@
 -- The first place at which a test holds, or fails; and the check of each place by it. Assumes nothing.
+use Rattle.std.specs.Prelude.{Ok, Err}
 use mathlib.Core.Path.{◌≡◌, refl, sym, ap, ◌∙◌}
 use Prim.Native.Nat.{ℕ, zero, suc, ◌+◌, ◌-◌, ◌≤◌, ◌<◌}
 use native.Mathlib.Nat.{zero-add, eq-or-lt_of_le, le_refl}
@@ -6,7 +7,7 @@ use native.Mathlib.Omega.{arith}
 use mathlib.Core.Bool.{Bool, true, false, cond, not, ◌&&◌, true≢false}
 use mathlib.Core.Logic.{⊎_elim}
 use Rattle.answers.specs.declared.Refusal.{Refusal}
-use Rattle.answers.specs.Outcome.{done, refused, Check, ◌then◌, demand_each}
+use Rattle.answers.specs.Outcome.{Check, ◌then◌, demand_each}
 use Rattle.answers.proofs.Checks.{demand_no, each_yes, each_from}
 use Rattle.lists.specs.Lists.{first_from, first, first_not}
 use Rattle.lists.proofs.Tests.{not_no, not_yes, and_yes}
@@ -96,7 +97,7 @@ module _ (p : ℕ → Bool) (n i : ℕ) (e : i ≡ first_not p n) where
 
   -- the check of each place is refused at the first that fails, and passes where there is none
   module _ (r : ℕ → Refusal) where
-    pub each_stops : i < n → demand_each r p n 0 ≡ refused (r i)
+    pub each_stops : i < n → demand_each r p n 0 ≡ Err (r i)
     unfolding demand_each
     each_stops l =
         let s : n ≡ i + suc (n - suc i) = omega arith in
@@ -105,7 +106,7 @@ module _ (p : ℕ → Bool) (n i : ℕ) (e : i ≡ first_not p n) where
         ∙ ap (λ (k : ℕ). demand_each r p (suc (n - suc i)) k) (zero-add i)
         ∙ ap (λ (c : Check). c then demand_each r p (n - suc i) (suc i)) (demand_no (p i) (r i) (fails_here l))
 
-    pub each_passes : n ≤ i → demand_each r p n 0 ≡ done tt
+    pub each_passes : n ≤ i → demand_each r p n 0 ≡ Ok tt
     each_passes l = each_yes r p n 0 (λ j a b. fails_before j (omega arith))
 
 -- the same place for a test that says the same

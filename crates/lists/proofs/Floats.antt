@@ -1,4 +1,5 @@
 -- Laws of lists of f64: what is finite in part and whole, and what `stored` says. Assumes nothing.
+use Rattle.std.specs.Prelude.{Ok, Err}
 use mathlib.Core.Path.{◌≡◌, refl, sym, ap, ◌∙◌}
 use Prim.Native.Nat.{ℕ, zero, suc, ◌<◌}
 use native.Mathlib.Nat.{not-suc-le-zero, le_of_suc-le-suc}
@@ -7,8 +8,8 @@ use mathlib.Core.List.{List, [], ◌∷◌, ◌++◌}
 use lib.ListN.{length, take, drop, get_or}
 use lib.Ieee.{Float, of_bits}
 use Rattle.answers.specs.declared.Part.{Part}
-use Rattle.answers.specs.Outcome.{done, refused, Made, making}
-use Rattle.answers.proofs.Outcomes.{done_inj, done_refused, making_is}
+use Rattle.answers.specs.Outcome.{Made, making}
+use Rattle.answers.proofs.Outcomes.{ok_inj, ok_err, making_is}
 use Rattle.numbers.specs.Arithmetic.{zero64}
 use Rattle.numbers.specs.Finite.{finite}
 use Rattle.lists.specs.Lists.{pick}
@@ -49,18 +50,18 @@ finite_get_d_lem (x ∷ l) zero o lt p = (both (finite x) (all_finite l) p).0
 finite_get_d_lem (x ∷ l) (suc k) o lt p = finite_get_d_lem l k o (le_of_suc-le-suc lt) (both (finite x) (all_finite l) p).1
 
 -- ---- numbers that were stored are the numbers made, and finite
-pub stored_yes : (l : List Float) → all_finite l ≡ true → stored l ≡ done l
+pub stored_yes : (l : List Float) → all_finite l ≡ true → stored l ≡ Ok l
 unfolding stored pick
 stored_yes l e = rw e
 
-pub stored_is : (l m : List Float) → stored l ≡ done m → (l ≡ m) × (all_finite m ≡ true)
+pub stored_is : (l m : List Float) → stored l ≡ Ok m → (l ≡ m) × (all_finite m ≡ true)
 unfolding stored pick
 stored_is l m h = go (all_finite l) refl h
   where
-    go : (b : Bool) → all_finite l ≡ b → ◌≡◌ {A = Made (List Float)} (pick b (done l) (refused (first_not_finite l))) (done m) → (l ≡ m) × (all_finite m ≡ true)
-    go true e h = (done_inj h, ap all_finite (sym (done_inj h)) ∙ e)
-    go false e h = absurd (done_refused (sym h))
+    go : (b : Bool) → all_finite l ≡ b → ◌≡◌ {A = Made (List Float)} (pick b (Ok l) (Err (first_not_finite l))) (Ok m) → (l ≡ m) × (all_finite m ≡ true)
+    go true e h = (ok_inj h, ap all_finite (sym (ok_inj h)) ∙ e)
+    go false e h = absurd (ok_err (sym h))
 
 -- also where they were stored for core k
-pub making_stored : (part : Part) (k : ℕ) (l m : List Float) → making part k (stored l) ≡ done m → (l ≡ m) × (all_finite m ≡ true)
+pub making_stored : (part : Part) (k : ℕ) (l m : List Float) → making part k (stored l) ≡ Ok m → (l ≡ m) × (all_finite m ≡ true)
 making_stored part k l m h = stored_is l m (making_is part k (stored l) m h)

@@ -1,10 +1,11 @@
 -- What goes along the pairs p < q below n is two loops, one within the other; and what goes along a list and leaves the state. Assumes nothing.
+use Rattle.std.specs.Prelude.{Result, Ok}
 use mathlib.Core.Path.{◌≡◌, refl, sym, ap, ◌∙◌}
 use Prim.Native.Nat.{ℕ, zero, suc, ◌+◌, ◌-◌}
 use native.Mathlib.Numerals.{add-one}
 use mathlib.Core.Bool.{Bool, true, false, ◌&&◌, true≢false}
 use mathlib.Core.List.{List, [], ◌∷◌, ◌++◌}
-use Rattle.answers.specs.Outcome.{Outcome, done, bind}
+use Rattle.answers.specs.Outcome.{bind}
 use Rattle.answers.proofs.Outcomes.{bind_assoc, bind_cong}
 use Rattle.lists.specs.Lists.{listed, tab, flat, joined, pairs, folded, iter, iter_from}
 use Rattle.lists.specs.Walks.{turning, along}
@@ -17,12 +18,12 @@ row n p = listed (n - suc p) (suc p) (λ (q : ℕ). (p, q))
 
 -- ---- turns that can refuse
 module _ {E A : Type 0} where
-  pub turning_same : (m k : ℕ) (f g : ℕ → A → Outcome E A) (a : A) → ((i : ℕ) (b : A) → f i b ≡ g i b) → turning m k f a ≡ turning m k g a
+  pub turning_same : (m k : ℕ) (f g : ℕ → A → Result A E) (a : A) → ((i : ℕ) (b : A) → f i b ≡ g i b) → turning m k f a ≡ turning m k g a
   unfolding turning
   turning_same zero k f g a h = refl
-  turning_same (suc m) k f g a h = ap (λ (o : Outcome E A). bind o (λ b. turning m (suc k) f b)) (h k a) ∙ bind_cong (g k a) (λ b. turning m (suc k) f b) (λ b. turning m (suc k) g b) (λ b e. turning_same m (suc k) f g b h)
+  turning_same (suc m) k f g a h = ap (λ (o : Result A E). bind o (λ b. turning m (suc k) f b)) (h k a) ∙ bind_cong (g k a) (λ b. turning m (suc k) f b) (λ b. turning m (suc k) g b) (λ b e. turning_same m (suc k) f g b h)
 
-module _ {E X A : Type 0} (f : X → A → Outcome E A) where
+module _ {E X A : Type 0} (f : X → A → Result A E) where
   pub along_append : (xs ys : List X) (a : A) → along (xs ++ ys) f a ≡ bind (along xs f a) (λ b. along ys f b)
   unfolding along
   along_append [] ys a = refl
@@ -41,7 +42,7 @@ module _ {E X A : Type 0} (f : X → A → Outcome E A) where
       ∙ bind_cong (along (h k) f a) (λ b. along (flat (listed m (suc k) h)) f b) (λ b. turning m (suc k) (λ (i : ℕ). along (h i) f) b) (λ b e. along_flat m (suc k) h b)
 
 -- p outside, q inside
-pub along_pairs : {E A : Type 0} (n : ℕ) (f : ℕ × ℕ → A → Outcome E A) (a : A) → along (pairs n) f a ≡ turning n 0 (λ (p : ℕ). turning (n - (p + 1)) (p + 1) (λ (q : ℕ). f (p, q))) a
+pub along_pairs : {E A : Type 0} (n : ℕ) (f : ℕ × ℕ → A → Result A E) (a : A) → along (pairs n) f a ≡ turning n 0 (λ (p : ℕ). turning (n - (p + 1)) (p + 1) (λ (q : ℕ). f (p, q))) a
 unfolding pairs
 along_pairs n f a =
     along_flat f n 0 (row n) a
@@ -81,11 +82,11 @@ module _ {X : Type 0} (t : X → Bool) where
   folded_not [] = refl
   folded_not (x ∷ xs) = folded_not xs
 
-  pub along_idle : {E A : Type 0} (f : X → A → Outcome E A) (a : A) → ((x : X) → t x ≡ true → f x a ≡ done a) → (xs : List X) → folded xs (λ (x : X) (b : Bool). b && t x) true ≡ true → along xs f a ≡ done a
+  pub along_idle : {E A : Type 0} (f : X → A → Result A E) (a : A) → ((x : X) → t x ≡ true → f x a ≡ Ok a) → (xs : List X) → folded xs (λ (x : X) (b : Bool). b && t x) true ≡ true → along xs f a ≡ Ok a
   unfolding folded along
   along_idle f a h [] e = refl
   along_idle {E} {A} f a h (x ∷ xs) e = go (t x) refl e (along_idle f a h xs)
     where
-      go : (b : Bool) → t x ≡ b → folded xs (λ (y : X) (c : Bool). c && t y) b ≡ true → (folded xs (λ (y : X) (c : Bool). c && t y) true ≡ true → along xs f a ≡ done a) → bind (f x a) (λ c. along xs f c) ≡ done a
-      go true d k rest = ap (λ (o : Outcome E A). bind o (λ c. along xs f c)) (h x d) ∙ rest k
+      go : (b : Bool) → t x ≡ b → folded xs (λ (y : X) (c : Bool). c && t y) b ≡ true → (folded xs (λ (y : X) (c : Bool). c && t y) true ≡ true → along xs f a ≡ Ok a) → bind (f x a) (λ c. along xs f c) ≡ Ok a
+      go true d k rest = ap (λ (o : Result A E). bind o (λ c. along xs f c)) (h x d) ∙ rest k
       go false d k rest = absurd (true≢false (sym k ∙ folded_not xs))

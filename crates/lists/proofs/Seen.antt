@@ -7,7 +7,7 @@ use mathlib.Core.List.{List}
 use lib.ListN.{length, get_or, drop, drop_of_length-le}
 use lib.Seq.{drop-cons}
 use lib.Ieee.{Float, nan}
-use Rattle.answers.specs.declared.Stage.TheVariants.{Whole, Spilt}
+use Rattle.std.specs.Prelude.{Ok, Err}
 use Rattle.answers.specs.Outcome.{stage_of}
 use Rattle.numbers.specs.Finite.{finite}
 use Rattle.lists.specs.Lists.{pick}
@@ -64,11 +64,11 @@ module _ (s : List Float) where
 pub ruleset sounds = (sound_none, sound_more, sound_here, sound_done)
 
 -- ---- both together
-pub stage_whole : (s : List Float) (b : Bool) → b ≡ all_finite s → b ≡ true → Whole ≡ stage_of (stored s)
+pub stage_whole : (s : List Float) (b : Bool) → b ≡ all_finite s → b ≡ true → Ok tt ≡ stage_of (stored s)
 unfolding stored pick
 stage_whole s b e h = let f : all_finite s ≡ true = sym e ∙ h in rw f
 
-pub stage_spilt : (s : List Float) (b : Bool) (i : ℕ) → b ≡ all_finite s → b ≡ false → i ≡ first_not_finite s → Spilt i ≡ stage_of (stored s)
+pub stage_spilt : (s : List Float) (b : Bool) (i : ℕ) → b ≡ all_finite s → b ≡ false → i ≡ first_not_finite s → Err i ≡ stage_of (stored s)
 unfolding stored pick
 stage_spilt s b i e h d = let f : all_finite s ≡ false = sym e ∙ h in rw (f, d)
 

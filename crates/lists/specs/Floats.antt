@@ -1,7 +1,7 @@
 -- Lists of f64: reading, sums from the left, and whether all are finite. Definitions only.
-use Rattle.std.specs.Prelude.{ℕ, ◌+◌, ◌*◌, Bool, true, not, ◌&&◌, List, [], ◌∷◌, length, get_or, replicate, Float}
+use Rattle.std.specs.Prelude.{ℕ, ◌+◌, ◌*◌, Bool, true, not, ◌&&◌, List, [], ◌∷◌, length, get_or, replicate, Float, Ok, Err}
 use Rattle.std.specs.Float.{nan}
-use Rattle.answers.specs.Outcome.{done, refused, Made}
+use Rattle.answers.specs.Outcome.{Made}
 use Rattle.numbers.specs.Arithmetic.{plus, zero64}
 use Rattle.numbers.specs.Finite.{finite}
 use Rattle.lists.specs.Lists.{iter, first, pick}
@@ -39,4 +39,4 @@ first_not_finite l = first (λ (i : ℕ). not (finite (at l i))) (length l)
 
 -- numbers to be stored: all are finite, or the index of the first that isn't
 unfoldable pub stored : List Float → Made (List Float)
-stored l = pick (all_finite l) (done l) (refused (first_not_finite l))
+stored l = pick (all_finite l) (Ok l) (Err (first_not_finite l))

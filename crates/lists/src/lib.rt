@@ -148,13 +148,13 @@ pub fn first_not_finite(s: &[f64]) -> usize
 }
 
 // Whether the numbers can stay stored; the index is looked for only once there is one.
-pub fn stored(s: &[f64]) -> answers::Stage
+pub fn stored(s: &[f64]) -> Result<(), usize>
     ensures { result ≡ stage_of (stored s.now) }
 {
     if all_finite(s) {
-        return answers::Stage::Whole;
+        return Ok(());
     }
-    answers::Stage::Spilt(first_not_finite(s))
+    Err(first_not_finite(s))
 }
 
 // The widest strip of sums that a loop keeps in registers.

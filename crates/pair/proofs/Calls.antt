@@ -8,8 +8,8 @@ use mathlib.Core.List.{List}
 use lib.ListN.{length, take, length-replicate}
 use lib.Ieee.{Float}
 use Rattle.numbers.specs.Arithmetic.{zero64}
-use Rattle.answers.specs.declared.Verdict.TheVariants.{Fits}
-use Rattle.answers.specs.Outcome.{Answer, done, refused, ◌then◌}
+use Rattle.std.specs.Prelude.{Ok, Err}
+use Rattle.answers.specs.Outcome.{Answer, ◌then◌}
 use Rattle.answers.specs.Table.{before_work}
 use Rattle.answers.proofs.Checks.{then_is}
 use Rattle.lists.specs.Lists.{pick}
@@ -34,12 +34,12 @@ pub record SameLengths (left_out right_out scratch : List Float) (e : PairEnded)
 
 by_lengths : (left_out right_out scratch : List Float) (o : Answer Halves) → SameLengths left_out right_out scratch (pair_by left_out right_out scratch o)
 unfolding pair_by scratch_after pick
-by_lengths left_out right_out scratch (done h) = record {
+by_lengths left_out right_out scratch (Ok h) = record {
   left_length = fit_length zero64 (length left_out) h.left.entries;
   right_length = fit_length zero64 (length right_out) h.right.entries;
   scratch_length = length-replicate (length scratch) zero64;
 }
-by_lengths left_out right_out scratch (refused r) = record { left_length = refl; right_length = refl; scratch_length = go (before_work r) }
+by_lengths left_out right_out scratch (Err r) = record { left_length = refl; right_length = refl; scratch_length = go (before_work r) }
   where
     go : (b : Bool) → length (pick b scratch (zeros (length scratch))) ≡ length scratch
     go true = refl
@@ -49,7 +49,7 @@ by_lengths left_out right_out scratch (refused r) = record { left_length = refl;
 pub record Accepted (l r : Core) (eps : Float) (left_out right_out scratch : List Float) (e : PairEnded) : Type 0 where
   pub checks : Checked l r eps (length left_out) (length right_out) (length scratch)
   pub halves : Halves
-  pub made : pair_of eps l r ≡ done halves
+  pub made : pair_of eps l r ≡ Ok halves
   pub formed : Formed l.rl l.n r.n r.rr halves
   pub rank : e.result.rank ≡ halves.left.rr
   pub left_held : take (length halves.left.entries) e.left ≡ halves.left.entries
@@ -71,7 +71,7 @@ module _ (l r : Core) (eps : Float) (left_out right_out scratch : List Float) wh
     rw (f.right_length, c.right_roomy) (mul-le-mul_right r.rr (mul-le-mul_right r.n f.within_limit)),
   )
 
-  by_accepted : (h : Halves) → (pair_ok l r eps (length left_out) (length right_out) (length scratch) then pair_of eps l r) ≡ done h → Accepted l r eps left_out right_out scratch (pair_by left_out right_out scratch (done h))
+  by_accepted : (h : Halves) → (pair_ok l r eps (length left_out) (length right_out) (length scratch) then pair_of eps l r) ≡ Ok h → Accepted l r eps left_out right_out scratch (pair_by left_out right_out scratch (Ok h))
   unfolding pair_by
   by_accepted h e =
       let (ok, made) = then_is (pair_ok l r eps (length left_out) (length right_out) (length scratch)) (pair_of eps l r) h e in
@@ -91,13 +91,13 @@ module _ (l r : Core) (eps : Float) (left_out right_out scratch : List Float) wh
         counted = k;
       }
 
-  pub accepted : (pair_call l r eps left_out right_out scratch).result.verdict ≡ Fits → Accepted l r eps left_out right_out scratch (pair_call l r eps left_out right_out scratch)
+  pub accepted : (pair_call l r eps left_out right_out scratch).result.verdict ≡ Ok tt → Accepted l r eps left_out right_out scratch (pair_call l r eps left_out right_out scratch)
   unfolding pair_call pair_by
   accepted v = go (pair_ok l r eps (length left_out) (length right_out) (length scratch) then pair_of eps l r) refl v
     where
       go : (o : Answer Halves)
           → (pair_ok l r eps (length left_out) (length right_out) (length scratch) then pair_of eps l r) ≡ o
-          → (pair_by left_out right_out scratch o).result.verdict ≡ Fits
+          → (pair_by left_out right_out scratch o).result.verdict ≡ Ok tt
           → Accepted l r eps left_out right_out scratch (pair_by left_out right_out scratch o)
-      go (done h) e v = by_accepted h e
-      go (refused q) e v = let z : ◌≡◌ {A = ℕ} 0 1 = cc in let n : ⊥ = omega arith in absurd n
+      go (Ok h) e v = by_accepted h e
+      go (Err q) e v = let z : ◌≡◌ {A = ℕ} 0 1 = cc in let n : ⊥ = omega arith in absurd n

@@ -1,4 +1,5 @@
 -- What a call that passes its checks was given. Assumes nothing.
+use Rattle.std.specs.Prelude.{Ok}
 use mathlib.Core.Path.{◌≡◌}
 use Prim.Native.Nat.{ℕ, ◌*◌, ◌≤◌}
 use mathlib.Core.Bool.{Bool, true, ◌&&◌}
@@ -8,7 +9,7 @@ use lib.Ieee.{Float}
 use Rattle.numbers.specs.Finite.{finite}
 use Rattle.answers.specs.declared.Refusal.{Refusal}
 use Rattle.answers.specs.declared.Refusal.TheVariants.{Setting}
-use Rattle.answers.specs.Outcome.{Answer, done, demand, ◌then◌}
+use Rattle.answers.specs.Outcome.{Answer, demand, ◌then◌}
 use Rattle.answers.proofs.Checks.{then_is, demand_is}
 use Rattle.lists.specs.Floats.{all_finite}
 use Rattle.lists.proofs.Tests.{leb_is, eqb_is, both}
@@ -37,7 +38,7 @@ sizes_are c e =
     let (p, q) = both (within most_points c.n) (within most_rank c.rr) b in
     record { rl = within_is most_rank c.rl a; n = within_is most_points c.n p; rr = within_is most_rank c.rr q }
 
-pub demand_then : {A : Type 0} (b : Bool) (r : Refusal) (o : Answer A) (a : A) → demand b r then o ≡ done a → (b ≡ true) × (o ≡ done a)
+pub demand_then : {A : Type 0} (b : Bool) (r : Refusal) (o : Answer A) (a : A) → demand b r then o ≡ Ok a → (b ≡ true) × (o ≡ Ok a)
 demand_then b r o a h = let (p, q) = then_is (demand b r) o a h in (demand_is b r p, q)
 
 pub record Checked (l r : Core) (eps : Float) (left_out right_out scratch : ℕ) : Type 0 where
@@ -56,7 +57,7 @@ pub record Checked (l r : Core) (eps : Float) (left_out right_out scratch : ℕ)
   pub right_finite : all_finite r.entries ≡ true
   pub eps_mild : not_below_zero eps ≡ true
 
-pub checked : (l r : Core) (eps : Float) (left_out right_out scratch : ℕ) → pair_ok l r eps left_out right_out scratch ≡ done tt → Checked l r eps left_out right_out scratch
+pub checked : (l r : Core) (eps : Float) (left_out right_out scratch : ℕ) → pair_ok l r eps left_out right_out scratch ≡ Ok tt → Checked l r eps left_out right_out scratch
 unfolding pair_ok pair_sized pair_lent pair_finite
 checked l r eps left_out right_out scratch h =
     let (sized, x) = then_is (pair_sized l r) _ tt h in

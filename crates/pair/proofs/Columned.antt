@@ -6,10 +6,9 @@ use mathlib.Core.Bool.{true}
 use mathlib.Core.List.{List, ◌++◌}
 use lib.ListN.{length, take}
 use lib.Ieee.{Float, nan}
-use Rattle.answers.specs.declared.Stage.{Stage}
-use Rattle.answers.specs.declared.Stage.TheVariants.{Whole, Spilt}
-use Rattle.answers.specs.Outcome.{Made, done, bind, staged, stage_of}
-use Rattle.answers.proofs.Outcomes.{bind_done, done_inj}
+use Rattle.std.specs.Prelude.{Ok, Err}
+use Rattle.answers.specs.Outcome.{Made, bind, staged, stage_of, Stage}
+use Rattle.answers.proofs.Outcomes.{bind_ok, ok_inj}
 use Rattle.lists.specs.Lists.{grid}
 use Rattle.lists.specs.Floats.{all_finite, stored}
 use Rattle.lists.proofs.Cells.{cell_lt}
@@ -28,23 +27,23 @@ pub front_long : (m k w : ℕ) (left right u d : List Float) → u ≡ grid m w 
 front_long m k w left right u d e = ap length (front_is m k w left right u d e) ∙ length_grid m w (slab_at left right k w)
 
 module _ (m k w : ℕ) (left right s : List Float) (es : s ≡ grid m w (slab_at left right k w)) (r : Stage) (er : r ≡ stage_of (stored s)) where
-  columns_opened : slab_columns m k w left right ≡ bind (staged r s) (λ x. done (columns_of m w x))
+  columns_opened : slab_columns m k w left right ≡ bind (staged r s) (λ x. Ok (columns_of m w x))
   unfolding slab_columns
-  columns_opened = ap (λ (o : Made (List Float)). bind o (λ x. done (columns_of m w x))) (ap stored (sym es) ∙ stored_staged s r er)
+  columns_opened = ap (λ (o : Made (List Float)). bind o (λ x. Ok (columns_of m w x))) (ap stored (sym es) ∙ stored_staged s r er)
 
-  pub columns_stop : (i : ℕ) (a : List Float) → r ≡ Spilt i → slab_columns m k w left right ≡ staged (Spilt i) a
-  columns_stop i a h = columns_opened ∙ staged_stop r s (λ x. done (columns_of m w x)) i a h
+  pub columns_stop : (i : ℕ) (a : List Float) → r ≡ Err i → slab_columns m k w left right ≡ staged (Err i) a
+  columns_stop i a h = columns_opened ∙ staged_stop r s (λ x. Ok (columns_of m w x)) i a h
 
-  pub columns_end : r ≡ Whole → (a : List Float) → a ≡ columns_of m w s → slab_columns m k w left right ≡ staged Whole a
+  pub columns_end : r ≡ Ok tt → (a : List Float) → a ≡ columns_of m w s → slab_columns m k w left right ≡ staged (Ok tt) a
   unfolding staged
-  columns_end h a ea = columns_opened ∙ staged_on r s (λ x. done (columns_of m w x)) h ∙ ap done (sym ea)
+  columns_end h a ea = columns_opened ∙ staged_on r s (λ x. Ok (columns_of m w x)) h ∙ ap Ok (sym ea)
 
 -- columns of a slab that was stored are finite
-pub columns_finite_lem : (m k w : ℕ) (left right a : List Float) (r : Stage) → slab_columns m k w left right ≡ staged r a → r ≡ Whole → all_finite a ≡ true
+pub columns_finite_lem : (m k w : ℕ) (left right a : List Float) (r : Stage) → slab_columns m k w left right ≡ staged r a → r ≡ Ok tt → all_finite a ≡ true
 unfolding slab_columns staged
 columns_finite_lem m k w left right a r e h =
     let g = grid m w (slab_at left right k w) in
-    let (s, x, y) = bind_done (stored g) (λ x. done (columns_of m w x)) a (e ∙ rw h) in
+    let (s, x, y) = bind_ok (stored g) (λ x. Ok (columns_of m w x)) a (e ∙ rw h) in
     let (p, q) = stored_is g s x in
     let long : length s ≡ m * w = ap length (sym p) ∙ length_grid m w _ in
-    ap all_finite (sym (done_inj y)) ∙ grid_finite w m _ (λ col row i j. finite_get_d_lem s (row * w + col) nan (cell_lt row m w col (length s) j i (le_of_eq (sym long))) q)
+    ap all_finite (sym (ok_inj y)) ∙ grid_finite w m _ (λ col row i j. finite_get_d_lem s (row * w + col) nan (cell_lt row m w col (length s) j i (le_of_eq (sym long))) q)

@@ -11,11 +11,10 @@ use Rattle.numbers.specs.Arithmetic.{zero64}
 use Rattle.answers.specs.declared.Part.TheVariants.{Entry, Spectrum, Factor}
 use Rattle.answers.specs.declared.Refusal.{Refusal}
 use Rattle.answers.specs.declared.Refusal.TheVariants.{Size, Ranks, Length, Number, Setting, PairRank}
-use Rattle.answers.specs.declared.Verdict.{Verdict}
-use Rattle.answers.specs.declared.Verdict.TheVariants.{Fits, Refused}
-use Rattle.answers.specs.Outcome.{Answer, done, refused, answered, verdict_of}
+use Rattle.std.specs.Prelude.{Ok, Err}
+use Rattle.answers.specs.Outcome.{Answer, answered, Check}
 use Rattle.answers.specs.Table.{Late}
-use Rattle.answers.proofs.Late.{Early, early_demand, early_then, late_done, late_then, late_demand}
+use Rattle.answers.proofs.Late.{Early, early_demand, early_then, late_ok, late_then, late_demand}
 use Rattle.answers.proofs.Checks.{verdict_passed, verdict_refused}
 use Rattle.lists.specs.Lists.{pick}
 use Rattle.lists.specs.Slots.{fit}
@@ -44,7 +43,7 @@ pub record Ready (l r : given.Sizes) (left right : List Float) (lefts rights scr
   pub left_out : lefts ≡ l.rl * l.n * most_rank
   pub right_out : rights ≡ most_rank * (r.n * r.rr)
 
-pub ready : (l r : given.Sizes) (eps : Float) (left right : List Float) (lefts rights scratch : ℕ) → pair_ok (core_of l left) (core_of r right) eps lefts rights scratch ≡ done tt → Ready l r left right lefts rights scratch
+pub ready : (l r : given.Sizes) (eps : Float) (left right : List Float) (lefts rights scratch : ℕ) → pair_ok (core_of l left) (core_of r right) eps lefts rights scratch ≡ Ok tt → Ready l r left right lefts rights scratch
 unfolding core_numbers left_room right_room
 ready l r eps left right lefts rights scratch h =
     let c = checked (core_of l left) (core_of r right) eps lefts rights scratch h in
@@ -58,25 +57,25 @@ ready l r eps left right lefts rights scratch h =
     }
 
 -- a pair that was made has a rank within the limit
-pub rank_small : (eps : Float) (l r : Core) (v : Verdict) (h : Halves) → 1 ≤ r.n * r.rr → pair_of eps l r ≡ answered v h → v ≡ Fits → h.left.rr ≤ most_rank
+pub rank_small : (eps : Float) (l r : Core) (v : Check) (h : Halves) → 1 ≤ r.n * r.rr → pair_of eps l r ≡ answered v h → v ≡ Ok tt → h.left.rr ≤ most_rank
 unfolding answered
 rank_small eps l r v h some e f = (pair_formed eps l r h some (e ∙ rw f)).0.within_limit
 
 -- ---- what the work leaves
-module _ (lefts rights scratch : List Float) (T : Answer Halves) (v : Verdict) where
+module _ (lefts rights scratch : List Float) (T : Answer Halves) (v : Check) where
   abbrev ends : PairEnded
   ends = pair_by lefts rights scratch T
 
-  pub ended_refused : (h : Halves) → T ≡ answered v h → (q : Refusal) → v ≡ Refused q → (w : Paired) → w ≡ record { verdict = Refused q; rank = 0; passes = 0 } → (w ≡ ends.result) × (lefts ≡ ends.left) × (rights ≡ ends.right)
+  pub ended_refused : (h : Halves) → T ≡ answered v h → (q : Refusal) → v ≡ Err q → (w : Paired) → w ≡ record { verdict = Err q; rank = 0; passes = 0 } → (w ≡ ends.result) × (lefts ≡ ends.left) × (rights ≡ ends.right)
   unfolding pair_by answered
-  ended_refused h e q f w g = let z : T ≡ refused q = e ∙ rw f in (rw z g, rw z, rw z)
+  ended_refused h e q f w g = let z : T ≡ Err q = e ∙ rw f in (rw z g, rw z, rw z)
 
   pub ended_made : (a b c d k p : ℕ) (x y : List Float)
       → T ≡ answered v (record { left = core_with a b k x; right = core_with k c d y; passes = p })
-      → v ≡ Fits → (w : Paired) (x' y' : List Float) → w ≡ record { verdict = Fits; rank = k; passes = p } → x' ≡ fit zero64 (length lefts) x → y' ≡ fit zero64 (length rights) y
+      → v ≡ Ok tt → (w : Paired) (x' y' : List Float) → w ≡ record { verdict = Ok tt; rank = k; passes = p } → x' ≡ fit zero64 (length lefts) x → y' ≡ fit zero64 (length rights) y
       → (w ≡ ends.result) × (x' ≡ ends.left) × (y' ≡ ends.right)
   unfolding pair_by answered
-  ended_made a b c d k p x y e f w x' y' g ex ey = let z : T ≡ done (record { left = core_with a b k x; right = core_with k c d y; passes = p }) = e ∙ rw f in (rw z g, rw z ex, rw z ey)
+  ended_made a b c d k p x y e f w x' y' g ex ey = let z : T ≡ Ok (record { left = core_with a b k x; right = core_with k c d y; passes = p }) = e ∙ rw f in (rw z g, rw z ex, rw z ey)
 
 -- ---- a check refuses before the work
 pub checks_early : (l r : Core) (eps : Float) (lefts rights scratch : ℕ) → Early (pair_ok l r eps lefts rights scratch)
@@ -91,7 +90,7 @@ checks_early l r eps lefts rights scratch =
 module _ (rl nj nk rr : ℕ) where
   formed_late : (r : ℕ) (ss : List Float) (js : List ℕ) (w : Passes) → Late (formed rl nj nk rr r ss js w)
   unfolding formed
-  formed_late r ss js w = late_then Factor 0 (stored (left_numbers rl nj r ss js w.svd.columns)) _ (λ x. late_then Factor 1 (stored (right_numbers r nk rr js w.svd.basis)) _ (λ y. late_done _))
+  formed_late r ss js w = late_then Factor 0 (stored (left_numbers rl nj r ss js w.svd.columns)) _ (λ x. late_then Factor 1 (stored (right_numbers r nk rr js w.svd.basis)) _ (λ y. late_ok _))
 
   cut_late : (eps : Float) (w : Passes) (sv : List Float) → Late (cut eps rl nj nk rr w sv)
   unfolding cut
@@ -110,31 +109,31 @@ unfolding scratch_after pick
 scratch_cleared eps l r scratch = go (pair_of eps l r) (work_late eps l r)
   where
     go : (o : Answer Halves) → Late o → scratch_after scratch o ≡ replicate (length scratch) zero64
-    go (done h) e = refl
-    go (refused q) e = rw (e q refl)
+    go (Ok h) e = refl
+    go (Err q) e = rw (e q refl)
 
 ended_cleared : (lefts rights scratch : List Float) (o : Answer Halves)
     → scratch_after scratch o ≡ replicate (length scratch) zero64
     → record { result = (pair_by lefts rights scratch o).result; left = (pair_by lefts rights scratch o).left; right = (pair_by lefts rights scratch o).right; scratch = replicate (length scratch) zero64 }
     ≡ pair_by lefts rights scratch o
 unfolding pair_by
-ended_cleared lefts rights scratch (done h) s = rw (← s)
-ended_cleared lefts rights scratch (refused q) s = rw (← s)
+ended_cleared lefts rights scratch (Ok h) s = rw (← s)
+ended_cleared lefts rights scratch (Err q) s = rw (← s)
 
 -- ---- the call
-module _ (l r : Core) (eps : Float) (lefts rights scratch : List Float) (v : Verdict) (e : v ≡ verdict_of (pair_ok l r eps (length lefts) (length rights) (length scratch))) where
+module _ (l r : Core) (eps : Float) (lefts rights scratch : List Float) (v : Check) (e : v ≡ pair_ok l r eps (length lefts) (length rights) (length scratch)) where
   abbrev call : PairEnded
   call = pair_call l r eps lefts rights scratch
 
-  pub call_refused : (q : Refusal) → v ≡ Refused q → (w : Paired) → w ≡ record { verdict = Refused q; rank = 0; passes = 0 } → record { result = w; left = lefts; right = rights; scratch = scratch } ≡ call
+  pub call_refused : (q : Refusal) → v ≡ Err q → (w : Paired) → w ≡ record { verdict = Err q; rank = 0; passes = 0 } → record { result = w; left = lefts; right = rights; scratch = scratch } ≡ call
   unfolding pair_call pair_by scratch_after pick
   call_refused q h w g =
       let z = verdict_refused (pair_ok l r eps (length lefts) (length rights) (length scratch)) v q e h in
       let b = (checks_early l r eps (length lefts) (length rights) (length scratch)).first q z in
       rw (z, b, g)
 
-  module _ (h : v ≡ Fits) where
-    pub call_ready : pair_ok l r eps (length lefts) (length rights) (length scratch) ≡ done tt
+  module _ (h : v ≡ Ok tt) where
+    pub call_ready : pair_ok l r eps (length lefts) (length rights) (length scratch) ≡ Ok tt
     call_ready = verdict_passed (pair_ok l r eps (length lefts) (length rights) (length scratch)) v e h
 
     pub call_made : (w : Paired) (x y z : List Float) (k : ℕ)

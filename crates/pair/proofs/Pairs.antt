@@ -11,12 +11,9 @@ use Rattle.answers.specs.declared.Part.{Part}
 use Rattle.answers.specs.declared.Part.TheVariants.{Entry, Spectrum, Factor}
 use Rattle.answers.specs.declared.Refusal.{Refusal}
 use Rattle.answers.specs.declared.Refusal.TheVariants.{PairRank}
-use Rattle.answers.specs.declared.Verdict.{Verdict}
-use Rattle.answers.specs.declared.Verdict.TheVariants.{Fits, Refused}
-use Rattle.answers.specs.declared.Stage.{Stage}
-use Rattle.answers.specs.declared.Stage.TheVariants.{Whole, Spilt}
-use Rattle.answers.specs.Outcome.{Made, Answer, Check, done, refused, bind, making, demand, ◌then◌, staged, answered, stored_in}
-use Rattle.answers.proofs.Outcomes.{stored_answered, answered_fits}
+use Rattle.std.specs.Prelude.{Ok, Err}
+use Rattle.answers.specs.Outcome.{Made, Answer, Check, bind, making, demand, ◌then◌, staged, answered, stored_in, Stage}
+use Rattle.answers.proofs.Outcomes.{stored_answered, answered_ok}
 use Rattle.lists.specs.Floats.{at, cell, stored}
 use Rattle.shape.specs.Limits.{most_rank}
 use Rattle.shape.specs.Cores.{Core, core_with}
@@ -32,16 +29,16 @@ use Rattle.pairform.specs.Splits.{values, Halves, formed, cut, split, pair_of}
 use Rattle.pair.specs.Loops.{Valued, valued_from, Parted, parted, cut_from, split_from}
 
 -- what is done with an outcome is done with what was answered
-pub answered_on : {A B : Type 0} (v : Verdict) (a : A) (f : A → B) → bind (answered v a) (λ x. done (f x)) ≡ answered v (f a)
+pub answered_on : {A B : Type 0} (v : Check) (a : A) (f : A → B) → bind (answered v a) (λ x. Ok (f x)) ≡ answered v (f a)
 unfolding answered
-answered_on Fits a f = refl
-answered_on (Refused r) a f = refl
+answered_on (Ok _) a f = refl
+answered_on (Err r) a f = refl
 
 -- a stage of which the call's verdict is that it fits is whole
-pub told_whole : (part : Part) (k : ℕ) (s : Stage) (v : Verdict) → v ≡ stored_in part k s → v ≡ Fits → s ≡ Whole
+pub told_whole : (part : Part) (k : ℕ) (s : Stage) (v : Check) → v ≡ stored_in part k s → v ≡ Ok tt → s ≡ (Ok tt)
 unfolding staged
-told_whole part k Whole v e h = refl
-told_whole part k (Spilt i) v e h = let z : ◌≡◌ {A = ℕ} 0 1 = cc in let n : ⊥ = omega arith in absurd n
+told_whole part k (Ok _) v e h = refl
+told_whole part k (Err i) v e h = let z : ◌≡◌ {A = ℕ} 0 1 = cc in let n : ⊥ = omega arith in absurd n
 
 -- ---- row by row
 left_rows_lem : (rl nj r : ℕ) (ss : List Float) (js : List ℕ) (a : List Float) → left_numbers rl nj r ss js a ≡ left_rows (rl * nj) r ss js a
@@ -55,45 +52,45 @@ right_rows_lem r nk rr js v = block_lines r nk rr _ (λ (k i : ℕ). cell (nk * 
 -- two stages that make one part are one stage
 two_stages : {Y Z D R : Type 0} (part : Part) (k : ℕ) (b : Made Y) (f : Y → Made Z) (both : Y → Z → D) (K : D → Answer R)
     → bind (making part k b) (λ y. bind (making part k (f y)) (λ z. K (both y z)))
-    ≡ bind (making part k (bind b (λ y. bind (f y) (λ z. done (both y z))))) K
-two_stages {Y} {Z} {D} {R} part k (done y) f both K = last (f y)
+    ≡ bind (making part k (bind b (λ y. bind (f y) (λ z. Ok (both y z))))) K
+two_stages {Y} {Z} {D} {R} part k (Ok y) f both K = last (f y)
   where
-    last : (o : Made Z) → bind (making part k o) (λ z. K (both y z)) ≡ bind (making part k (bind o (λ z. done (both y z)))) K
-    last (done z) = refl
-    last (refused i) = refl
-two_stages part k (refused i) f both K = refl
+    last : (o : Made Z) → bind (making part k o) (λ z. K (both y z)) ≡ bind (making part k (bind o (λ z. Ok (both y z)))) K
+    last (Ok z) = refl
+    last (Err i) = refl
+two_stages part k (Err i) f both K = refl
 
 module _ (rl nj nk rr : ℕ) where
   -- the numbers told as cores of these outer sizes
   abbrev cored : Parted → Halves
   cored p = record { left = core_with rl nj p.rank p.left; right = core_with p.rank nk rr p.right; passes = p.passes }
 
-  formed_flat : (r : ℕ) (ss : List Float) (js : List ℕ) (w : Passes) → formed rl nj nk rr r ss js w ≡ bind (formed_from (rl * nj) (nk * rr) r ss js w.svd.columns w.svd.basis) (λ h. done (cored (parted r w.count h)))
+  formed_flat : (r : ℕ) (ss : List Float) (js : List ℕ) (w : Passes) → formed rl nj nk rr r ss js w ≡ bind (formed_from (rl * nj) (nk * rr) r ss js w.svd.columns w.svd.basis) (λ h. Ok (cored (parted r w.count h)))
   unfolding formed formed_from
   formed_flat r ss js w = rw (left_rows_lem rl nj r ss js w.svd.columns, right_rows_lem r nk rr js w.svd.basis) (go (stored (left_rows (rl * nj) r ss js w.svd.columns)) (stored (right_rows (nk * rr) r js w.svd.basis)))
     where
       go : (x y : Made (List Float))
-          → bind (making Factor 0 x) (λ l. bind (making Factor 1 y) (λ z. done (cored (parted r w.count (record { left = l; right = z })))))
-          ≡ bind (bind (making Factor 0 x) (λ l. bind (making Factor 1 y) (λ z. done (record { left = l; right = z })))) (λ h. done (cored (parted r w.count h)))
-      go (done l) (done z) = refl
-      go (done l) (refused i) = refl
-      go (refused i) y = refl
+          → bind (making Factor 0 x) (λ l. bind (making Factor 1 y) (λ z. Ok (cored (parted r w.count (record { left = l; right = z })))))
+          ≡ bind (bind (making Factor 0 x) (λ l. bind (making Factor 1 y) (λ z. Ok (record { left = l; right = z })))) (λ h. Ok (cored (parted r w.count h)))
+      go (Ok l) (Ok z) = refl
+      go (Ok l) (Err i) = refl
+      go (Err i) y = refl
 
-  cut_flat : (eps : Float) (w : Passes) (sv : List Float) → cut eps rl nj nk rr w sv ≡ bind (cut_from eps (rl * nj) (nk * rr) w sv) (λ p. done (cored p))
+  cut_flat : (eps : Float) (w : Passes) (sv : List Float) → cut eps rl nj nk rr w sv ≡ bind (cut_from eps (rl * nj) (nk * rr) w sv) (λ p. Ok (cored p))
   unfolding cut cut_from
   cut_flat eps w sv = let ss = sorted (nk * rr) sv in let r = kept_rank eps (nk * rr) ss in go r ss (order (nk * rr) sv) (demand (leb r most_rank) PairRank)
     where
-      told : (r : ℕ) (o : Answer Both) → bind o (λ h. done (cored (parted r w.count h))) ≡ bind (bind o (λ h. done (parted r w.count h))) (λ p. done (cored p))
-      told r (done h) = refl
-      told r (refused q) = refl
+      told : (r : ℕ) (o : Answer Both) → bind o (λ h. Ok (cored (parted r w.count h))) ≡ bind (bind o (λ h. Ok (parted r w.count h))) (λ p. Ok (cored p))
+      told r (Ok h) = refl
+      told r (Err q) = refl
 
       go : (r : ℕ) (ss : List Float) (js : List ℕ) (d : Check)
           → d then formed rl nj nk rr r ss js w
-          ≡ bind (d then bind (formed_from (rl * nj) (nk * rr) r ss js w.svd.columns w.svd.basis) (λ h. done (parted r w.count h))) (λ p. done (cored p))
-      go r ss js (done u) = formed_flat r ss js w ∙ told r (formed_from (rl * nj) (nk * rr) r ss js w.svd.columns w.svd.basis)
-      go r ss js (refused q) = refl
+          ≡ bind (d then bind (formed_from (rl * nj) (nk * rr) r ss js w.svd.columns w.svd.basis) (λ h. Ok (parted r w.count h))) (λ p. Ok (cored p))
+      go r ss js (Ok u) = formed_flat r ss js w ∙ told r (formed_from (rl * nj) (nk * rr) r ss js w.svd.columns w.svd.basis)
+      go r ss js (Err q) = refl
 
-  split_flat : (eps : Float) (s : List Float) → split eps rl nj nk rr s ≡ bind (split_from eps (rl * nj) (nk * rr) (columns_of (rl * nj) (nk * rr) s)) (λ p. done (cored p))
+  split_flat : (eps : Float) (s : List Float) → split eps rl nj nk rr s ≡ bind (split_from eps (rl * nj) (nk * rr) (columns_of (rl * nj) (nk * rr) s)) (λ p. Ok (cored p))
   unfolding split split_from valued_from start
   split_flat eps s =
       let m = rl * nj in
@@ -101,9 +98,9 @@ module _ (rl nj nk rr : ℕ) where
       let a = columns_of m n s in
       two_stages Spectrum 0 (orthogonalized m n (svd a (eye n))) (λ w. stored (values m n w.svd.columns)) (λ w sv. record { passes = w; values = sv }) (λ d. cut eps rl nj nk rr d.passes d.values) ∙ go (valued_from m n a)
     where
-      go : (o : Made Valued) → bind (making Spectrum 0 o) (λ d. cut eps rl nj nk rr d.passes d.values) ≡ bind (bind (making Spectrum 0 o) (λ d. cut_from eps (rl * nj) (nk * rr) d.passes d.values)) (λ p. done (cored p))
-      go (done d) = cut_flat eps d.passes d.values
-      go (refused i) = refl
+      go : (o : Made Valued) → bind (making Spectrum 0 o) (λ d. cut eps rl nj nk rr d.passes d.values) ≡ bind (bind (making Spectrum 0 o) (λ d. cut_from eps (rl * nj) (nk * rr) d.passes d.values)) (λ p. Ok (cored p))
+      go (Ok d) = cut_flat eps d.passes d.values
+      go (Err i) = refl
 
 -- ---- the pair
 module _ (eps : Float) (l r : Core) where
@@ -113,33 +110,33 @@ module _ (eps : Float) (l r : Core) where
   abbrev halved : Parted → Halves
   halved p = record { left = core_with l.rl l.n p.rank p.left; right = core_with p.rank r.n r.rr p.right; passes = p.passes }
 
-  pair_stages : pair_of eps l r ≡ bind (making Entry 0 columned) (λ a. bind (split_from eps (l.rl * l.n) (r.n * r.rr) a) (λ p. done (halved p)))
+  pair_stages : pair_of eps l r ≡ bind (making Entry 0 columned) (λ a. bind (split_from eps (l.rl * l.n) (r.n * r.rr) a) (λ p. Ok (halved p)))
   unfolding pair_of slab_columns slab_at
   pair_stages = rw (slab_flat l r) (go (stored _))
     where
       go : (o : Made (List Float))
           → bind (making Entry 0 o) (λ s. split eps l.rl l.n r.n r.rr s)
-          ≡ bind (making Entry 0 (bind o (λ s. done (columns_of (l.rl * l.n) (r.n * r.rr) s)))) (λ a. bind (split_from eps (l.rl * l.n) (r.n * r.rr) a) (λ p. done (halved p)))
-      go (done s) = split_flat l.rl l.n r.n r.rr eps s
-      go (refused i) = refl
+          ≡ bind (making Entry 0 (bind o (λ s. Ok (columns_of (l.rl * l.n) (r.n * r.rr) s)))) (λ a. bind (split_from eps (l.rl * l.n) (r.n * r.rr) a) (λ p. Ok (halved p)))
+      go (Ok s) = split_flat l.rl l.n r.n r.rr eps s
+      go (Err i) = refl
 
   module _ (s : Stage) (a : List Float) (ea : columned ≡ staged s a) where
-    pair_opened : pair_of eps l r ≡ bind (making Entry 0 (staged s a)) (λ x. bind (split_from eps (l.rl * l.n) (r.n * r.rr) x) (λ p. done (halved p)))
-    pair_opened = pair_stages ∙ ap (λ (o : Made (List Float)). bind (making Entry 0 o) (λ x. bind (split_from eps (l.rl * l.n) (r.n * r.rr) x) (λ p. done (halved p)))) ea
+    pair_opened : pair_of eps l r ≡ bind (making Entry 0 (staged s a)) (λ x. bind (split_from eps (l.rl * l.n) (r.n * r.rr) x) (λ p. Ok (halved p)))
+    pair_opened = pair_stages ∙ ap (λ (o : Made (List Float)). bind (making Entry 0 o) (λ x. bind (split_from eps (l.rl * l.n) (r.n * r.rr) x) (λ p. Ok (halved p)))) ea
 
     -- u is what the call answers of that stage
-    module _ (u : Verdict) (told : u ≡ stored_in Entry 0 s) where
-      pair_told : pair_of eps l r ≡ bind (answered u a) (λ x. bind (split_from eps (l.rl * l.n) (r.n * r.rr) x) (λ p. done (halved p)))
+    module _ (u : Check) (told : u ≡ stored_in Entry 0 s) where
+      pair_told : pair_of eps l r ≡ bind (answered u a) (λ x. bind (split_from eps (l.rl * l.n) (r.n * r.rr) x) (λ p. Ok (halved p)))
       pair_told =
           pair_opened
-          ∙ ap (λ (o : Answer (List Float)). bind o (λ x. bind (split_from eps (l.rl * l.n) (r.n * r.rr) x) (λ p. done (halved p)))) (stored_answered Entry 0 s u a told)
+          ∙ ap (λ (o : Answer (List Float)). bind o (λ x. bind (split_from eps (l.rl * l.n) (r.n * r.rr) x) (λ p. Ok (halved p)))) (stored_answered Entry 0 s u a told)
 
-      pub pair_stop : (q : Refusal) (h : Halves) → u ≡ Refused q → pair_of eps l r ≡ answered (Refused q) h
+      pub pair_stop : (q : Refusal) (h : Halves) → u ≡ Err q → pair_of eps l r ≡ answered (Err q) h
       unfolding answered
       pair_stop q h e = pair_told ∙ rw e
 
-      pub pair_end : u ≡ Fits → (v : Verdict) (p : Parted) → split_from eps (l.rl * l.n) (r.n * r.rr) a ≡ answered v p → pair_of eps l r ≡ answered v (halved p)
-      pair_end e v p g = opened e ∙ ap (λ (o : Answer Parted). bind o (λ p. done (halved p))) g ∙ answered_on v p halved
+      pub pair_end : u ≡ Ok tt → (v : Check) (p : Parted) → split_from eps (l.rl * l.n) (r.n * r.rr) a ≡ answered v p → pair_of eps l r ≡ answered v (halved p)
+      pair_end e v p g = opened e ∙ ap (λ (o : Answer Parted). bind o (λ p. Ok (halved p))) g ∙ answered_on v p halved
         where
-          opened : u ≡ Fits → pair_of eps l r ≡ bind (split_from eps (l.rl * l.n) (r.n * r.rr) a) (λ p. done (halved p))
-          opened e = pair_told ∙ ap (λ (x : Answer (List Float)). bind x (λ x. bind (split_from eps (l.rl * l.n) (r.n * r.rr) x) (λ p. done (halved p)))) (ap (λ (x : Verdict). answered x a) e ∙ answered_fits a)
+          opened : u ≡ Ok tt → pair_of eps l r ≡ bind (split_from eps (l.rl * l.n) (r.n * r.rr) a) (λ p. Ok (halved p))
+          opened e = pair_told ∙ ap (λ (x : Answer (List Float)). bind x (λ x. bind (split_from eps (l.rl * l.n) (r.n * r.rr) x) (λ p. Ok (halved p)))) (ap (λ (x : Check). answered x a) e ∙ answered_ok a)

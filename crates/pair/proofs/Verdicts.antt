@@ -1,4 +1,5 @@
 -- The checks of a pair by what code finds. Assumes nothing.
+use Rattle.std.specs.Prelude.{Ok, Err}
 use mathlib.Core.Path.{◌≡◌, sym, ap, ◌∙◌}
 use Prim.Native.Nat.{ℕ, ◌*◌, ◌≤◌}
 use native.Mathlib.Nat.{mul-le-mul}
@@ -11,9 +12,7 @@ use mir.Syntax.{w64}
 use mir.Val.{Fits}
 use Rattle.shape.specs.Limits.{most_points}
 use Rattle.answers.specs.declared.Refusal.{Refusal}
-use Rattle.answers.specs.declared.Verdict.{Verdict}
-use Rattle.answers.specs.declared.Verdict.TheVariants as verdict
-use Rattle.answers.specs.Outcome.{done, verdict_of, Check, demand, ◌then◌}
+use Rattle.answers.specs.Outcome.{Check, demand, ◌then◌}
 use Rattle.answers.proofs.Checks.{demand_yes, demand_no, then_stops, then_passes}
 use Rattle.lists.proofs.Tests.{eqb_yes, eqb_no, both}
 use Rattle.pairform.specs.declared.Sizes as given
@@ -22,18 +21,18 @@ use Rattle.pair.proofs.Checked.{sizes_are, demand_then}
 
 -- ---- one demand of several: by a test, and by two counts that are equal
 module _ (t : Bool) (q : Refusal) (o : Check) (b : Bool) (e : b ≡ t) where
-  pub ask_no : b ≡ false → verdict.Refused q ≡ verdict_of (demand t q then o)
-  ask_no h = sym (ap (λ (c : Check). verdict_of (c then o)) (demand_no t q (sym e ∙ h)))
+  pub ask_no : b ≡ false → Err q ≡ (demand t q then o)
+  ask_no h = sym (ap (λ (c : Check). (c then o)) (demand_no t q (sym e ∙ h)))
 
-  pub ask_yes : b ≡ true → (w : Verdict) → w ≡ verdict_of o → w ≡ verdict_of (demand t q then o)
-  ask_yes h w g = g ∙ sym (ap (λ (c : Check). verdict_of (c then o)) (demand_yes t q (sym e ∙ h)))
+  pub ask_yes : b ≡ true → (w : Check) → w ≡ o → w ≡ (demand t q then o)
+  ask_yes h w g = g ∙ sym (ap (λ (c : Check). (c then o)) (demand_yes t q (sym e ∙ h)))
 
 module _ (a b : ℕ) (q : Refusal) (o : Check) where
-  pub same_no : (a ≡ b → ⊥) → verdict.Refused q ≡ verdict_of (demand (eqb a b) q then o)
-  same_no h = sym (ap (λ (c : Check). verdict_of (c then o)) (demand_no (eqb a b) q (eqb_no a b h)))
+  pub same_no : (a ≡ b → ⊥) → Err q ≡ (demand (eqb a b) q then o)
+  same_no h = sym (ap (λ (c : Check). (c then o)) (demand_no (eqb a b) q (eqb_no a b h)))
 
-  pub same_yes : a ≡ b → (w : Verdict) → w ≡ verdict_of o → w ≡ verdict_of (demand (eqb a b) q then o)
-  same_yes h w g = g ∙ sym (ap (λ (c : Check). verdict_of (c then o)) (demand_yes (eqb a b) q (eqb_yes a b h)))
+  pub same_yes : a ≡ b → (w : Check) → w ≡ o → w ≡ (demand (eqb a b) q then o)
+  same_yes h w g = g ∙ sym (ap (λ (c : Check). (c then o)) (demand_yes (eqb a b) q (eqb_yes a b h)))
 
 -- ---- lines are counted of sizes within their limits only
 pub lines_no : (s x : Bool) → s ≡ false → false ≡ s && x
@@ -60,7 +59,7 @@ small c e =
     let s = sizes_are (core_of c []) e in
     record { rl = let b = s.rl.bound in omega arith; n = s.n.bound; rr = let b = s.rr.bound in omega arith }
 
-pub sized_small : (l r : given.Sizes) → pair_sized (core_of l []) (core_of r []) ≡ done tt → Small l × Small r
+pub sized_small : (l r : given.Sizes) → pair_sized (core_of l []) (core_of r []) ≡ Ok tt → Small l × Small r
 unfolding pair_sized
 sized_small l r h =
     let (size0, a) = demand_then _ _ _ tt h in
@@ -68,26 +67,26 @@ sized_small l r h =
     (small l (both (sizes_ok (core_of l [])) _ size0).0, small r (both (sizes_ok (core_of r [])) _ size1).0)
 
 -- ---- all of them
-module _ (l r : given.Sizes) (eps : Float) (left right : List Float) (lefts rights scratch : ℕ) (v : Verdict) (e : v ≡ verdict_of (pair_sized (core_of l []) (core_of r []))) where
+module _ (l r : given.Sizes) (eps : Float) (left right : List Float) (lefts rights scratch : ℕ) (v : Check) (e : v ≡ pair_sized (core_of l []) (core_of r [])) where
   abbrev ok : Check
   ok = pair_ok (core_of l left) (core_of r right) eps lefts rights scratch
 
   abbrev rest : Check
   rest = pair_lent (core_of l left) (core_of r right) lefts rights scratch then pair_finite eps left right
 
-  sizes_told : v ≡ verdict_of (pair_sized (core_of l left) (core_of r right))
+  sizes_told : v ≡ pair_sized (core_of l left) (core_of r right)
   unfolding pair_sized sizes_ok
   sizes_told = e
 
-  pub size_stops : (q : Refusal) → v ≡ verdict.Refused q → verdict.Refused q ≡ verdict_of ok
+  pub size_stops : (q : Refusal) → v ≡ Err q → Err q ≡ ok
   unfolding pair_ok
   size_stops q h = then_stops (pair_sized (core_of l left) (core_of r right)) rest v sizes_told q h
 
-  module _ (h : v ≡ verdict.Fits) (w : Verdict) (f : w ≡ verdict_of (pair_lent (core_of l left) (core_of r right) lefts rights scratch)) where
-    pub length_stops : (q : Refusal) → w ≡ verdict.Refused q → verdict.Refused q ≡ verdict_of ok
+  module _ (h : v ≡ Ok tt) (w : Check) (f : w ≡ pair_lent (core_of l left) (core_of r right) lefts rights scratch) where
+    pub length_stops : (q : Refusal) → w ≡ Err q → Err q ≡ ok
     unfolding pair_ok
-    length_stops q g = then_passes (pair_sized (core_of l left) (core_of r right)) rest v sizes_told (verdict.Refused q) h (then_stops (pair_lent (core_of l left) (core_of r right) lefts rights scratch) (pair_finite eps left right) w f q g)
+    length_stops q g = then_passes (pair_sized (core_of l left) (core_of r right)) rest v sizes_told (Err q) h (then_stops (pair_lent (core_of l left) (core_of r right) lefts rights scratch) (pair_finite eps left right) w f q g)
 
-    pub finite_ends : w ≡ verdict.Fits → (u : Verdict) → u ≡ verdict_of (pair_finite eps left right) → u ≡ verdict_of ok
+    pub finite_ends : w ≡ Ok tt → (u : Check) → u ≡ pair_finite eps left right → u ≡ ok
     unfolding pair_ok
     finite_ends g u d = then_passes (pair_sized (core_of l left) (core_of r right)) rest v sizes_told u h (then_passes (pair_lent (core_of l left) (core_of r right) lefts rights scratch) (pair_finite eps left right) w f u g d)

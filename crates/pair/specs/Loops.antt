@@ -1,8 +1,8 @@
 -- How the split of a slab's columns goes, stage by stage, by its rows and columns alone. Definitions for loops only.
-use Rattle.std.specs.Prelude.{ℕ, ◌≤◌, List, leb, Float}
+use Rattle.std.specs.Prelude.{ℕ, ◌≤◌, List, leb, Float, Ok}
 use Rattle.answers.specs.declared.Part.TheVariants.{Spectrum}
 use Rattle.answers.specs.declared.Refusal.TheVariants.{PairRank}
-use Rattle.answers.specs.Outcome.{Made, Answer, done, bind, ◌then◌, demand, making}
+use Rattle.answers.specs.Outcome.{Made, Answer, bind, ◌then◌, demand, making}
 use Rattle.lists.specs.Floats.{stored}
 use Rattle.shape.specs.Limits.{most_rank, most_lines}
 use Rattle.cutform.specs.Rotation.{eye}
@@ -26,7 +26,7 @@ unfoldable pub valued_from : ℕ → ℕ → List Float → Made Valued
 valued_from m n a =
     bind (orthogonalized m n (svd a (eye n))) (λ w.
     bind (stored (values m n w.svd.columns)) (λ sv.
-    done (record { passes = w; values = sv })))
+    Ok (record { passes = w; values = sv })))
 
 -- the kept rank, the numbers of the two cores, and the passes made
 pub record Parted : Type 0 where
@@ -42,7 +42,7 @@ unfoldable pub cut_from : Float → (m n : ℕ) → Passes → List Float → An
 cut_from eps m n w sv =
     let ss = sorted n sv in
     let r = kept_rank eps n ss in
-    demand (leb r most_rank) PairRank then bind (formed_from m n r ss (order n sv) w.svd.columns w.svd.basis) (λ h. done (parted r w.count h))
+    demand (leb r most_rank) PairRank then bind (formed_from m n r ss (order n sv) w.svd.columns w.svd.basis) (λ h. Ok (parted r w.count h))
 
 unfoldable pub split_from : Float → (m n : ℕ) → List Float → Answer Parted
 split_from eps m n a = bind (making Spectrum 0 (valued_from m n a)) (λ d. cut_from eps m n d.passes d.values)

@@ -1,8 +1,8 @@
 -- The numbers of two cores row by row. Definitions for loops only.
-use Rattle.std.specs.Prelude.{ℕ, List, get_or, Float}
+use Rattle.std.specs.Prelude.{ℕ, List, get_or, Float, Ok}
 use Rattle.numbers.specs.Arithmetic.{times}
 use Rattle.answers.specs.declared.Part.TheVariants.{Factor}
-use Rattle.answers.specs.Outcome.{Answer, done, bind, making}
+use Rattle.answers.specs.Outcome.{Answer, bind, making}
 use Rattle.lists.specs.Lists.{grid}
 use Rattle.lists.specs.Floats.{at, cell, stored}
 use Rattle.pairform.specs.Numbers.{inverse}
@@ -24,4 +24,4 @@ unfoldable pub formed_from : (m n r : ℕ) → List Float → List ℕ → List 
 formed_from m n r ss js a v =
     bind (making Factor 0 (stored (left_rows m r ss js a))) (λ x.
     bind (making Factor 1 (stored (right_rows n r js v))) (λ y.
-    done (record { left = x; right = y })))
+    Ok (record { left = x; right = y })))

@@ -1,7 +1,7 @@
 -- The slab by flat indices, and its columns. Definitions for loops only.
-use Rattle.std.specs.Prelude.{ℕ, List, Float}
+use Rattle.std.specs.Prelude.{ℕ, List, Float, Ok}
 use Rattle.numbers.specs.Arithmetic.{zero64}
-use Rattle.answers.specs.Outcome.{Made, done, bind}
+use Rattle.answers.specs.Outcome.{Made, bind}
 use Rattle.lists.specs.Lists.{iter, grid}
 use Rattle.lists.specs.Floats.{cell, stored}
 use Rattle.pairform.specs.Slabs.{plus_product}
@@ -16,4 +16,4 @@ columns_of m n s = grid n m (λ (col row : ℕ). cell n s row col)
 
 -- the columns of the slab of m rows of k and k rows of w
 unfoldable pub slab_columns : (m k w : ℕ) → List Float → List Float → Made (List Float)
-slab_columns m k w left right = bind (stored (grid m w (slab_at left right k w))) (λ s. done (columns_of m w s))
+slab_columns m k w left right = bind (stored (grid m w (slab_at left right k w))) (λ s. Ok (columns_of m w s))

@@ -39,7 +39,7 @@ fn left_core(
     ss: &[f64],
     r: usize,
     out: &mut [f64],
-) -> answers::Stage
+) -> Result<(), usize>
     requires { (length a.now ≡ n * m) × (r ≤ length js.now) × Columns n js.now r × (r ≤ length ss.now) × (m * r ≤ length out.old) }
     ensures { stored (left_rows m r ss.now js.now a.now) ≡ staged result (take (m * r) out.new) }
 {
@@ -61,7 +61,7 @@ fn right_row(v: &[f64], n: usize, col: usize, r: usize, k: usize, out: &mut [f64
 }
 
 // The right core's numbers, at the front of out.
-fn right_core(v: &[f64], n: usize, js: &[usize], r: usize, out: &mut [f64]) -> answers::Stage
+fn right_core(v: &[f64], n: usize, js: &[usize], r: usize, out: &mut [f64]) -> Result<(), usize>
     requires { (length v.now ≡ n * n) × (r ≤ length js.now) × Columns n js.now r × (r * n ≤ length out.old) }
     ensures { stored (right_rows n r js.now v.now) ≡ staged result (take (r * n) out.new) }
 {
@@ -83,7 +83,7 @@ pub fn form(
     v: &[f64],
     x: &mut [f64],
     y: &mut [f64],
-) -> answers::Verdict
+) -> Result<(), answers::Refusal>
     requires { (length a.now ≡ n * m) × (length v.now ≡ n * n) × (r ≤ length js.now) × Columns n js.now r × (r ≤ length ss.now)
         × (m * r ≤ length x.old) × (r * n ≤ length y.old) }
     ensures { formed_from m n r ss.now js.now a.now v.now
@@ -91,8 +91,8 @@ pub fn form(
 {
     let lefts = left_core(a, m, n, js, ss, r, x);
     let first = answers::stored_in(lefts, answers::Part::Factor, 0);
-    if let answers::Verdict::Refused(q) = first {
-        return answers::Verdict::Refused(q);
+    if let Err(q) = first {
+        return Err(q);
     }
     let rights = right_core(v, n, js, r, y);
     answers::stored_in(rights, answers::Part::Factor, 1)

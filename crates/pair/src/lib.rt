@@ -7,8 +7,8 @@ pub mod refusals;
 pub mod slabs;
 pub mod split;
 
-ghost use Rattle.std.specs.Prelude.{◌≡◌, ◌*◌, ◌≤◌, length, take};
-ghost use Rattle.answers.specs.Outcome.{done, answered};
+ghost use Rattle.std.specs.Prelude.{◌≡◌, ◌*◌, ◌≤◌, length, take, Ok};
+ghost use Rattle.answers.specs.Outcome.{answered};
 ghost use Rattle.shape.specs.Limits.{most_rank, most_lines};
 ghost use Rattle.shape.specs.Cores.{core_with};
 ghost use Rattle.pairform.specs.Splits.{pair_of};
@@ -41,7 +41,7 @@ fn pair_of(
     let n = r.n * r.rr;
     let made = slabs::columns(left, right, m, l.rr, n, a);
     let told = answers::stored_in(made, answers::Part::Entry, 0);
-    if let answers::Verdict::Refused(q) = told {
+    if let Err(q) = told {
         return split::refused_pair(q);
     }
     parts::split(eps, m, n, a, x, y)
@@ -58,7 +58,7 @@ fn pair_within(
     rights: &mut [f64],
     scratch: &mut [f64],
 ) -> pairform::Paired
-    requires { pair_ok (core_of l left.now) (core_of r right.now) eps (length lefts.old) (length rights.old) (length scratch.old) ≡ done tt }
+    requires { pair_ok (core_of l left.now) (core_of r right.now) eps (length lefts.old) (length rights.old) (length scratch.old) ≡ Ok tt }
     ensures { (result ≡ (pair_by lefts.old rights.old scratch.old
         (pair_of eps (core_of l left.now) (core_of r right.now))).result)
         × (lefts.new ≡ (pair_by lefts.old rights.old scratch.old
@@ -73,12 +73,12 @@ fn pair_within(
     let e = n * m;
     let made = pair_of(l, r, eps, left, right, &mut scratch[0..e], &mut x, &mut y);
     let verdict = made.verdict;
-    if let answers::Verdict::Refused(q) = verdict {
+    if let Err(q) = verdict {
         return split::refused_pair(q);
     }
     lists::fit(&x, m * made.rank, lefts);
     lists::fit(&y, made.rank * n, rights);
-    split::paired_as(answers::Verdict::Fits, made.rank, made.passes)
+    split::paired_as(Ok(()), made.rank, made.passes)
 }
 
 // Two neighbouring cores contracted and split again: the left one goes to lefts and the right one to rights, each at the
@@ -106,7 +106,7 @@ pub fn contract_and_split(
         rights.len(),
         scratch.len(),
     );
-    if let answers::Verdict::Refused(q) = ok {
+    if let Err(q) = ok {
         return split::refused_pair(q);
     }
     let made = pair_within(l, r, eps, left, right, lefts, rights, scratch);

@@ -36,8 +36,8 @@ fn valued(
     columns::square(a, m, n, sv);
     let w = passes::orthogonalize(a, v, sv, b, m, n);
     let stage = w.stage;
-    if let answers::Stage::Spilt(i) = stage {
-        return passes::counted::passes_are(answers::Stage::Spilt(i), 0);
+    if let Err(i) = stage {
+        return passes::counted::passes_are(Err(i), 0);
     }
     roots(sv);
     let kept = lists::stored(sv);
@@ -105,7 +105,7 @@ pub fn split(
     let d = valued(a, &mut v[0..e], &mut sv[0..n], &mut b[0..o], m, n);
     let stage = d.stage;
     let told = answers::stored_in(stage, answers::Part::Spectrum, 0);
-    if let answers::Verdict::Refused(q) = told {
+    if let Err(q) = told {
         return crate::split::refused_pair(q);
     }
     cut(eps, m, n, d.count, a, &v[0..e], &sv[0..n], x, y)

@@ -1,6 +1,5 @@
 // What a pair asks before the work.
-ghost use Rattle.std.specs.Prelude.{◌≡◌, true, ◌&&◌, [], ◌*◌, ◌≤◌, leb};
-ghost use Rattle.answers.specs.Outcome.{verdict_of, done};
+ghost use Rattle.std.specs.Prelude.{◌≡◌, true, ◌&&◌, [], ◌*◌, ◌≤◌, leb, Ok};
 ghost use Rattle.numbers.specs.Finite.{finite};
 ghost use Rattle.lists.specs.Floats.{all_finite};
 ghost use Rattle.shape.specs.Limits.{most_points, most_lines};
@@ -28,19 +27,19 @@ fn lines_ok(sized: bool, i: usize, j: usize) -> bool
 }
 
 // Refusals 2 and 3.
-fn sized(l: pairform::Sizes, r: pairform::Sizes) -> answers::Verdict
-    ensures { result ≡ verdict_of (pair_sized (core_of l []) (core_of r [])) }
+fn sized(l: pairform::Sizes, r: pairform::Sizes) -> Result<(), answers::Refusal>
+    ensures { result ≡ pair_sized (core_of l []) (core_of r []) }
 {
     if !lines_ok(sizes_ok(l), l.rl, l.n) {
-        return answers::Verdict::Refused(answers::Refusal::Size(0));
+        return Err(answers::Refusal::Size(0));
     }
     if !lines_ok(sizes_ok(r), r.n, r.rr) {
-        return answers::Verdict::Refused(answers::Refusal::Size(1));
+        return Err(answers::Refusal::Size(1));
     }
     if l.rr != r.rl {
-        return answers::Verdict::Refused(answers::Refusal::Ranks(0));
+        return Err(answers::Refusal::Ranks(0));
     }
-    answers::Verdict::Fits
+    Ok(())
 }
 
 // Refusal 5.
@@ -52,26 +51,26 @@ fn lent(
     lefts: usize,
     rights: usize,
     scratch: usize,
-) -> answers::Verdict
-    requires { pair_sized (core_of l []) (core_of r []) ≡ done tt }
-    ensures { result ≡ verdict_of (pair_lent (core_of l left.now) (core_of r right.now) lefts rights scratch) }
+) -> Result<(), answers::Refusal>
+    requires { pair_sized (core_of l []) (core_of r []) ≡ Ok tt }
+    ensures { result ≡ pair_lent (core_of l left.now) (core_of r right.now) lefts rights scratch }
 {
     if left.len() != l.rl * l.n * l.rr {
-        return answers::Verdict::Refused(answers::Refusal::Length(0));
+        return Err(answers::Refusal::Length(0));
     }
     if right.len() != r.rl * r.n * r.rr {
-        return answers::Verdict::Refused(answers::Refusal::Length(1));
+        return Err(answers::Refusal::Length(1));
     }
     if lefts != l.rl * l.n * shape::MOST_RANK {
-        return answers::Verdict::Refused(answers::Refusal::Length(2));
+        return Err(answers::Refusal::Length(2));
     }
     if rights != shape::MOST_RANK * r.n * r.rr {
-        return answers::Verdict::Refused(answers::Refusal::Length(3));
+        return Err(answers::Refusal::Length(3));
     }
     if scratch != shape::PAIR_SCRATCH {
-        return answers::Verdict::Refused(answers::Refusal::Length(4));
+        return Err(answers::Refusal::Length(4));
     }
-    answers::Verdict::Fits
+    Ok(())
 }
 
 fn eps_and_left(eps: f64, left: &[f64]) -> bool
@@ -83,19 +82,19 @@ fn eps_and_left(eps: f64, left: &[f64]) -> bool
 }
 
 // Refusals 6 and 7.
-fn finite(eps: f64, left: &[f64], right: &[f64]) -> answers::Verdict
-    ensures { result ≡ verdict_of (pair_finite eps left.now right.now) }
+fn finite(eps: f64, left: &[f64], right: &[f64]) -> Result<(), answers::Refusal>
+    ensures { result ≡ pair_finite eps left.now right.now }
 {
     if !eps_and_left(eps, left) {
-        return answers::Verdict::Refused(answers::Refusal::Number(0));
+        return Err(answers::Refusal::Number(0));
     }
     if !lists::all_finite(right) {
-        return answers::Verdict::Refused(answers::Refusal::Number(1));
+        return Err(answers::Refusal::Number(1));
     }
     if !checks::not_below_zero(eps) {
-        return answers::Verdict::Refused(answers::Refusal::Setting(0));
+        return Err(answers::Refusal::Setting(0));
     }
-    answers::Verdict::Fits
+    Ok(())
 }
 
 pub fn pair_ok(
@@ -107,16 +106,16 @@ pub fn pair_ok(
     lefts: usize,
     rights: usize,
     scratch: usize,
-) -> answers::Verdict
-    ensures { result ≡ verdict_of (pair_ok (core_of l left.now) (core_of r right.now) eps lefts rights scratch) }
+) -> Result<(), answers::Refusal>
+    ensures { result ≡ pair_ok (core_of l left.now) (core_of r right.now) eps lefts rights scratch }
 {
     let shaped = sized(l, r);
-    if let answers::Verdict::Refused(q) = shaped {
-        return answers::Verdict::Refused(q);
+    if let Err(q) = shaped {
+        return Err(q);
     }
     let long = lent(l, r, left, right, lefts, rights, scratch);
-    if let answers::Verdict::Refused(q) = long {
-        return answers::Verdict::Refused(q);
+    if let Err(q) = long {
+        return Err(q);
     }
     finite(eps, left, right)
 }

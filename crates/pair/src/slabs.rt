@@ -77,7 +77,7 @@ pub fn columns(
     k: usize,
     w: usize,
     a: &mut [f64],
-) -> answers::Stage
+) -> Result<(), usize>
     requires { (length left.now ≡ m * k) × (length right.now ≡ k * w) × (length a.old ≡ w * m) × (m ≤ most_lines) × (w ≤ most_lines) }
     ensures { slab_columns m k w left.now right.now ≡ staged result a.new }
 {
@@ -86,9 +86,9 @@ pub fn columns(
     let e = m * w;
     let slab = &room[0..e];
     let made = lists::stored(slab);
-    if let answers::Stage::Spilt(i) = made {
-        return answers::Stage::Spilt(i);
+    if let Err(i) = made {
+        return Err(i);
     }
     transpose(slab, m, w, a);
-    answers::Stage::Whole
+    Ok(())
 }

@@ -1,22 +1,21 @@
 // What the split of a slab answers, and how a number of a column is rescaled for it.
-ghost use Rattle.std.specs.Prelude.{◌≡◌};
+ghost use Rattle.std.specs.Prelude.{◌≡◌, Err};
 ghost use Rattle.numbers.specs.Arithmetic.{times};
-ghost use Rattle.answers.specs.declared.Verdict.TheVariants.{Refused};
 ghost use Rattle.pairform.specs.Numbers.{inverse};
 
 use pairform::Paired;
 
 pub fn refused_pair(r: answers::Refusal) -> Paired
-    ensures { result ≡ record { verdict = Refused r; rank = 0; passes = 0 } }
+    ensures { result ≡ record { verdict = Err r; rank = 0; passes = 0 } }
 {
     Paired {
-        verdict: answers::Verdict::Refused(r),
+        verdict: Err(r),
         rank: 0,
         passes: 0,
     }
 }
 
-pub fn paired_as(verdict: answers::Verdict, rank: usize, passes: usize) -> Paired
+pub fn paired_as(verdict: Result<(), answers::Refusal>, rank: usize, passes: usize) -> Paired
     ensures { result ≡ record { verdict = verdict; rank = rank; passes = passes } }
 {
     Paired {

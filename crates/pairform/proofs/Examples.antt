@@ -9,9 +9,8 @@ use lib.Ieee.{Float, nan, fin, binary64, add, sub, mul, div, lt, le, eq, round, 
 use Rattle.numbers.specs.Arithmetic.{zero64, one64, two64, tolerance64}
 use Rattle.numbers.specs.Magnitude.{magnitude_of}
 use Rattle.numbers.specs.Root.{root_in, whole_root, root_of_units, root_of}
-use Rattle.answers.specs.declared.Verdict.{Verdict}
-use Rattle.answers.specs.declared.Verdict.TheVariants.{Fits, Refused}
-use Rattle.answers.specs.Outcome.{demand}
+use Rattle.std.specs.Prelude.{Ok, Err}
+use Rattle.answers.specs.Outcome.{demand, Check}
 use Rattle.answers.specs.Table.{told_of}
 use Rattle.lists.specs.Lists.{pick, listed, flat, first, count, pairs}
 use Rattle.lists.specs.Slots.{fit}
@@ -38,9 +37,9 @@ tolerance_nearest = refl
 abbrev bits : List Float → List ℕ
 bits xs = map (to_bits binary64) xs
 
-abbrev told : ℕ → ℕ → PairEnded → Verdict → List ℕ
-told i j e Fits = e.result.rank ∷ e.result.passes ∷ (bits (take i e.left) ++ bits (take j e.right))
-told i j e (Refused r) = told_of (Refused r)
+abbrev told : ℕ → ℕ → PairEnded → Check → List ℕ
+told i j e (Ok _) = e.result.rank ∷ e.result.passes ∷ (bits (take i e.left) ++ bits (take j e.right))
+told i j e (Err r) = told_of (Err r)
 
 -- the outputs hold ones before the call
 abbrev answer : ℕ → ℕ → Core → Core → Float → List ℕ

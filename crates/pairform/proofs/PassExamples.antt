@@ -1,11 +1,12 @@
 -- Passes over two columns worked out beside the definitions, by computation: a pair whose quotient is 1e-14, and the numbers next to it. Assumes nothing.
+use Rattle.std.specs.Prelude.{Ok, Err}
 use mathlib.Core.Path.{◌≡◌, refl}
 use mathlib.Core.List.{List, [], ◌∷◌, map}
 use Prim.Native.Nat.{ℕ}
 use lib.Ieee.{Float, binary64, add, sub, mul, div, le, of_bits, to_bits}
 use Rattle.numbers.specs.Magnitude.{magnitude_of}
 use Rattle.numbers.specs.Root.{root_in, whole_root, root_of_units, root_of}
-use Rattle.answers.specs.Outcome.{Made, done, refused}
+use Rattle.answers.specs.Outcome.{Made}
 use Rattle.lists.specs.Lists.{pick, listed, flat, first, pairs}
 use Rattle.lists.specs.Walks.{along}
 use Rattle.lists.specs.Floats.{sum_on, sum_to, all_finite, first_not_finite, stored}
@@ -26,8 +27,8 @@ abbrev of : List ℕ → List Float
 of l = map (of_bits binary64) l
 
 abbrev seen : Made Passes → Seen
-seen (done w) = record { count = w.count; columns = bits w.svd.columns; basis = bits w.svd.basis }
-seen (refused i) = record { count = 0; columns = []; basis = [] }
+seen (Ok w) = record { count = w.count; columns = bits w.svd.columns; basis = bits w.svd.basis }
+seen (Err i) = record { count = 0; columns = []; basis = [] }
 
 abbrev one : ℕ
 one = 0x3ff0_0000_0000_0000

@@ -1,4 +1,5 @@
 -- A pair's right core is never refused: its numbers are those of the basis, which were stored. Assumes nothing.
+use Rattle.std.specs.Prelude.{Ok, Err}
 use mathlib.Core.Path.{◌≡◌, refl, ap, sym, ◌∙◌}
 use Prim.Native.Nat.{ℕ, ◌+◌, ◌*◌, ◌<◌, ◌≤◌}
 use native.Mathlib.Nat.{le_refl, le_of_eq}
@@ -13,9 +14,9 @@ use Rattle.answers.specs.declared.Part.{Part}
 use Rattle.answers.specs.declared.Part.TheVariants.{Entry, Spectrum, Factor}
 use Rattle.answers.specs.declared.Refusal.{Refusal}
 use Rattle.answers.specs.declared.Refusal.TheVariants.{Stored, PairRank}
-use Rattle.answers.specs.Outcome.{Answer, Made, done, refused, bind, making, demand, ◌then◌}
+use Rattle.answers.specs.Outcome.{Answer, Made, bind, making, demand, ◌then◌}
 use Rattle.answers.specs.Table.{number_of, place_of}
-use Rattle.answers.proofs.Outcomes.{done_refused, refused_inj}
+use Rattle.answers.proofs.Outcomes.{ok_err, err_inj}
 use Rattle.lists.specs.Lists.{grid}
 use Rattle.lists.specs.Floats.{cell, all_finite, stored}
 use Rattle.lists.proofs.Cells.{cell_lt}
@@ -39,7 +40,7 @@ module _ (r nk rr : ℕ) (js : List ℕ) (v : List Float) (within : (k : ℕ) �
       let column = cell_lt ik nk rr ir (nk * rr) b c (le_refl (nk * rr)) in
       finite_get_d_lem v (get_or js k 0 * (nk * rr) + (ik * rr + ir)) nan (cell_lt (get_or js k 0) (nk * rr) (nk * rr) (ik * rr + ir) (length v) (within k a) column (le_of_eq (sym long))) fine
 
-  right_stored : stored (right_numbers r nk rr js v) ≡ done (right_numbers r nk rr js v)
+  right_stored : stored (right_numbers r nk rr js v) ≡ Ok (right_numbers r nk rr js v)
   unfolding right_numbers block
   right_stored =
       let number : ℕ → ℕ → ℕ → Float = λ (k ik ir : ℕ). cell (nk * rr) v (get_or js k 0) (ik * rr + ir) in
@@ -48,9 +49,9 @@ module _ (r nk rr : ℕ) (js : List ℕ) (v : List Float) (within : (k : ℕ) �
 
 -- ---- where another stage is refused, it is with its own part and core
 passed_on : {A B : Type 0} (p : Part) (k : ℕ) (m : Made A) (f : A → Answer B) (q : Refusal) → ((n : ℕ) → Stored p k n ≡ q → ⊥)
-    → bind (making p k m) f ≡ refused q → (a : A) × (m ≡ done a) × (f a ≡ refused q)
-passed_on p k (done a) f q other e = (a, refl, e)
-passed_on p k (refused n) f q other e = absurd (other n (refused_inj e))
+    → bind (making p k m) f ≡ Err q → (a : A) × (m ≡ Ok a) × (f a ≡ Err q)
+passed_on p k (Ok a) f q other e = (a, refl, e)
+passed_on p k (Err n) f q other e = absurd (other n (err_inj e))
 
 module _ (i : ℕ) where
   abbrev right : Refusal
@@ -65,25 +66,25 @@ module _ (i : ℕ) where
   left_other : (n : ℕ) → Stored Factor 0 n ≡ right → ⊥
   left_other n e = let z : ◌≡◌ {A = ℕ} 0 1 = ap place_of e in omega arith
 
-  tested_never : (b : Bool) (o : Answer Halves) → (o ≡ refused right → ⊥) → demand b PairRank then o ≡ refused right → ⊥
+  tested_never : (b : Bool) (o : Answer Halves) → (o ≡ Err right → ⊥) → demand b PairRank then o ≡ Err right → ⊥
   unfolding demand
   tested_never true o never e = never e
-  tested_never false o never e = let z : ◌≡◌ {A = ℕ} 10 13 = ap number_of (refused_inj e) in omega arith
+  tested_never false o never e = let z : ◌≡◌ {A = ℕ} 10 13 = ap number_of (err_inj e) in omega arith
 
   module _ (rl nj nk rr : ℕ) where
-    formed_never : (r : ℕ) (ss : List Float) (js : List ℕ) (w : Passes) → stored (right_numbers r nk rr js w.svd.basis) ≡ done (right_numbers r nk rr js w.svd.basis)
-        → formed rl nj nk rr r ss js w ≡ refused right → ⊥
+    formed_never : (r : ℕ) (ss : List Float) (js : List ℕ) (w : Passes) → stored (right_numbers r nk rr js w.svd.basis) ≡ Ok (right_numbers r nk rr js w.svd.basis)
+        → formed rl nj nk rr r ss js w ≡ Err right → ⊥
     unfolding formed
     formed_never r ss js w whole e =
         let halves : List Float → List Float → Halves = λ x y. record { left = core_with rl nj r x; right = core_with r nk rr y; passes = w.count } in
-        let last : List Float → Answer Halves = λ x. bind (making Factor 1 (stored (right_numbers r nk rr js w.svd.basis))) (λ y. done (halves x y)) in
+        let last : List Float → Answer Halves = λ x. bind (making Factor 1 (stored (right_numbers r nk rr js w.svd.basis))) (λ y. Ok (halves x y)) in
         let (x, a, b) = passed_on Factor 0 (stored (left_numbers rl nj r ss js w.svd.columns)) last right left_other e in
-        let rest : Made (List Float) → Answer Halves = λ o. bind (making Factor 1 o) (λ y. done (halves x y)) in
-        done_refused (sym (ap rest whole) ∙ b)
+        let rest : Made (List Float) → Answer Halves = λ o. bind (making Factor 1 o) (λ y. Ok (halves x y)) in
+        ok_err (sym (ap rest whole) ∙ b)
 
     module _ (eps : Float) (some : 1 ≤ nk * rr) where
       cut_never : (w : Passes) (sv : List Float) → Whole (rl * nj) (nk * rr) w.svd → length sv ≡ nk * rr → all_finite sv ≡ true
-          → cut eps rl nj nk rr w sv ≡ refused right → ⊥
+          → cut eps rl nj nk rr w sv ≡ Err right → ⊥
       unfolding cut
       cut_never w sv h long fine e =
           let n = nk * rr in
@@ -94,7 +95,7 @@ module _ (i : ℕ) where
           let whole = right_stored r nk rr js w.svd.basis (λ k a. order_lt n sv long fine js refl k (omega arith)) h.basis_length h.basis_finite in
           tested_never (leb r most_rank) (formed rl nj nk rr r ss js w) (λ f. formed_never r ss js w whole f) e
 
-      split_never : (s : List Float) → length s ≡ rl * nj * (nk * rr) → all_finite s ≡ true → split eps rl nj nk rr s ≡ refused right → ⊥
+      split_never : (s : List Float) → length s ≡ rl * nj * (nk * rr) → all_finite s ≡ true → split eps rl nj nk rr s ≡ Err right → ⊥
       unfolding split values
       split_never s long fine e =
           let m = rl * nj in
@@ -106,7 +107,7 @@ module _ (i : ℕ) where
           cut_never w sv (passes_whole m n (start m n s) w (start_whole m n s long fine) a) (ap length (sym is) ∙ length_tab n _) whole d
 
   -- THE THEOREM: no pair is refused with 13 at its core 1
-  pub right_never : (eps : Float) (l r : Core) → 1 ≤ r.n * r.rr → pair_of eps l r ≡ refused right → ⊥
+  pub right_never : (eps : Float) (l r : Core) → 1 ≤ r.n * r.rr → pair_of eps l r ≡ Err right → ⊥
   unfolding pair_of slab
   right_never eps l r some e =
       let (s, a, b) = passed_on Entry 0 (stored (slab l r)) (λ s. split eps l.rl l.n r.n r.rr s) right entry_other e in

@@ -1,10 +1,9 @@
 -- The call of a pair: slices are the left core, the right core, the left output, the right output, scratch. Definitions only.
-use Rattle.std.specs.Prelude.{ℕ, ◌*◌, Bool, ◌&&◌, List, leb, eqb, length, Float}
+use Rattle.std.specs.Prelude.{ℕ, ◌*◌, Bool, ◌&&◌, List, leb, eqb, length, Float, Ok, Err}
 use Rattle.numbers.specs.Arithmetic.{zero64}
 use Rattle.numbers.specs.Finite.{finite}
 use Rattle.answers.specs.declared.Refusal.TheVariants.{Size, Ranks, Length, Number, Setting}
-use Rattle.answers.specs.declared.Verdict.TheVariants.{Fits, Refused}
-use Rattle.answers.specs.Outcome.{Answer, done, refused, Check, ◌then◌, demand}
+use Rattle.answers.specs.Outcome.{Answer, Check, ◌then◌, demand}
 use Rattle.lists.specs.Slots.{fit}
 use Rattle.lists.specs.Floats.{all_finite}
 use Rattle.shape.specs.Limits.{most_points, most_rank, within, most_lines, pair_scratch}
@@ -66,17 +65,17 @@ pub record PairEnded : Type 0 where
   pub scratch : List Float
 
 unfoldable pub pair_by : List Float → List Float → List Float → Answer Halves → PairEnded
-pair_by left_out right_out scratch (done h) = record {
-  result = record { verdict = Fits; rank = h.left.rr; passes = h.passes };
+pair_by left_out right_out scratch (Ok h) = record {
+  result = record { verdict = Ok tt; rank = h.left.rr; passes = h.passes };
   left = fit zero64 (length left_out) h.left.entries;
   right = fit zero64 (length right_out) h.right.entries;
-  scratch = scratch_after scratch (done h);
+  scratch = scratch_after scratch (Ok h);
 }
-pair_by left_out right_out scratch (refused r) = record {
-  result = record { verdict = Refused r; rank = 0; passes = 0 };
+pair_by left_out right_out scratch (Err r) = record {
+  result = record { verdict = Err r; rank = 0; passes = 0 };
   left = left_out;
   right = right_out;
-  scratch = scratch_after {A = Halves} scratch (refused r);
+  scratch = scratch_after {A = Halves} scratch (Err r);
 }
 
 unfoldable pub pair_call : Core → Core → Float → List Float → List Float → List Float → PairEnded

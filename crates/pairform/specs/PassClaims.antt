@@ -1,6 +1,6 @@
 -- What the count of passes claims, which proofs/ proves of `orthogonalized`. Definitions only.
-use Rattle.std.specs.Prelude.{ℕ, ◌≤◌, ◌<◌, ◌≡◌, ◌⊎◌, true, false}
-use Rattle.answers.specs.Outcome.{Made, done}
+use Rattle.std.specs.Prelude.{ℕ, ◌≤◌, ◌<◌, ◌≡◌, ◌⊎◌, true, false, Ok}
+use Rattle.answers.specs.Outcome.{Made}
 use Rattle.lists.specs.Walks.{turning}
 use Rattle.pairform.specs.Passes.{Svd, Pass, passed, pass, Passes}
 
@@ -13,7 +13,7 @@ pub record Counted (most m n : ℕ) (e : Svd) (w : Passes) : Type 0 where
   pub least : 1 ≤ w.count
   pub bound : w.count ≤ most
   pub last : Pass
-  pub reached : passes_made w.count m n e ≡ done last
+  pub reached : passes_made w.count m n e ≡ Ok last
   pub left : last.svd ≡ w.svd
-  pub needed : (i : ℕ) (x : Pass) → i < w.count → passes_made i m n e ≡ done x → x.quiet ≡ false
+  pub needed : (i : ℕ) (x : Pass) → i < w.count → passes_made i m n e ≡ Ok x → x.quiet ≡ false
   pub stopped : (last.quiet ≡ true) ⊎ (w.count ≡ most)

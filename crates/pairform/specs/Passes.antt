@@ -1,7 +1,7 @@
 -- Jacobi passes over stored columns, with their count (004: `jacobi_sweep_all`, `apply_jacobi_rotation`). Definitions only.
-use Rattle.std.specs.Prelude.{ℕ, zero, suc, Bool, true, false, List, Float}
+use Rattle.std.specs.Prelude.{ℕ, zero, suc, Bool, true, false, List, Float, Ok}
 use Rattle.numbers.specs.Arithmetic.{times}
-use Rattle.answers.specs.Outcome.{Made, done, bind}
+use Rattle.answers.specs.Outcome.{Made, bind}
 use Rattle.lists.specs.Lists.{pick, grid, pairs}
 use Rattle.lists.specs.Walks.{along}
 use Rattle.lists.specs.Floats.{cell, stored}
@@ -22,7 +22,7 @@ unfoldable pub turned_svd : ℕ → ℕ → ℕ → ℕ → Float → Float → 
 turned_svd m n p q c s e =
     bind (stored (turn_stored m n p q c s e.columns)) (λ a.
     bind (stored (turn_stored n n p q c s e.basis)) (λ v.
-    done (svd a v)))
+    Ok (svd a v)))
 
 -- what a pass leaves, and whether it turned no pair
 pub record Pass : Type 0 where
@@ -40,7 +40,7 @@ rotate m n p q x =
     let bq = dot m a q q in
     let t = tangent_of (slope_of bp bq alpha) in
     let c = cosine_of t in
-    pick (skipped alpha bp bq) (done x) (bind (turned_svd m n p q c (times c t) x.svd) (λ e. done (passed e false)))
+    pick (skipped alpha bp bq) (Ok x) (bind (turned_svd m n p q c (times c t) x.svd) (λ e. Ok (passed e false)))
 
 -- ---- passes
 -- p < q in order
@@ -57,8 +57,8 @@ made c e = record { count = c; svd = e }
 
 -- at most `left` more passes after c of them; b says whether the last one was quiet
 unfoldable pub passes_from : ℕ → Bool → ℕ → ℕ → ℕ → Svd → Made Passes
-passes_from zero b m n c e = done (made c e)
-passes_from (suc left) true m n c e = done (made c e)
+passes_from zero b m n c e = Ok (made c e)
+passes_from (suc left) true m n c e = Ok (made c e)
 passes_from (suc left) false m n c e = bind (pass m n e) (λ x. passes_from left x.quiet m n (suc c) x.svd)
 
 abbrev pub most_passes : ℕ

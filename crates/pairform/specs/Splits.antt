@@ -1,9 +1,9 @@
 -- A slab split into two cores (003: `split_slab_into_cores`, 004: `one_sided_jacobi_svd`). Definitions only.
-use Rattle.std.specs.Prelude.{ℕ, ◌*◌, List, leb, Float}
+use Rattle.std.specs.Prelude.{ℕ, ◌*◌, List, leb, Float, Ok}
 use Rattle.numbers.specs.Root.{root_of}
 use Rattle.answers.specs.declared.Part.TheVariants.{Entry, Spectrum, Factor}
 use Rattle.answers.specs.declared.Refusal.TheVariants.{PairRank}
-use Rattle.answers.specs.Outcome.{Answer, done, bind, ◌then◌, demand, making}
+use Rattle.answers.specs.Outcome.{Answer, bind, ◌then◌, demand, making}
 use Rattle.lists.specs.Lists.{tab}
 use Rattle.lists.specs.Floats.{stored}
 use Rattle.shape.specs.Limits.{most_rank}
@@ -30,7 +30,7 @@ unfoldable pub formed : (rl nj nk rr r : ℕ) → List Float → List ℕ → Pa
 formed rl nj nk rr r ss js w =
     bind (making Factor 0 (stored (left_numbers rl nj r ss js w.svd.columns))) (λ x.
     bind (making Factor 1 (stored (right_numbers r nk rr js w.svd.basis))) (λ y.
-    done (record { left = core_with rl nj r x; right = core_with r nk rr y; passes = w.count })))
+    Ok (record { left = core_with rl nj r x; right = core_with r nk rr y; passes = w.count })))
 
 -- a kept rank above 8 is refused before the cores are formed
 unfoldable pub cut : Float → (rl nj nk rr : ℕ) → Passes → List Float → Answer Halves

@@ -4,7 +4,7 @@
 // The kept rank and the passes made, the quiet one included; both are 0 after a refusal.
 #[derive(Clone, Copy)]
 pub struct Paired {
-    pub verdict: answers::Verdict,
+    pub verdict: Result<(), answers::Refusal>,
     pub rank: usize,
     pub passes: usize,
 }

@@ -1,4 +1,5 @@
 -- Passes of which no number is looked at: where all is finite at the end, they are the passes. Assumes nothing.
+use Rattle.std.specs.Prelude.{Ok, Err}
 use mathlib.Core.Path.{◌≡◌, refl, sym, ap, ◌∙◌, subst}
 use Prim.Native.Nat.{ℕ, zero, suc, ◌+◌, ◌-◌, ◌*◌, ◌<◌, ◌≤◌}
 use native.Mathlib.Nat.{le_of_eq, zero-add}
@@ -12,7 +13,7 @@ use lib.Ieee.Fits.{mul-fits}
 use Rattle.numbers.specs.Arithmetic.{minus, times, zero64}
 use Rattle.numbers.specs.Finite.{finite}
 use Rattle.numbers.proofs.Swaps.{times_swap}
-use Rattle.answers.specs.Outcome.{Made, done, refused, bind}
+use Rattle.answers.specs.Outcome.{Made, bind}
 use Rattle.lists.specs.Lists.{pick, iter, iter_from}
 use Rattle.lists.specs.Floats.{cell, sum_on, sum_to, all_finite}
 use Rattle.lists.specs.Walks.{turning}
@@ -98,20 +99,20 @@ module _ {A : Type 0} (f : ℕ → A → Made A) where
   unfolding turning
   turning_last zero i x = let z : i + 0 ≡ i = omega arith in rw z (go (f i x))
     where
-      go : (o : Made A) → bind o (λ b. done b) ≡ o
-      go (done b) = refl
-      go (refused r) = refl
+      go : (o : Made A) → bind o (λ b. Ok b) ≡ o
+      go (Ok b) = refl
+      go (Err r) = refl
   turning_last (suc k) i x = go (λ b. turning_last k (suc i) b) (f i x)
     where
       go : ((b : A) → turning (suc k) (suc i) f b ≡ bind (turning k (suc i) f b) (λ y. f (suc i + k) y)) → (o : Made A) → bind o (λ b. turning (suc k) (suc i) f b) ≡ bind (bind o (λ b. turning k (suc i) f b)) (λ y. f (i + suc k) y)
-      go h (done b) = let z : suc i + k ≡ i + suc k = omega arith in h b ∙ ap (λ (j : ℕ). bind (turning k (suc i) f b) (λ y. f j y)) z
-      go h (refused r) = refl
+      go h (Ok b) = let z : suc i + k ≡ i + suc k = omega arith in h b ∙ ap (λ (j : ℕ). bind (turning k (suc i) f b) (λ y. f j y)) z
+      go h (Err r) = refl
 
 -- L holds from the start on, and F from the end back
 module _ {A : Type 0} (f : ℕ → A → Made A) (g : ℕ → A → A) (L F : A → Type 0) (lo hi : ℕ)
     (on : (i : ℕ) (x : A) → lo ≤ i → i < hi → L x → L (g i x))
     (back : (i : ℕ) (x : A) → lo ≤ i → i < hi → L x → F (g i x) → F x)
-    (same : (i : ℕ) (x : A) → lo ≤ i → i < hi → L x → F (g i x) → f i x ≡ done (g i x)) where
+    (same : (i : ℕ) (x : A) → lo ≤ i → i < hi → L x → F (g i x) → f i x ≡ Ok (g i x)) where
   walk_long : (k : ℕ) (x : A) → lo + k ≤ hi → L x → L (iter k (λ (t : ℕ). g (lo + t)) x)
   walk_long zero x h l = l
   walk_long (suc k) x h l = on (lo + k) _ (omega arith) (omega arith) (walk_long k x (omega arith) l)
@@ -120,7 +121,7 @@ module _ {A : Type 0} (f : ℕ → A → Made A) (g : ℕ → A → A) (L F : A 
   walk_back zero x h l e = e
   walk_back (suc k) x h l e = walk_back k x (omega arith) l (back (lo + k) _ (omega arith) (omega arith) (walk_long k x (omega arith) l) e)
 
-  walk_same : (k : ℕ) (x : A) → lo + k ≤ hi → L x → F (iter k (λ (t : ℕ). g (lo + t)) x) → turning k lo f x ≡ done (iter k (λ (t : ℕ). g (lo + t)) x)
+  walk_same : (k : ℕ) (x : A) → lo + k ≤ hi → L x → F (iter k (λ (t : ℕ). g (lo + t)) x) → turning k lo f x ≡ Ok (iter k (λ (t : ℕ). g (lo + t)) x)
   unfolding turning
   walk_same zero x h l e = refl
   walk_same (suc k) x h l e =
@@ -167,11 +168,11 @@ module _ (m n : ℕ) where
         go true f = f
         go false f = (turn_back m n p q _ _ a l.0 h g f.0, turn_back n n p q _ _ v l.1 h g f.1)
 
-    rotate_same : Long x → Fine (rotate_free m n p q x) → rotate m n p q x ≡ done (rotate_free m n p q x)
+    rotate_same : Long x → Fine (rotate_free m n p q x) → rotate m n p q x ≡ Ok (rotate_free m n p q x)
     unfolding rotate_free rotate turned_svd pick
     rotate_same l = go (skipped (dot m a p q) (dot m a p p) (dot m a q q))
       where
-        go : (b : Bool) → Fine (pick b x after) → pick b (done x) (bind (turned_svd m n p q (cosine_of t) (times (cosine_of t) t) x.svd) (λ e. done (passed e false))) ≡ done (pick b x after)
+        go : (b : Bool) → Fine (pick b x after) → pick b (Ok x) (bind (turned_svd m n p q (cosine_of t) (times (cosine_of t) t) x.svd) (λ e. Ok (passed e false))) ≡ Ok (pick b x after)
         go true f = refl
         go false f = rw (stored_yes (turn_stored m n p q (cosine_of t) (times (cosine_of t) t) a) f.0, stored_yes (turn_stored n n p q (cosine_of t) (times (cosine_of t) t) v) f.1)
 
@@ -188,15 +189,15 @@ module _ (m n : ℕ) where
     unfolding row_free iter_from
     row_back l = walk_back (rotate m n p) (rotate_free m n p) Long Fine (p + 1) n (λ q y a b. rotate_long p q (omega arith) b y) (λ q y a b. rotate_back p q (omega arith) b y) (λ q y a b. rotate_same p q (omega arith) b y) (n - (p + 1)) x ends l
 
-    row_same : Long x → Fine (row_free m n p x) → pass_row m n p x ≡ done (row_free m n p x)
+    row_same : Long x → Fine (row_free m n p x) → pass_row m n p x ≡ Ok (row_free m n p x)
     unfolding row_free iter_from pass_row
     row_same l = walk_same (rotate m n p) (rotate_free m n p) Long Fine (p + 1) n (λ q y a b. rotate_long p q (omega arith) b y) (λ q y a b. rotate_back p q (omega arith) b y) (λ q y a b. rotate_same p q (omega arith) b y) (n - (p + 1)) x ends l
 
   -- a whole pass
-  pub pass_same : (e : Svd) (x : Pass) → Long (passed e true) → x ≡ pass_free m n (passed e true) → Fine x → pass m n e ≡ done x
+  pub pass_same : (e : Svd) (x : Pass) → Long (passed e true) → x ≡ pass_free m n (passed e true) → Fine x → pass m n e ≡ Ok x
   unfolding pass_free pass pass_row
   pass_same e x l d f =
       let z : iter n (λ (t : ℕ). row_free m n (0 + t)) (passed e true) ≡ iter n (row_free m n) (passed e true) = iter_same n (λ (t : ℕ). row_free m n (0 + t)) (row_free m n) (passed e true) (λ t u h. rw zero-add) in
       along_pairs n (λ (y : ℕ × ℕ). rotate m n y.0 y.1) (passed e true)
       ∙ walk_same (pass_row m n) (row_free m n) Long Fine 0 n (λ p y a b. row_long p b y) (λ p y a b. row_back p b y) (λ p y a b. row_same p b y) n (passed e true) (omega arith) l (subst Fine (d ∙ sym z) f)
-      ∙ ap done (z ∙ sym d)
+      ∙ ap Ok (z ∙ sym d)

@@ -7,9 +7,8 @@ use mathlib.Core.Bool.{Bool, true, false}
 use mathlib.Core.List.{List}
 use lib.ListN.{length}
 use lib.Ieee.{Float}
-use Rattle.answers.specs.declared.Stage.{Stage}
-use Rattle.answers.specs.declared.Stage.TheVariants.{Whole, Spilt}
-use Rattle.answers.specs.Outcome.{Made, done, bind, staged, stage_of}
+use Rattle.std.specs.Prelude.{Ok, Err}
+use Rattle.answers.specs.Outcome.{Made, bind, staged, stage_of, Stage}
 use Rattle.numbers.specs.Arithmetic.{times}
 use Rattle.lists.specs.Lists.{pick}
 use Rattle.lists.specs.Floats.{at, all_finite, stored}
@@ -28,17 +27,17 @@ use Rattle.pairform.proofs.Wholes as wholes
 
 -- ---- one rotation
 module _ (m n p q : ℕ) (c s : Float) (a v a' v' : List Float) (ea : a' ≡ turn_stored m n p q c s a) (ev : v' ≡ turn_stored n n p q c s v) (r : Stage) (er : r ≡ stage_of (stored a')) where
-  opened : turned_svd m n p q c s (svd a v) ≡ bind (staged r a') (λ x. bind (stored v') (λ y. done (svd x y)))
+  opened : turned_svd m n p q c s (svd a v) ≡ bind (staged r a') (λ x. bind (stored v') (λ y. Ok (svd x y)))
   unfolding turned_svd
   opened = rw (← ea, ← ev, stored_staged a' r er)
 
-  pub turned_stop : (i : ℕ) (z : Svd) → r ≡ Spilt i → turned_svd m n p q c s (svd a v) ≡ staged (Spilt i) z
-  turned_stop i z h = opened ∙ staged_stop r a' (λ x. bind (stored v') (λ y. done (svd x y))) i z h
+  pub turned_stop : (i : ℕ) (z : Svd) → r ≡ Err i → turned_svd m n p q c s (svd a v) ≡ staged (Err i) z
+  turned_stop i z h = opened ∙ staged_stop r a' (λ x. bind (stored v') (λ y. Ok (svd x y))) i z h
 
-  pub turned_end : r ≡ Whole → (t : Stage) → t ≡ stage_of (stored v') → turned_svd m n p q c s (svd a v) ≡ staged t (svd a' v')
+  pub turned_end : r ≡ Ok tt → (t : Stage) → t ≡ stage_of (stored v') → turned_svd m n p q c s (svd a v) ≡ staged t (svd a' v')
   turned_end h t et =
-      opened ∙ staged_on r a' (λ x. bind (stored v') (λ y. done (svd x y))) h
-      ∙ ap (λ (o : Made (List Float)). bind o (λ y. done (svd a' y))) (stored_staged v' t et)
+      opened ∙ staged_on r a' (λ x. bind (stored v') (λ y. Ok (svd x y))) h
+      ∙ ap (λ (o : Made (List Float)). bind o (λ y. Ok (svd a' y))) (stored_staged v' t et)
       ∙ staged_last t v' (λ y. svd a' y)
 
 -- ---- a rotation, unless the pair is skipped
@@ -52,7 +51,7 @@ module _ (m n p q : ℕ) (a v ss : List Float) (quiet : Bool) (es : ss ≡ squar
   test : skipped (dot m a p q) (dot m a p p) (dot m a q q) ≡ b
   test = sym (eb ∙ rw (el, low, high))
 
-  pub rotate_skip : b ≡ true → rotate m n p q (passed (svd a v) quiet) ≡ staged Whole (passed (svd a v) quiet)
+  pub rotate_skip : b ≡ true → rotate m n p q (passed (svd a v) quiet) ≡ staged (Ok tt) (passed (svd a v) quiet)
   unfolding rotate pick staged
   rotate_skip t = rw (test, t)
 
@@ -66,7 +65,7 @@ module _ (m n p q : ℕ) (a v ss : List Float) (quiet : Bool) (es : ss ≡ squar
       rw (test, f, y, ← et, ← ec, d) (staged_last r e (λ z. passed z false))
 
 -- ---- a row of a pass keeps the columns and the basis whole
-row_whole : (m n p : ℕ) (x y : Pass) → wholes.Whole m n x.svd → pass_row m n p x ≡ done y → wholes.Whole m n y.svd
+row_whole : (m n p : ℕ) (x y : Pass) → wholes.Whole m n x.svd → pass_row m n p x ≡ Ok y → wholes.Whole m n y.svd
 unfolding pass_row
 row_whole m n p x y w h =
     turning_keeps (λ (z : Pass). wholes.Whole m n z.svd) (λ (q : ℕ). rotate m n p q) (λ q a b u g. wholes.rotate_whole m n p q a b u g) (n - (p + 1)) (p + 1) x y w h
@@ -82,7 +81,7 @@ held_first m n a v ss long fine ev es = record {
   kept = es;
 }
 
-module _ (m n : ℕ) (a v ss a' v' ss' : List Float) (H : Held m n a v ss) (es : ss' ≡ squares m n a') (r : Stage) (w : r ≡ Whole) where
+module _ (m n : ℕ) (a v ss a' v' ss' : List Float) (H : Held m n a v ss) (es : ss' ≡ squares m n a') (r : Stage) (w : r ≡ Ok tt) where
   still : wholes.Whole m n (svd a v)
   still = record { columns_length = H.long; basis_length = H.wide; columns_finite = H.fine; basis_finite = H.basis_fine }
 
@@ -112,7 +111,7 @@ module _ (T : Made Passes) (m n hi c : ℕ) (b : Bool) (e : Svd) (d : T ≡ pass
     left : hi - c ≡ suc (hi - (c + 1))
     left = omega arith
 
-    pub passes_quiet : b ≡ true → T ≡ staged Whole (made c e)
+    pub passes_quiet : b ≡ true → T ≡ staged (Ok tt) (made c e)
     unfolding passes_from staged
     passes_quiet h = d ∙ rw (left, h)
 
@@ -121,15 +120,15 @@ module _ (T : Made Passes) (m n hi c : ℕ) (b : Bool) (e : Svd) (d : T ≡ pass
       unfolding passes_from
       once = d ∙ rw (left, h, s)
 
-      pub passes_stop : (i : ℕ) (w : Passes) → r ≡ Spilt i → T ≡ staged (Spilt i) w
+      pub passes_stop : (i : ℕ) (w : Passes) → r ≡ Err i → T ≡ staged (Err i) w
       unfolding staged
       passes_stop i w t = once ∙ rw t
 
-      pub passes_more : r ≡ Whole → T ≡ passes_from (hi - (c + 1)) x.quiet m n (c + 1) x.svd
+      pub passes_more : r ≡ Ok tt → T ≡ passes_from (hi - (c + 1)) x.quiet m n (c + 1) x.svd
       unfolding staged
       passes_more t = once ∙ rw (t, add-one)
 
-  pub passes_done : hi ≤ c → T ≡ staged Whole (made c e)
+  pub passes_done : hi ≤ c → T ≡ staged (Ok tt) (made c e)
   unfolding passes_from staged
   passes_done l = let z : hi - c ≡ 0 = omega arith in d ∙ rw z
 

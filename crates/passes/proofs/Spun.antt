@@ -15,7 +15,7 @@ use Rattle.pairform.specs.Columns.{turn_stored, dot, skipped}
 use Rattle.columns.proofs.TwoColumns.{squares_at, squares_length, squared_again, turned_length, turned_squares}
 use Rattle.pairform.specs.Passes.{svd, passed, pass, Passes, orthogonalized}
 use Rattle.passes.specs.Loops.{Held}
-use Rattle.answers.specs.declared.Stage.TheVariants.{Whole}
+use Rattle.std.specs.Prelude.{Ok}
 use Rattle.answers.specs.Outcome.{Made, staged}
 use Rattle.passes.specs.declared.Plan.{Plan}
 use Rattle.passes.specs.Free.{rotate_free, pass_free, Squared, Beside, Planned, PlannedAt, by_plan}
@@ -82,7 +82,7 @@ module _ (m n : ℕ) (a v ss a' v' ss' : List Float) (B : Beside m n a' v' ss') 
   pub now_held : Held m n a' v' ss'
   now_held = record { long = B.squared.long; wide = B.wide; fine = fa; basis_fine = fv; count = B.squared.count; kept = B.squared.kept }
 
-  pub pass_staged : Held m n a v ss → (b : Bool) → passed (svd a' v') b ≡ pass_free m n (passed (svd a v) true) → pass m n (svd a v) ≡ staged Whole (passed (svd a' v') b)
+  pub pass_staged : Held m n a v ss → (b : Bool) → passed (svd a' v') b ≡ pass_free m n (passed (svd a v) true) → pass m n (svd a v) ≡ staged (Ok tt) (passed (svd a' v') b)
   unfolding staged
   pass_staged H b e = pass_same m n (svd a v) (passed (svd a' v') b) (H.long, H.wide) e (fa, fv)
 

@@ -9,11 +9,11 @@ ghost use Rattle.passes.specs.Loops.{pass_row, Held};
 // What a turn came to: whether all numbers stayed finite, and whether no pair has been turned yet.
 #[derive(Clone, Copy)]
 struct Turn {
-    stage: answers::Stage,
+    stage: Result<(), usize>,
     quiet: bool,
 }
 
-fn turn_is(stage: answers::Stage, quiet: bool) -> Turn
+fn turn_is(stage: Result<(), usize>, quiet: bool) -> Turn
     ensures { result ≡ record { stage = stage; quiet = quiet } }
 {
     Turn { stage, quiet }
@@ -30,7 +30,7 @@ fn apply_jacobi_rotation(
     q: usize,
     c: f64,
     s: f64,
-) -> answers::Stage
+) -> Result<(), usize>
     requires { Held m n a.old v.old ss.old × (p < q) × (q < n) }
     ensures { (turned_svd m n p q c s (svd a.old v.old) ≡ staged result (svd a.new v.new))
         × (ss.new ≡ squares m n a.new) }
@@ -39,8 +39,8 @@ fn apply_jacobi_rotation(
     columns::turn(v, n, n, p, q, c, s);
     columns::square_again(a, m, n, p, q, ss);
     let made = columns::stored_squared(a, m, n, p, q, ss);
-    if let answers::Stage::Spilt(i) = made {
-        return answers::Stage::Spilt(i);
+    if let Err(i) = made {
+        return Err(i);
     }
     columns::stored_but(v, n, n, p, q)
 }
@@ -64,7 +64,7 @@ fn rotate(
     let low = ss[p];
     let high = ss[q];
     if columns::skipped(alpha, low, high) {
-        return turn_is(answers::Stage::Whole, quiet);
+        return turn_is(Ok(()), quiet);
     }
     let t = rotation::tangent(rotation::slope(low, high, alpha));
     let c = rotation::cosine(t);
@@ -90,12 +90,12 @@ fn pass_row(
     for q in p + 1..n {
         let made = rotate(a, v, ss, m, n, p, q, quiet);
         let stage = made.stage;
-        if let answers::Stage::Spilt(i) = stage {
-            return turn_is(answers::Stage::Spilt(i), false);
+        if let Err(i) = stage {
+            return turn_is(Err(i), false);
         }
         quiet = made.quiet;
     }
-    turn_is(answers::Stage::Whole, quiet)
+    turn_is(Ok(()), quiet)
 }
 
 // One pass.
@@ -108,12 +108,12 @@ fn pass(a: &mut [f64], v: &mut [f64], ss: &mut [f64], m: usize, n: usize) -> Tur
     for p in 0..n {
         let made = pass_row(a, v, ss, m, n, p, quiet);
         let stage = made.stage;
-        if let answers::Stage::Spilt(i) = stage {
-            return turn_is(answers::Stage::Spilt(i), false);
+        if let Err(i) = stage {
+            return turn_is(Err(i), false);
         }
         quiet = made.quiet;
     }
-    turn_is(answers::Stage::Whole, quiet)
+    turn_is(Ok(()), quiet)
 }
 
 const MOST_PASSES: usize = 100;
@@ -134,15 +134,15 @@ pub fn orthogonalize(
     let mut quiet = false;
     while count < MOST_PASSES {
         if quiet {
-            return crate::counted::passes_are(answers::Stage::Whole, count);
+            return crate::counted::passes_are(Ok(()), count);
         }
         let made = pass(a, v, ss, m, n);
         let stage = made.stage;
-        if let answers::Stage::Spilt(i) = stage {
-            return crate::counted::passes_are(answers::Stage::Spilt(i), count);
+        if let Err(i) = stage {
+            return crate::counted::passes_are(Err(i), count);
         }
         quiet = made.quiet;
         count += 1;
     }
-    crate::counted::passes_are(answers::Stage::Whole, count)
+    crate::counted::passes_are(Ok(()), count)
 }

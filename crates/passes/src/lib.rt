@@ -6,8 +6,7 @@
 pub mod careful;
 pub mod counted;
 
-ghost use Rattle.std.specs.Prelude.{◌≡◌, Bool, true, false, ◌&&◌, ◌+◌, ◌-◌, ◌*◌, ◌≤◌, ◌<◌, length};
-ghost use Rattle.answers.specs.declared.Stage.TheVariants.{Whole};
+ghost use Rattle.std.specs.Prelude.{◌≡◌, Bool, true, false, ◌&&◌, ◌+◌, ◌-◌, ◌*◌, ◌≤◌, ◌<◌, length, Ok};
 ghost use Rattle.answers.specs.Outcome.{staged};
 ghost use Rattle.lists.specs.Lists.{iter};
 ghost use Rattle.lists.specs.Floats.{at, all_finite};
@@ -457,7 +456,7 @@ fn both_finite(v: &[f64], ss: &[f64]) -> bool
 fn quick_passes(a: &mut [f64], v: &mut [f64], ss: &mut [f64], m: usize, n: usize) -> Quick
     requires { Held m n a.old v.old ss.old }
     ensures { result.fine ≡ true → (orthogonalized m n (svd a.old v.old)
-        ≡ staged Whole (made result.count (svd a.new v.new))) × (ss.new ≡ squares m n a.new) }
+        ≡ staged (Ok tt) (made result.count (svd a.new v.new))) × (ss.new ≡ squares m n a.new) }
 {
     let mut count: usize = 0;
     let mut quiet = false;
@@ -493,7 +492,7 @@ pub fn orthogonalize(
     lists::copy(a, b);
     let w = quick_passes(a, v, ss, m, n);
     if w.fine {
-        return counted::passes_are(answers::Stage::Whole, w.count);
+        return counted::passes_are(Ok(()), w.count);
     }
     lists::copy(b, a);
     rotation::eye(v, n);

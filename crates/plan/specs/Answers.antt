@@ -1,6 +1,5 @@
 -- What the calls of a kept run leave, as a plan by value, and when a plan keeps what a fresh run does. Definitions only.
-use Rattle.std.specs.Prelude.{◌≡◌, ℕ, List, Float}
-use Rattle.answers.specs.declared.Verdict.TheVariants.{Fits}
+use Rattle.std.specs.Prelude.{◌≡◌, ℕ, List, Float, Ok}
 use Rattle.lists.specs.Floats.{zeros}
 use Rattle.shape.specs.Limits.{scratch_for}
 use Rattle.stepform.specs.declared.Axis.{Axis}
@@ -52,7 +51,7 @@ SamePlans p q = SameKept p.run q.run (lent p).outputs (lent q).outputs
 
 -- a fresh run is accepted, and leaves a plan that keeps what p keeps
 pub record FreshIs (p : Plan) (fresh : Answer) : Type 0 where
-  pub accepted : fresh.verdict ≡ Fits
+  pub accepted : fresh.verdict ≡ (Ok tt)
   pub kept : SamePlans p fresh.plan
 
 abbrev pub AsFresh : Plan → Type 0

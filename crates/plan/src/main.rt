@@ -38,8 +38,8 @@ fn written(rt: &impl Print, what: &[u8], z: usize) -> Result<()> {
 fn told(rt: &impl Print, before: bool, a: plans::Answer, what: &[u8], z: usize) -> Result<State> {
     let verdict = a.verdict;
     match verdict {
-        answers::Verdict::Fits => written(rt, what, z)?,
-        answers::Verdict::Refused(q) => refused(rt, q)?,
+        Ok(()) => written(rt, what, z)?,
+        Err(q) => refused(rt, q)?,
     }
     let plan = a.plan;
     let run = plan.run;

@@ -18,7 +18,7 @@ pub struct Plan {
 // What a call answered, and the plan after it.
 #[derive(Clone, Copy)]
 pub struct Answer {
-    pub verdict: answers::Verdict,
+    pub verdict: Result<(), answers::Refusal>,
     pub plan: Plan,
 }
 
@@ -183,7 +183,7 @@ pub fn as_fresh(p: Plan) -> bool
 {
     let a = fresh(p);
     let verdict = a.verdict;
-    if let answers::Verdict::Refused(_) = verdict {
+    if let Err(_) = verdict {
         return false;
     }
     let q = a.plan;

@@ -10,8 +10,7 @@ use lib.Ieee.{Float}
 use mir.Syntax.{w64}
 use mir.Val.{Fits}
 use Rattle.numbers.specs.Arithmetic.{zero64, one64}
-use Rattle.answers.specs.declared.Stage.{Stage}
-use Rattle.answers.specs.Outcome.{staged}
+use Rattle.answers.specs.Outcome.{staged, Stage}
 use Rattle.lists.specs.Slots.{offset, slot, put, fit}
 use Rattle.lists.specs.Floats.{stored}
 use Rattle.lists.proofs.Slots.{offset_suc, offset_mono}

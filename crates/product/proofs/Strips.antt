@@ -9,8 +9,7 @@ use lib.Seq.{length-take-le, take_at}
 use lib.Ieee.{Float, nan}
 use mir.Syntax.{w64}
 use mir.Val.{Fits}
-use Rattle.answers.specs.declared.Stage.{Stage}
-use Rattle.answers.specs.Outcome.{stage_of, staged}
+use Rattle.answers.specs.Outcome.{stage_of, staged, Stage}
 use Rattle.numbers.specs.Arithmetic.{plus, times, zero64}
 use Rattle.lists.specs.Lists.{iter, tab}
 use Rattle.lists.specs.Floats.{at, sum_on, sum_rows, stored}

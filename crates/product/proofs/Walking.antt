@@ -11,10 +11,8 @@ use lib.Seq.{get_or-take}
 use lib.Ieee.{Float, nan}
 use Rattle.answers.specs.declared.Part.TheVariants.{Sum}
 use Rattle.answers.specs.declared.Refusal.TheVariants.{Stored}
-use Rattle.answers.specs.declared.Stage.{Stage}
-use Rattle.answers.specs.declared.Stage.TheVariants.{Whole, Spilt}
-use Rattle.answers.specs.declared.Verdict.TheVariants.{Fits, Refused}
-use Rattle.answers.specs.Outcome.{Answer, done, refused, bind, making, staged}
+use Rattle.std.specs.Prelude.{Ok, Err}
+use Rattle.answers.specs.Outcome.{Answer, bind, making, staged, Stage}
 use Rattle.answers.proofs.Outcomes.{bind_assoc}
 use Rattle.numbers.specs.Arithmetic.{zero64, one64}
 use Rattle.lists.specs.Lists.{listed}
@@ -34,10 +32,10 @@ use Rattle.sumform.specs.Call.{weighed, figure_by}
 -- what is left of the walk, from axis k of d on and the sums eta
 module _ (p : ℕ → Core × List Float) (d : ℕ) where
   abbrev pub Left : ℕ → List Float → Answer Float
-  Left k eta = bind (walk sum_axis k eta (listed (d - k) k p)) (λ tr. done (at (state_at eta tr (length tr)) 0))
+  Left k eta = bind (walk sum_axis k eta (listed (d - k) k p)) (λ tr. Ok (at (state_at eta tr (length tr)) 0))
 
   module _ (T : Answer Float) (k : ℕ) (eta : List Float) (e : T ≡ Left k eta) where
-    pub left_done : d ≤ k → T ≡ done (at eta 0)
+    pub left_done : d ≤ k → T ≡ Ok (at eta 0)
     unfolding walk listed
     left_done l = let z : d - k ≡ 0 = omega arith in e ∙ rw z
 
@@ -48,16 +46,16 @@ module _ (p : ℕ → Core × List Float) (d : ℕ) where
           let z : d - k ≡ suc (d - (k + 1)) = omega arith in
           e ∙ rw (z, s, add-one) (go (making Sum k (staged r out)))
         where
-          go : (o : Answer (List Float)) → bind (bind (bind o (λ x. done (x, tt))) (λ q. bind (walk sum_axis (suc k) q.0 (listed (d - suc k) (suc k) p)) (λ qs. done (q ∷ qs)))) (λ tr. done (at (state_at eta tr (length tr)) 0))
-              ≡ bind o (λ x. bind (walk sum_axis (suc k) x (listed (d - suc k) (suc k) p)) (λ tr. done (at (state_at x tr (length tr)) 0)))
-          go (done x) = bind_assoc (walk sum_axis (suc k) x (listed (d - suc k) (suc k) p)) (λ qs. done ((x, tt) ∷ qs)) (λ tr. done (at (state_at eta tr (length tr)) 0))
-          go (refused q) = refl
+          go : (o : Answer (List Float)) → bind (bind (bind o (λ x. Ok (x, tt))) (λ q. bind (walk sum_axis (suc k) q.0 (listed (d - suc k) (suc k) p)) (λ qs. Ok (q ∷ qs)))) (λ tr. Ok (at (state_at eta tr (length tr)) 0))
+              ≡ bind o (λ x. bind (walk sum_axis (suc k) x (listed (d - suc k) (suc k) p)) (λ tr. Ok (at (state_at x tr (length tr)) 0)))
+          go (Ok x) = bind_assoc (walk sum_axis (suc k) x (listed (d - suc k) (suc k) p)) (λ qs. Ok ((x, tt) ∷ qs)) (λ tr. Ok (at (state_at eta tr (length tr)) 0))
+          go (Err q) = refl
 
-      pub left_more : r ≡ Whole → T ≡ Left (k + 1) out
+      pub left_more : r ≡ Ok tt → T ≡ Left (k + 1) out
       unfolding staged
       left_more h = opened ∙ rw h
 
-      pub left_stop : (i : ℕ) → r ≡ Spilt i → T ≡ refused (Stored Sum k i)
+      pub left_stop : (i : ℕ) → r ≡ Err i → T ≡ Err (Stored Sum k i)
       unfolding staged
       left_stop i h = opened ∙ rw h
 
@@ -76,7 +74,7 @@ pub record AtAxis (s : Shape) (chain weights eta : List Float) (rank start point
   pub room : length eta ≡ most_rank
   pub rest : inner (weighed s chain weights) ≡ Left (pair_at s chain weights) s.d k (take rank eta)
 
-module _ (s : Shape) (chain weights : List Float) (ok : chain_ok s ≡ done tt) where
+module _ (s : Shape) (chain weights : List Float) (ok : chain_ok s ≡ Ok tt) where
   abbrev shp : Shaped s
   shp = shaped s (λ (k : ℕ). true) ok
 
@@ -146,7 +144,7 @@ module _ (s : Shape) (chain weights : List Float) (ok : chain_ok s ≡ done tt) 
       made : stored (contract (core_at s chain k) (points_at s weights k) (take rank eta)) ≡ staged r (take (right_of s k) after)
       made = ap (λ (x : List Float). stored (contract (core_at s chain k) x (take rank eta))) (sym points_is) ∙ ap (λ (c : Core). stored (contract c f (take rank eta))) (sym whole_core) ∙ e
 
-      pub at_next : r ≡ Whole → AtAxis s chain weights after (right_of s k) (start + size) (point + points_of s k) (k + 1)
+      pub at_next : r ≡ Ok tt → AtAxis s chain weights after (right_of s k) (start + size) (point + points_of s k) (k + 1)
       unfolding offset point_size
       at_next h =
           let right = shp.sizes.right k l in
@@ -161,10 +159,10 @@ module _ (s : Shape) (chain weights : List Float) (ok : chain_ok s ≡ done tt) 
             rest = left_more (pair_at s chain weights) s.d (inner (weighed s chain weights)) k (take rank eta) A.rest l r (take (right_of s k) after) made h;
           }
 
-      pub axis_stops : (i : ℕ) → r ≡ Spilt i → record { verdict = Refused (Stored Sum k i); value = zero64 } ≡ figure_by (inner (weighed s chain weights))
+      pub axis_stops : (i : ℕ) → r ≡ Err i → record { verdict = Err (Stored Sum k i); value = zero64 } ≡ figure_by (inner (weighed s chain weights))
       axis_stops i h = sym (ap figure_by (left_stop (pair_at s chain weights) s.d (inner (weighed s chain weights)) k (take rank eta) A.rest l r (take (right_of s k) after) made i h))
 
-  pub at_end : (eta : List Float) (rank start point k : ℕ) → AtAxis s chain weights eta rank start point k → s.d ≤ k → record { verdict = Fits; value = at eta 0 } ≡ figure_by (inner (weighed s chain weights))
+  pub at_end : (eta : List Float) (rank start point k : ℕ) → AtAxis s chain weights eta rank start point k → s.d ≤ k → record { verdict = Ok tt; value = at eta 0 } ≡ figure_by (inner (weighed s chain weights))
   at_end eta rank start point k A l =
-      ap (λ (x : Float). record { verdict = Fits; value = x }) (sym (get_or-take rank eta 0 nan A.some))
+      ap (λ (x : Float). record { verdict = Ok tt; value = x }) (sym (get_or-take rank eta 0 nan A.some))
       ∙ sym (ap figure_by (left_done (pair_at s chain weights) s.d (inner (weighed s chain weights)) k (take rank eta) A.rest l))

@@ -80,7 +80,7 @@ pub fn contract_step(core: &[f64], rr: usize, f: &[f64], eta: &[f64], out: &mut 
 }
 
 // One axis: the sums in the first rl places of eta become the new sums in its first rr, if these are all finite.
-pub fn sum_axis(core: &[f64], rl: usize, rr: usize, f: &[f64], eta: &mut [f64]) -> answers::Stage
+pub fn sum_axis(core: &[f64], rl: usize, rr: usize, f: &[f64], eta: &mut [f64]) -> Result<(), usize>
     requires { (rl * (length f.now * rr) ≤ length core.now) × (rl ≤ length eta.old) × (rr ≤ length eta.old) × (rr ≤ most_rank) × (1 ≤ rl)
         × (1 ≤ length f.now) }
     ensures { stored (contract (core_with rl (length f.now) rr core.now) f.now (take rl eta.old))

@@ -5,9 +5,7 @@ pub mod contraction;
 pub mod start;
 pub mod sums;
 
-ghost use Rattle.std.specs.Prelude.{◌≡◌, ◌≤◌, length};
-ghost use Rattle.answers.specs.Outcome.{done, verdict_of};
-ghost use Rattle.answers.specs.declared.Verdict.TheVariants.{Fits, Refused};
+ghost use Rattle.std.specs.Prelude.{◌≡◌, ◌≤◌, length, Ok, Err};
 ghost use Rattle.numbers.specs.Arithmetic.{zero64};
 ghost use Rattle.shape.specs.Shapes.{chain_ok, entries_of, all_points};
 ghost use Rattle.shape.specs.Sizes.{SizesWithin};
@@ -17,72 +15,72 @@ ghost use Rattle.sumform.specs.Product.{inner};
 use sumform::Figure;
 
 // The lengths that an inner product asks for: refusal 5.
-fn inner_lent(s: shape::Shape, chain: usize, weights: usize) -> answers::Verdict
+fn inner_lent(s: shape::Shape, chain: usize, weights: usize) -> Result<(), answers::Refusal>
     requires { SizesWithin s }
-    ensures { result ≡ verdict_of (inner_lent s chain weights) }
+    ensures { result ≡ inner_lent s chain weights }
 {
     if chain != s.entries() {
-        return answers::Verdict::Refused(answers::Refusal::Length(0));
+        return Err(answers::Refusal::Length(0));
     }
     if weights != s.points() {
-        return answers::Verdict::Refused(answers::Refusal::Length(1));
+        return Err(answers::Refusal::Length(1));
     }
-    answers::Verdict::Fits
+    Ok(())
 }
 
 // The first core or axis with a number that isn't finite: refusal 6.
-fn inner_finite(s: shape::Shape, chain: &[f64], weights: &[f64]) -> answers::Verdict
+fn inner_finite(s: shape::Shape, chain: &[f64], weights: &[f64]) -> Result<(), answers::Refusal>
     requires sizes_within { SizesWithin s }
     requires s_in_bounds { (entries_of s ≤ length chain.now) × (all_points s ≤ length weights.now) }
-    ensures { result ≡ verdict_of (inner_finite s chain.now weights.now) }
+    ensures { result ≡ inner_finite s chain.now weights.now }
 {
     let d = s.d;
     let core = s.first_not_finite_core(chain);
     let axis = s.first_not_finite_axis(weights);
     if core <= axis {
         if core < d {
-            return answers::Verdict::Refused(answers::Refusal::Number(core));
+            return Err(answers::Refusal::Number(core));
         }
-        return answers::Verdict::Fits;
+        return Ok(());
     }
-    answers::Verdict::Refused(answers::Refusal::Number(axis))
+    Err(answers::Refusal::Number(axis))
 }
 
-fn inner_ok(s: shape::Shape, chain: &[f64], weights: &[f64]) -> answers::Verdict
-    ensures { result ≡ verdict_of (inner_ok s chain.now weights.now) }
+fn inner_ok(s: shape::Shape, chain: &[f64], weights: &[f64]) -> Result<(), answers::Refusal>
+    ensures { result ≡ inner_ok s chain.now weights.now }
 {
     let shaped = s.check();
-    if let answers::Verdict::Refused(r) = shaped {
-        return answers::Verdict::Refused(r);
+    if let Err(r) = shaped {
+        return Err(r);
     }
     let lent = inner_lent(s, chain.len(), weights.len());
-    if let answers::Verdict::Refused(r) = lent {
-        return answers::Verdict::Refused(r);
+    if let Err(r) = lent {
+        return Err(r);
     }
     inner_finite(s, chain, weights)
 }
 
 fn refused_figure(r: answers::Refusal) -> Figure
-    ensures { result ≡ record { verdict = Refused r; value = zero64 } }
+    ensures { result ≡ record { verdict = Err r; value = zero64 } }
 {
     Figure {
-        verdict: answers::Verdict::Refused(r),
+        verdict: Err(r),
         value: 0.0,
     }
 }
 
 fn figure_of(x: f64) -> Figure
-    ensures { result ≡ record { verdict = Fits; value = x } }
+    ensures { result ≡ record { verdict = Ok tt; value = x } }
 {
     Figure {
-        verdict: answers::Verdict::Fits,
+        verdict: Ok(()),
         value: x,
     }
 }
 
 // Axis after axis, from sums that start as 1.
 fn inner_sums(s: shape::Shape, chain: &[f64], weights: &[f64]) -> Figure
-    requires s_value { chain_ok s ≡ done tt }
+    requires s_value { chain_ok s ≡ Ok tt }
     requires s_in_bounds { (entries_of s ≤ length chain.now) × (all_points s ≤ length weights.now) }
     ensures { result ≡ figure_by (inner (weighed s chain.now weights.now)) }
 {
@@ -102,7 +100,7 @@ fn inner_sums(s: shape::Shape, chain: &[f64], weights: &[f64]) -> Figure
             &weights[points..last],
             &mut eta,
         );
-        if let answers::Stage::Spilt(i) = stage {
+        if let Err(i) = stage {
             return refused_figure(answers::stored_at(answers::Part::Sum, k, i));
         }
         rank = rr;
@@ -118,7 +116,7 @@ pub fn inner_separable(s: shape::Shape, chain: &[f64], weights: &[f64]) -> Figur
     ensures { result ≡ inner_call s chain.now weights.now }
 {
     let ok = inner_ok(s, chain, weights);
-    if let answers::Verdict::Refused(r) = ok {
+    if let Err(r) = ok {
         return refused_figure(r);
     }
     inner_sums(s, chain, weights)

@@ -1,7 +1,5 @@
 // The separable start: a chain of rank one out of vectors.
-ghost use Rattle.std.specs.Prelude.{◌≡◌, ◌≤◌, length};
-ghost use Rattle.answers.specs.Outcome.{verdict_of};
-ghost use Rattle.answers.specs.declared.Verdict.TheVariants.{Fits, Refused};
+ghost use Rattle.std.specs.Prelude.{◌≡◌, ◌≤◌, length, Ok, Err};
 ghost use Rattle.shape.specs.Shapes.{all_points};
 ghost use Rattle.shape.specs.Sizes.{PointsWithin};
 ghost use Rattle.sumform.specs.Start.{start_sized, start_lent, start_finite, start_ok, rank_one, start_call};
@@ -9,77 +7,77 @@ ghost use Rattle.sumform.specs.Start.{start_sized, start_lent, start_finite, sta
 use sumform::Started;
 
 // d and the sizes: refusals 1 and 2.
-fn start_sized(s: shape::Shape) -> answers::Verdict
-    ensures { result ≡ verdict_of (start_sized s) }
+fn start_sized(s: shape::Shape) -> Result<(), answers::Refusal>
+    ensures { result ≡ start_sized s }
 {
     let d = s.d;
     if !shape::within(shape::MOST_AXES, d) {
-        return answers::Verdict::Refused(answers::Refusal::Axes);
+        return Err(answers::Refusal::Axes);
     }
     let axis = s.first_bad_points();
     if axis < d {
-        return answers::Verdict::Refused(answers::Refusal::Size(axis));
+        return Err(answers::Refusal::Size(axis));
     }
-    answers::Verdict::Fits
+    Ok(())
 }
 
 // The lengths that a start asks for: refusal 5.
-fn start_lent(s: shape::Shape, vectors: usize, chain: usize) -> answers::Verdict
+fn start_lent(s: shape::Shape, vectors: usize, chain: usize) -> Result<(), answers::Refusal>
     requires { PointsWithin s }
-    ensures { result ≡ verdict_of (start_lent s vectors chain) }
+    ensures { result ≡ start_lent s vectors chain }
 {
     let points = s.points();
     if vectors != points {
-        return answers::Verdict::Refused(answers::Refusal::Length(0));
+        return Err(answers::Refusal::Length(0));
     }
     if chain != points {
-        return answers::Verdict::Refused(answers::Refusal::Length(1));
+        return Err(answers::Refusal::Length(1));
     }
-    answers::Verdict::Fits
+    Ok(())
 }
 
 // The first vector with a number that isn't finite: refusal 6.
-fn start_finite(s: shape::Shape, vectors: &[f64]) -> answers::Verdict
+fn start_finite(s: shape::Shape, vectors: &[f64]) -> Result<(), answers::Refusal>
     requires points_within { PointsWithin s }
     requires s_in_bounds { all_points s ≤ length vectors.now }
-    ensures { result ≡ verdict_of (start_finite s vectors.now) }
+    ensures { result ≡ start_finite s vectors.now }
 {
     let d = s.d;
     let axis = s.first_not_finite_axis(vectors);
     if axis < d {
-        return answers::Verdict::Refused(answers::Refusal::Number(axis));
+        return Err(answers::Refusal::Number(axis));
     }
-    answers::Verdict::Fits
+    Ok(())
 }
 
-fn start_ok(s: shape::Shape, vectors: &[f64], chain: usize) -> answers::Verdict
-    ensures { result ≡ verdict_of (start_ok s vectors.now chain) }
+fn start_ok(s: shape::Shape, vectors: &[f64], chain: usize) -> Result<(), answers::Refusal>
+    ensures { result ≡ start_ok s vectors.now chain }
 {
     let sized = start_sized(s);
-    if let answers::Verdict::Refused(r) = sized {
-        return answers::Verdict::Refused(r);
+    if let Err(r) = sized {
+        return Err(r);
     }
     let lent = start_lent(s, vectors.len(), chain);
-    if let answers::Verdict::Refused(r) = lent {
-        return answers::Verdict::Refused(r);
+    if let Err(r) = lent {
+        return Err(r);
     }
     start_finite(s, vectors)
 }
 
 fn refused_start(r: answers::Refusal, s: shape::Shape) -> Started
-    ensures { result ≡ record { verdict = Refused r; shape = s } }
+    ensures { result ≡ record { verdict = Err r; shape = s } }
 {
     Started {
-        verdict: answers::Verdict::Refused(r),
+        verdict: Err(r),
         shape: s,
     }
 }
 
 fn start_of(s: shape::Shape) -> Started
-    ensures { result ≡ record { verdict = Fits; shape = rank_one s } }
+    ensures { result ≡ record { verdict = Ok tt; shape = rank_one s } }
 {
     Started {
-        verdict: answers::Verdict::Fits,
+        verdict: Ok(()),
         shape: s.rank_one(),
     }
 }
@@ -90,7 +88,7 @@ pub fn rank1_separable(s: shape::Shape, vectors: &[f64], chain: &mut [f64]) -> S
         × (chain.new ≡ (start_call s vectors.now chain.old).chain) }
 {
     let ok = start_ok(s, vectors, chain.len());
-    if let answers::Verdict::Refused(r) = ok {
+    if let Err(r) = ok {
         return refused_start(r, s);
     }
     lists::copy(vectors, chain);

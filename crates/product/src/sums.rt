@@ -49,7 +49,7 @@ fn axis_sums(
     work: &[f64],
     weights: &[f64],
     eta: &mut [f64],
-) -> answers::Stage
+) -> Result<(), usize>
     requires { (k < s.d) × (most_rank ≤ length eta.old) × SumsStand s t work.now weights.now }
     ensures { stored (contract (standing s t work.now k) (points_at s weights.now k) (take (left_of t k) eta.old))
         ≡ staged result (take (right_of t k) eta.new) }
@@ -86,7 +86,7 @@ fn sum_zone(
     work: &[f64],
     weights: &[f64],
     sums: &mut [f64],
-) -> answers::Verdict
+) -> Result<(), answers::Refusal>
     requires { (k < s.d) × (offset (sum_size s) s.d ≤ length sums.old) × SumsStand s t work.now weights.now }
     ensures { sum_turn s t work.now weights.now k sums.old ≡ answered result sums.new }
 {
@@ -94,11 +94,11 @@ fn sum_zone(
     left_sums(k, s, t.left[k], sums, &mut eta);
     let stage = axis_sums(k, s, t, work, weights, &mut eta);
     let made = answers::stored_in(stage, answers::Part::Sum, k);
-    if let answers::Verdict::Refused(r) = made {
-        return answers::Verdict::Refused(r);
+    if let Err(r) = made {
+        return Err(r);
     }
     keep_sums(&eta, t.right[k], k, s, sums);
-    answers::Verdict::Fits
+    Ok(())
 }
 
 // The axes from z on, from the sums that are held left of z.
@@ -109,17 +109,17 @@ pub fn sum_from(
     work: &[f64],
     weights: &[f64],
     sums: &mut [f64],
-) -> answers::Verdict
+) -> Result<(), answers::Refusal>
     requires { (z ≤ s.d) × (offset (sum_size s) s.d ≤ length sums.old) × SumsStand s t work.now weights.now }
     ensures { sums_from s t work.now weights.now z sums.old ≡ answered result sums.new }
 {
     let mut k = z;
     while k < s.d {
         let done = sum_zone(k, s, t, work, weights, sums);
-        if let answers::Verdict::Refused(r) = done {
-            return answers::Verdict::Refused(r);
+        if let Err(r) = done {
+            return Err(r);
         }
         k += 1;
     }
-    answers::Verdict::Fits
+    Ok(())
 }

@@ -1,8 +1,7 @@
 -- What a call answers as C has it, field by field. Definitions only.
-use Rattle.std.specs.Prelude.{true, false, map}
+use Rattle.std.specs.Prelude.{true, false, map, Float, Option, Some, None, Ok, Err}
 use Rattle.numbers.specs.Arithmetic.{zero64}
-use Rattle.answers.specs.declared.Verdict.{Verdict}
-use Rattle.answers.specs.declared.Verdict.TheVariants.{Fits, Refused}
+use Rattle.answers.specs.Outcome.{Check}
 use Rattle.answers.specs.Table.{number_of, place_of, index_of}
 use Rattle.shape.specs.declared.Shape.{Shape}
 use Rattle.cutform.specs.declared.Bond.{Bond}
@@ -11,8 +10,6 @@ use Rattle.sumform.specs.declared.Figure.{Figure}
 use Rattle.sumform.specs.declared.Started.{Started}
 use Rattle.pairform.specs.declared.Paired.{Paired}
 use Rattle.fileform.specs.declared.Read.{Read}
-use Rattle.view.specs.declared.Seen.{Seen}
-use Rattle.view.specs.declared.Seen.TheVariants.{Number, Outside}
 use Rattle.records.specs.declared.given.CShape.{CShape}
 use Rattle.records.specs.declared.told.CRefusal.{CRefusal}
 use Rattle.records.specs.declared.told.CBond.{CBond}
@@ -23,9 +20,9 @@ use Rattle.records.specs.declared.told.CPaired.{CPaired}
 use Rattle.records.specs.declared.told.CSeen.{CSeen}
 
 -- number, place and index of the table; number 0 is no refusal
-abbrev pub refusal_of : Verdict → CRefusal
-refusal_of Fits = record { number = 0; place = 0; index = 0 }
-refusal_of (Refused q) = record { number = number_of q; place = place_of q; index = index_of q }
+abbrev pub refusal_of : Check → CRefusal
+refusal_of (Ok _) = record { number = 0; place = 0; index = 0 }
+refusal_of (Err q) = record { number = number_of q; place = place_of q; index = index_of q }
 
 abbrev pub shape_out : Shape → CShape
 shape_out s = record { d = s.d; left = s.left; n = s.n; right = s.right }
@@ -49,6 +46,6 @@ abbrev pub paired_out : Paired → CPaired
 paired_out w = record { refusal = refusal_of w.verdict; rank = w.rank; passes = w.passes }
 
 -- +0 outside
-abbrev pub seen_out : Seen → CSeen
-seen_out (Number x) = record { inside = true; value = x }
-seen_out Outside = record { inside = false; value = zero64 }
+abbrev pub seen_out : Option Float → CSeen
+seen_out (Some x) = record { inside = true; value = x }
+seen_out None = record { inside = false; value = zero64 }

@@ -1,6 +1,5 @@
 // What a call answers.
-ghost use Rattle.std.specs.Prelude.{◌≡◌, map};
-ghost use Rattle.answers.specs.declared.Verdict.TheVariants.{Refused};
+ghost use Rattle.std.specs.Prelude.{◌≡◌, map, Err};
 ghost use Rattle.records.specs.Told.{refusal_of, shape_out, bond_out, rounded_out, figure_out, started_out, paired_out, read_out, seen_out};
 
 use crate::given;
@@ -67,7 +66,7 @@ pub struct CSeen {
 }
 
 fn refused_as(q: answers::Refusal) -> CRefusal
-    ensures { result ≡ refusal_of (Refused q) }
+    ensures { result ≡ refusal_of (Err q) }
 {
     CRefusal {
         number: answers::number(q),
@@ -76,10 +75,10 @@ fn refused_as(q: answers::Refusal) -> CRefusal
     }
 }
 
-pub fn refusal_of(v: answers::Verdict) -> CRefusal
+pub fn refusal_of(v: Result<(), answers::Refusal>) -> CRefusal
     ensures { result ≡ refusal_of v }
 {
-    if let answers::Verdict::Refused(q) = v {
+    if let Err(q) = v {
         return refused_as(q);
     }
     CRefusal {
@@ -193,10 +192,10 @@ pub fn paired_out(w: pairform::Paired) -> CPaired
     }
 }
 
-pub fn seen_out(w: view::Seen) -> CSeen
+pub fn seen_out(w: Option<f64>) -> CSeen
     ensures { result ≡ seen_out w }
 {
-    if let view::Seen::Number(x) = w {
+    if let Some(x) = w {
         return CSeen {
             inside: true,
             value: x,

@@ -98,13 +98,13 @@ pub fn shape(input: Stdin) -> shape::Shape {
 
 // ---- what a call answered and left
 // Whether a call answered what a case says: thrice 0 where it is accepted, else number, place and index.
-pub fn verdict(input: Stdin, v: answers::Verdict) -> bool {
+pub fn verdict(input: Stdin, v: Result<(), answers::Refusal>) -> bool {
     let number = word(input);
     let place = word(input);
     let index = word(input);
     match v {
-        answers::Verdict::Fits => (number == 0) & (place == 0) & (index == 0),
-        answers::Verdict::Refused(r) => (number == answers::number(r) as usize)
+        Ok(()) => (number == 0) & (place == 0) & (index == 0),
+        Err(r) => (number == answers::number(r) as usize)
             & (place == answers::place(r))
             & (index == answers::index(r)),
     }

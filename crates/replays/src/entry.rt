@@ -2,11 +2,11 @@
 use std::io::Stdin;
 
 // Whether what was seen is what follows: 1 and the number, or 0 and 0 where there is none.
-fn is_seen(input: Stdin, v: view::Seen) -> bool {
+fn is_seen(input: Stdin, v: Option<f64>) -> bool {
     let there = crate::cases::word(input) == 1;
     match v {
-        view::Seen::Number(x) => there & crate::cases::is_next(input, x),
-        view::Seen::Outside => !there & crate::cases::is_next(input, 0.0),
+        Some(x) => there & crate::cases::is_next(input, x),
+        None => !there & crate::cases::is_next(input, 0.0),
     }
 }
 

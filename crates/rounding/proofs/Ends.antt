@@ -12,12 +12,11 @@ use lib.Ieee.{Float}
 use Rattle.numbers.specs.Arithmetic.{zero64}
 use Rattle.answers.specs.declared.Refusal.{Refusal}
 use Rattle.answers.specs.declared.Refusal.TheVariants.{Length, Number, Setting}
-use Rattle.answers.specs.declared.Verdict.{Verdict}
-use Rattle.answers.specs.declared.Verdict.TheVariants.{Fits, Refused}
-use Rattle.answers.specs.Outcome.{Answer, Check, done, refused, bind, answered, ◌then◌, verdict_of}
+use Rattle.std.specs.Prelude.{Ok, Err}
+use Rattle.answers.specs.Outcome.{Answer, Check, bind, answered, ◌then◌}
 use Rattle.answers.proofs.Checks.{verdict_passed, verdict_refused, then_is}
 use Rattle.answers.proofs.Late.{Early, early_demand, early_then, early_each}
-use Rattle.answers.proofs.Outcomes.{bind_done, done_inj, done_refused, refused_inj}
+use Rattle.answers.proofs.Outcomes.{bind_ok, ok_inj, ok_err, err_inj}
 use Rattle.lists.specs.Lists.{listed, tab, flat, pick, joined}
 use Rattle.lists.specs.Slots.{offset, slot, fit, laid, write}
 use Rattle.lists.specs.Walks.{walk}
@@ -83,22 +82,22 @@ module _ (cutting : Cutting) (s : Shape) where
   abbrev Left : ℕ → Carry × Cut → Type 0
   Left k r = (length r.1.core.entries ≡ volume r.1.core) × (r.1.core.n ≡ points_of s k) × (length r.1.bonds ≡ bond_size s k)
 
-  counted : (more : Bool) (k : ℕ) (c : Core) (r : Carry × Cut) → cut_if more k cutting c ≡ done r → length r.1.bonds ≡ cond {A = ℕ} more 1 0
-  counted false k c r h = ap (λ (x : Carry × Cut). length x.1.bonds) (sym (done_inj h))
+  counted : (more : Bool) (k : ℕ) (c : Core) (r : Carry × Cut) → cut_if more k cutting c ≡ Ok r → length r.1.bonds ≡ cond {A = ℕ} more 1 0
+  counted false k c r h = ap (λ (x : Carry × Cut). length x.1.bonds) (sym (ok_inj h))
   counted true k c r h =
-      let A = bind_done (cut_bond k cutting c) (λ b. done (some b.bond.rank b.carry, record { core = b.core; bonds = b.bond ∷ [] })) r h in
-      ap (λ (x : Carry × Cut). length x.1.bonds) (sym (done_inj A.2))
+      let A = bind_ok (cut_bond k cutting c) (λ b. Ok (some b.bond.rank b.carry, record { core = b.core; bonds = b.bond ∷ [] })) r h in
+      ap (λ (x : Carry × Cut). length x.1.bonds) (sym (ok_inj A.2))
 
-  one_left : (k : ℕ) (y : Carry) (c : Core) (r : Carry × Cut) → Fine k c → round_core cutting (ltb (suc k) s.d) k y c ≡ done r → Left k r
+  one_left : (k : ℕ) (y : Carry) (c : Core) (r : Carry × Cut) → Fine k c → round_core cutting (ltb (suc k) s.d) k y c ≡ Ok r → Left k r
   unfolding round_core bond_size
   one_left k y c r f h =
       let C = round_of cutting k y c r (ltb (suc k) s.d) f.0 h in
-      let A = bind_done (taken_in k y c) (λ t. cut_if (ltb (suc k) s.d) k cutting t) r h in
+      let A = bind_ok (taken_in k y c) (λ t. cut_if (ltb (suc k) s.d) k cutting t) r h in
       (C.long, C.points ∙ f.1, counted (ltb (suc k) s.d) k A.0 r A.2)
 
   -- the source's cores are as long as their sizes say
   module _ (h : Stepped) (long : entries_of s ≤ length h.chain) (tr : List (Carry × Cut))
-      (e : walk (λ (k : ℕ). round_core cutting (ltb (suc k) s.d) k) 0 (carry_left s s h 0) (listed (s.d - 0) 0 (standing s s h.chain)) ≡ done tr) where
+      (e : walk (λ (k : ℕ). round_core cutting (ltb (suc k) s.d) k) 0 (carry_left s s h 0) (listed (s.d - 0) 0 (standing s s h.chain)) ≡ Ok tr) where
     sources : All Fine 0 (listed (s.d - 0) 0 (standing s s h.chain))
     unfolding standing core_size
     sources = listed_all Fine (s.d - 0) 0 (standing s s h.chain) (λ j a b.
@@ -173,9 +172,9 @@ module _ (cutting : Cutting) (s : Shape) where
           ap (λ (x : Core). x.rl * x.n * x.rr) c ∙ sym (left_at k lt).0
 
       -- what a walk that went through leaves is the call's end
-      pub ended_fits : (l w : List Float) → s.d ≤ most_axes → (x : Walked) (work carries : List Float) → h.bonds ≡ replicate most_axes no_bond → x.verdict ≡ Fits
+      pub ended_fits : (l w : List Float) → s.d ≤ most_axes → (x : Walked) (work carries : List Float) → h.bonds ≡ replicate most_axes no_bond → x.verdict ≡ Ok tt
           → reshaped 0 s (cores_in tr) ≡ x.shape → keep_step s 0 tr h ≡ held_by x work carries → Inside s x.shape → length work ≡ length w
-          → ended_by s l w (done tr) ≡ finished s x l work
+          → ended_by s l w (Ok tr) ≡ finished s x l work
       unfolding ended_as keep_step scratch_after
       ended_fits l w m x work carries hb v g k I n =
           let a : x.bonds ≡ fit no_bond most_axes (bonds_in tr) =
@@ -184,7 +183,7 @@ module _ (cutting : Cutting) (s : Shape) where
           let c : fit zero64 (length l) (joined s.d (λ (j : ℕ). take (core_size x.shape j) (slot (core_size s) j work))) ≡ chain_after l (cores_in tr) =
           packed_is s x.shape work l none_left.1.core (cores_in tr) (length-map tr (λ (r : Carry × Cut). r.1.core) ∙ tr_length) (λ j lt. stands j lt) in
           rw v (rw (a, ← g, n)
-          (ap (λ (y : List Float). record { result = record { verdict = Fits; shape = reshaped 0 s (cores_in tr); bonds = fit no_bond most_axes (bonds_in tr) }; chain = y; scratch = zeros (length w) })
+          (ap (λ (y : List Float). record { result = record { verdict = Ok tt; shape = reshaped 0 s (cores_in tr); bonds = fit no_bond most_axes (bonds_in tr) }; chain = y; scratch = zeros (length w) })
           (sym c ∙ ap (λ (t : Shape). fit zero64 (length l) (joined s.d (λ (j : ℕ). take (core_size t j) (slot (core_size s) j work)))) (sym g))))
         where
           stands : (j : ℕ) → j < s.d → (get_or (cores_in tr) j none_left.1.core).entries ≡ take (core_size x.shape j) (slot (core_size s) j work)
@@ -209,7 +208,7 @@ places_there l d o h = let g : d - 1 < length l = go l (d - 1) h in omega arith
 module _ (cutting : Cutting) (s : Shape) (l w start : List Float) (long : length l ≡ entries_of s) (same : take (length l) start ≡ l) (wide : entries_of s ≤ length start) (shp : Shaped s)
     (u : Walked) (i : u ≡ unrounded s) (held : List Float) (x : Walked) (work carries : List Float)
     (e : round_from cutting s 0 u.shape (held_by u start held) ≡ answered x.verdict (x.shape, held_by x work carries))
-    (I : x.verdict ≡ Fits → Inside s x.shape) (n : length work ≡ length w) where
+    (I : x.verdict ≡ Ok tt → Inside s x.shape) (n : length work ≡ length w) where
   abbrev h : Stepped
   h = held_by (unrounded s) start held
 
@@ -225,19 +224,19 @@ module _ (cutting : Cutting) (s : Shape) (l w start : List Float) (long : length
   abbrev whole : Answer (List (Carry × Cut))
   whole = walk (λ (k : ℕ). round_core cutting (ltb (suc k) s.d) k) 0 (carry_left s s h 0) (listed (s.d - 0) 0 (standing s s start))
 
-  by_outcome : (o : Answer (List (Carry × Cut))) → whole ≡ o → (v : Verdict) → x.verdict ≡ v
-      → bind {B = Shape × Stepped} o (λ tr. done (reshaped 0 s (cores_in tr), keep_step s 0 tr h)) ≡ answered v (x.shape, held_by x work carries)
+  by_outcome : (o : Answer (List (Carry × Cut))) → whole ≡ o → (v : Check) → x.verdict ≡ v
+      → bind {B = Shape × Stepped} o (λ tr. Ok (reshaped 0 s (cores_in tr), keep_step s 0 tr h)) ≡ answered v (x.shape, held_by x work carries)
       → ended_by s l w o ≡ finished s x l work
   unfolding answered ended_as scratch_after pick
-  by_outcome (done tr) f Fits v g =
-      let p = done_inj g in
+  by_outcome (Ok tr) f (Ok _) v g =
+      let p = ok_inj g in
       ended_fits cutting s h wide tr f a b l w m x work carries refl v (ap (λ (y : Shape × Stepped). y.0) p) (ap (λ (y : Shape × Stepped). y.1) p) (I v) n
-  by_outcome (done tr) f (Refused q) v g = absurd (done_refused g)
-  by_outcome (refused r) f Fits v g = absurd (done_refused (sym g))
-  by_outcome (refused r) f (Refused q) v g =
+  by_outcome (Ok tr) f (Err q) v g = absurd (ok_err g)
+  by_outcome (Err r) f (Ok _) v g = absurd (ok_err (sym g))
+  by_outcome (Err r) f (Err q) v g =
       let t = late_rounding cutting s.d 0 (carry_left s s h 0) (listed (s.d - 0) 0 (standing s s start)) r f in
-      let u = refused_inj g in
-      rw (v, t, n) (ap (λ (y : Refusal). record { result = record { verdict = Refused y; shape = s; bonds = replicate most_axes no_bond }; chain = l; scratch = zeros (length w) }) u)
+      let u = err_inj g in
+      rw (v, t, n) (ap (λ (y : Refusal). record { result = record { verdict = Err y; shape = s; bonds = replicate most_axes no_bond }; chain = l; scratch = zeros (length w) }) u)
 
   pub ended_is : ended_by s l w (rounding cutting (cores_of s l)) ≡ finished s x l work
   unfolding round_from
@@ -251,13 +250,13 @@ loaded l scratch x e = ap (λ (y : List Float). take (length l) (y ++ drop (leng
 
 -- the call's end: c and z are what `leave` left
 module _ (s : Shape) (w : Walked) (chain scratch : List Float) (c z : List Float) (g : c ≡ left_by w.verdict s w.shape chain scratch) (f : z ≡ zeros (length scratch)) (r : Rounded) where
-  pub finish_stops : (q : Refusal) → w.verdict ≡ Refused q → r ≡ record { verdict = Refused q; shape = s; bonds = replicate most_axes no_bond }
+  pub finish_stops : (q : Refusal) → w.verdict ≡ Err q → r ≡ record { verdict = Err q; shape = s; bonds = replicate most_axes no_bond }
       → ◌≡◌ {A = Ended} (record { result = r; chain = c; scratch = z }) (finished s w chain scratch)
-  finish_stops q v e = let h : c ≡ chain = g ∙ ap (λ (y : Verdict). left_by y s w.shape chain scratch) v in rw (v, e, f, h)
+  finish_stops q v e = let h : c ≡ chain = g ∙ ap (λ (y : Check). left_by y s w.shape chain scratch) v in rw (v, e, f, h)
 
-  pub finish_goes : w.verdict ≡ Fits → r ≡ record { verdict = Fits; shape = w.shape; bonds = w.bonds }
+  pub finish_goes : w.verdict ≡ Ok tt → r ≡ record { verdict = Ok tt; shape = w.shape; bonds = w.bonds }
       → ◌≡◌ {A = Ended} (record { result = r; chain = c; scratch = z }) (finished s w chain scratch)
-  finish_goes v e = let h : c ≡ left_by Fits s w.shape chain scratch = g ∙ ap (λ (y : Verdict). left_by y s w.shape chain scratch) v in rw (v, e, f, h)
+  finish_goes v e = let h : c ≡ left_by (Ok tt) s w.shape chain scratch = g ∙ ap (λ (y : Check). left_by y s w.shape chain scratch) v in rw (v, e, f, h)
 
 -- before any turn, whatever carries stand in their room
 pub start_at : (s : Shape) (u : Walked) (work carries : List Float) → Shaped s → u ≡ unrounded s → length s.left ≡ most_axes → length s.right ≡ most_axes → entries_of s ≤ length work → most_axes * (most_rank * most_rank) ≤ length carries
@@ -278,8 +277,8 @@ early_round s cutting chain scratch =
     (early_then _ _ (early_lengths s 0 (length chain) 1 scratch)
     (early_then _ _ (early_then _ _ (early_demand _ (Number 0) refl) (early_each Number _ s.d 0 (λ j. refl))) (early_demand _ (Setting 0) refl)))
 
-module _ (s : Shape) (cutting : Cutting) (chain scratch : List Float) (v : Verdict) (e : v ≡ verdict_of (round_ok s cutting chain (length scratch))) where
-  pub round_stops : (q : Refusal) → v ≡ Refused q → (r : Rounded) → r ≡ record { verdict = Refused q; shape = s; bonds = replicate most_axes no_bond }
+module _ (s : Shape) (cutting : Cutting) (chain scratch : List Float) (v : Check) (e : v ≡ round_ok s cutting chain (length scratch)) where
+  pub round_stops : (q : Refusal) → v ≡ Err q → (r : Rounded) → r ≡ record { verdict = Err q; shape = s; bonds = replicate most_axes no_bond }
       → ◌≡◌ {A = Ended} (record { result = r; chain = chain; scratch = scratch }) (round_call s cutting chain scratch)
   unfolding round_call ended_as scratch_after pick
   round_stops q h r f =
@@ -287,11 +286,11 @@ module _ (s : Shape) (cutting : Cutting) (chain scratch : List Float) (v : Verdi
       let b = (early_round s cutting chain (length scratch)).first q g in
       rw (f, g, b)
 
-  module _ (h : v ≡ Fits) where
-    abbrev passed : round_ok s cutting chain (length scratch) ≡ done tt
+  module _ (h : v ≡ Ok tt) where
+    abbrev passed : round_ok s cutting chain (length scratch) ≡ Ok tt
     passed = verdict_passed (round_ok s cutting chain (length scratch)) v e h
 
-    pub round_asks : (chain_ok s ≡ done tt) × ((length chain ≡ entries_of s) × (entries_of s ≤ length scratch))
+    pub round_asks : (chain_ok s ≡ Ok tt) × ((length chain ≡ entries_of s) × (entries_of s ≤ length scratch))
     unfolding round_ok lengths_ok
     round_asks =
         let a = then_is (chain_ok s) _ tt passed in

@@ -7,8 +7,8 @@ use mathlib.Core.List.{List}
 use lib.ListN.{length}
 use lib.Ieee.{Float}
 use Rattle.answers.specs.declared.Refusal.{Refusal}
-use Rattle.answers.specs.declared.Verdict.{Verdict}
-use Rattle.answers.specs.declared.Verdict.TheVariants.{Fits, Refused}
+use Rattle.std.specs.Prelude.{Ok, Err}
+use Rattle.answers.specs.Outcome.{Check}
 use Rattle.lists.specs.Slots.{offset}
 use Rattle.lists.proofs.Slots.{offset_suc}
 use Rattle.lists.proofs.Packs.{PackRoom}
@@ -31,9 +31,9 @@ inside_entries s t I = subst (λ (n : ℕ). offset (core_size t) n ≤ entries_o
     go (suc k) l = omega (arith, go k (omega arith), inside_size s t I k l, offset_suc (core_size t) k, offset_suc (core_size s) k)
 
 -- ---- what is left in the chain, by the verdict
-module _ (v : Verdict) (s t : Shape) (chain work : List Float) where
-  pub left_stays : (q : Refusal) → v ≡ Refused q → chain ≡ left_by v s t chain work
-  left_stays q e = ap (λ (y : Verdict). left_by y s t chain work) (sym e)
+module _ (v : Check) (s t : Shape) (chain work : List Float) where
+  pub left_stays : (q : Refusal) → v ≡ Err q → chain ≡ left_by v s t chain work
+  left_stays q e = ap (λ (y : Check). left_by y s t chain work) (sym e)
 
-  pub left_packed : v ≡ Fits → (c : List Float) → c ≡ left_by Fits s t chain work → c ≡ left_by v s t chain work
-  left_packed e c h = h ∙ ap (λ (y : Verdict). left_by y s t chain work) (sym e)
+  pub left_packed : v ≡ Ok tt → (c : List Float) → c ≡ left_by (Ok tt) s t chain work → c ≡ left_by v s t chain work
+  left_packed e c h = h ∙ ap (λ (y : Check). left_by y s t chain work) (sym e)

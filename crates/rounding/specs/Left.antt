@@ -1,14 +1,13 @@
 -- What a call leaves in the chain, by what its work came to. Definitions for code only.
-use Rattle.std.specs.Prelude.{ℕ, List, length, take, Float}
+use Rattle.std.specs.Prelude.{ℕ, List, length, take, Float, Ok, Err}
 use Rattle.numbers.specs.Arithmetic.{zero64}
-use Rattle.answers.specs.declared.Verdict.{Verdict}
-use Rattle.answers.specs.declared.Verdict.TheVariants.{Fits, Refused}
+use Rattle.answers.specs.Outcome.{Check}
 use Rattle.lists.specs.Lists.{joined}
 use Rattle.lists.specs.Slots.{slot, fit}
 use Rattle.shape.specs.declared.Shape.{Shape}
 use Rattle.shape.specs.Shapes.{core_size}
 
 -- refused, it stays; else it is packed from the places where its cores stood, with the sizes of t
-abbrev pub left_by : Verdict → Shape → Shape → List Float → List Float → List Float
-left_by Fits s t chain work = fit zero64 (length chain) (joined s.d (λ (k : ℕ). take (core_size t k) (slot (core_size s) k work)))
-left_by (Refused q) s t chain work = chain
+abbrev pub left_by : Check → Shape → Shape → List Float → List Float → List Float
+left_by (Ok _) s t chain work = fit zero64 (length chain) (joined s.d (λ (k : ℕ). take (core_size t k) (slot (core_size s) k work)))
+left_by (Err q) s t chain work = chain

@@ -3,9 +3,7 @@
 
 pub mod packing;
 
-ghost use Rattle.std.specs.Prelude.{◌≡◌, ◌≤◌, length, replicate, take};
-ghost use Rattle.answers.specs.declared.Verdict.TheVariants.{Fits, Refused};
-ghost use Rattle.answers.specs.Outcome.{done};
+ghost use Rattle.std.specs.Prelude.{◌≡◌, ◌≤◌, length, replicate, take, Ok, Err};
 ghost use Rattle.shape.specs.Limits.{most_axes};
 ghost use Rattle.shape.specs.Shapes.{chain_ok, entries_of};
 ghost use Rattle.shape.specs.Sizes.{SizesWithin, Inside};
@@ -19,23 +17,23 @@ use cutform::Rounded;
 
 // A refusal leaves the shape as it was and says nothing of any bond.
 pub fn refused_rounding(r: answers::Refusal, s: shape::Shape) -> Rounded
-    ensures { result ≡ record { verdict = Refused r; shape = s; bonds = replicate most_axes no_bond } }
+    ensures { result ≡ record { verdict = Err r; shape = s; bonds = replicate most_axes no_bond } }
 {
     let none = bond::no_bond();
     Rounded {
-        verdict: answers::Verdict::Refused(r),
+        verdict: Err(r),
         shape: s,
         bonds: [none; shape::MOST_AXES],
     }
 }
 
 fn rounded_of(w: cuts::Walked) -> Rounded
-    ensures { result ≡ record { verdict = Fits; shape = w.shape; bonds = w.bonds } }
+    ensures { result ≡ record { verdict = Ok tt; shape = w.shape; bonds = w.bonds } }
 {
     let shape = w.shape;
     let bonds = w.bonds;
     Rounded {
-        verdict: answers::Verdict::Fits,
+        verdict: Ok(()),
         shape,
         bonds,
     }
@@ -44,14 +42,14 @@ fn rounded_of(w: cuts::Walked) -> Rounded
 // The end of a call that rounds: where nothing was refused the chain is written, and scratch is +0 in any case.
 pub fn finish(s: shape::Shape, w: cuts::Walked, chain: &mut [f64], scratch: &mut [f64]) -> Rounded
     requires sizes_within { SizesWithin s }
-    requires inside { (w.verdict ≡ Fits → Inside s w.shape) × (entries_of s ≤ length chain.old) × (entries_of s ≤ length scratch.old) }
+    requires inside { (w.verdict ≡ Ok tt → Inside s w.shape) × (entries_of s ≤ length chain.old) × (entries_of s ≤ length scratch.old) }
     ensures { record { result = result; chain = chain.new; scratch = scratch.new }
         ≡ finished s w chain.old scratch.old }
 {
     let verdict = w.verdict;
     let t = w.shape;
     packing::leave(verdict, s, t, chain, scratch);
-    if let answers::Verdict::Refused(q) = verdict {
+    if let Err(q) = verdict {
         return refused_rounding(q, s);
     }
     rounded_of(w)
@@ -73,7 +71,7 @@ fn round_all(
     chain: &mut [f64],
     scratch: &mut [f64],
 ) -> Rounded
-    requires s_value { chain_ok s ≡ done tt }
+    requires s_value { chain_ok s ≡ Ok tt }
     requires chain_len { (length chain.old ≡ entries_of s) × (entries_of s ≤ length scratch.old) }
     ensures { record { result = result; chain = chain.new; scratch = scratch.new }
         ≡ ended_by s chain.old scratch.old (rounding cutting (cores_of s chain.old)) }
@@ -104,7 +102,7 @@ pub fn tt_round(
         ≡ round_call s cutting chain.old scratch.old }
 {
     let ok = checks::round_ok(s, cutting, chain, scratch.len());
-    if let answers::Verdict::Refused(r) = ok {
+    if let Err(r) = ok {
         return refused_rounding(r, s);
     }
     round_all(s, cutting, chain, scratch)

@@ -1,6 +1,5 @@
 // What a call that works in scratch leaves: the chain packed from there, and scratch all +0.
-ghost use Rattle.std.specs.Prelude.{◌≡◌, ℕ, ◌≤◌, ◌<◌, length, take};
-ghost use Rattle.answers.specs.declared.Verdict.TheVariants.{Fits};
+ghost use Rattle.std.specs.Prelude.{◌≡◌, ℕ, ◌≤◌, ◌<◌, length, take, Ok};
 ghost use Rattle.numbers.specs.Arithmetic.{zero64};
 ghost use Rattle.lists.specs.Lists.{joined};
 ghost use Rattle.lists.specs.Slots.{slot, fit};
@@ -34,18 +33,18 @@ fn pack(s: shape::Shape, t: shape::Shape, work: &[f64], chain: &mut [f64])
 
 // Where nothing was refused the chain is written, with the sizes of t, and scratch is +0 in any case.
 pub fn leave(
-    verdict: answers::Verdict,
+    verdict: Result<(), answers::Refusal>,
     s: shape::Shape,
     t: shape::Shape,
     chain: &mut [f64],
     scratch: &mut [f64],
 )
     requires sizes_within { SizesWithin s }
-    requires inside { (verdict ≡ Fits → Inside s t) × (entries_of s ≤ length chain.old) × (entries_of s ≤ length scratch.old) }
+    requires inside { (verdict ≡ Ok tt → Inside s t) × (entries_of s ≤ length chain.old) × (entries_of s ≤ length scratch.old) }
     ensures chain_after { chain.new ≡ left_by verdict s t chain.old scratch.old }
     ensures scratch_after { scratch.new ≡ zeros (length scratch.old) }
 {
-    if let answers::Verdict::Refused(q) = verdict {
+    if let Err(q) = verdict {
         lists::fill(scratch, 0.0);
         return;
     }

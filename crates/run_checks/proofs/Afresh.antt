@@ -6,9 +6,8 @@ use mathlib.Core.List.{[], ◌∷◌}
 use lib.ListN.{length}
 use Rattle.answers.specs.declared.Refusal.{Refusal}
 use Rattle.answers.specs.declared.Refusal.TheVariants.{Length, Reach}
-use Rattle.answers.specs.declared.Verdict.{Verdict}
-use Rattle.answers.specs.declared.Verdict.TheVariants.{Fits, Refused}
-use Rattle.answers.specs.Outcome.{done, refused, Check, ◌then◌, demand_each, verdict_of}
+use Rattle.std.specs.Prelude.{Ok, Err}
+use Rattle.answers.specs.Outcome.{Check, ◌then◌, demand_each}
 use Rattle.answers.proofs.Checks.{then_stops, then_passes}
 use Rattle.shape.specs.declared.Shape.{Shape}
 use Rattle.shape.specs.Limits.{scratch_for}
@@ -24,10 +23,10 @@ use Rattle.runform.proofs.InRow.{lent_parts}
 
 -- checks in a row, however they are grouped
 row : (a b c d o : Check) → a then b then (c then d) then o ≡ a then (b then c) then d then o
-row (refused r) b c d o = refl
-row (done t1) (refused r) c d o = refl
-row (done t1) (done t2) (refused r) d o = refl
-row (done t1) (done t2) (done t3) d o = refl
+row (Err r) b c d o = refl
+row (Ok t1) (Err r) c d o = refl
+row (Ok t1) (Ok t2) (Err r) d o = refl
+row (Ok t1) (Ok t2) (Ok t3) d o = refl
 
 module _ (i : Inputs) (m : Outputs ℕ) (n : ℕ) where
   abbrev s : Shape
@@ -54,32 +53,32 @@ module _ (i : Inputs) (m : Outputs ℕ) (n : ℕ) where
       ∙ row (chain_ok s) (inputs_lent i) (outputs_lent s m) (scratch_lent s slice_count n) numbers
       ∙ ap (λ (l : Check). chain_ok s then l then scratch_lent s slice_count n then numbers) (sym parts)
 
-  module _ (v : Verdict) (e : v ≡ verdict_of (chain_ok s)) where
-    pub shape_stops : (r : Refusal) → v ≡ Refused r → Refused r ≡ verdict_of Fresh
-    shape_stops r h = then_stops (chain_ok s) (Lent then scratch_lent s slice_count n then numbers) v e r h ∙ ap verdict_of (sym fresh_row)
+  module _ (v : Check) (e : v ≡ chain_ok s) where
+    pub shape_stops : (r : Refusal) → v ≡ Err r → Err r ≡ Fresh
+    shape_stops r h = then_stops (chain_ok s) (Lent then scratch_lent s slice_count n then numbers) v e r h ∙ (sym fresh_row)
 
-    module _ (h : v ≡ Fits) (w : Verdict) (f : w ≡ verdict_of Lent) where
-      past : (x : Verdict) → x ≡ verdict_of (Lent then scratch_lent s slice_count n then numbers) → x ≡ verdict_of Fresh
-      past x o = then_passes (chain_ok s) (Lent then scratch_lent s slice_count n then numbers) v e x h o ∙ ap verdict_of (sym fresh_row)
+    module _ (h : v ≡ Ok tt) (w : Check) (f : w ≡ Lent) where
+      past : (x : Check) → x ≡ (Lent then scratch_lent s slice_count n then numbers) → x ≡ Fresh
+      past x o = then_passes (chain_ok s) (Lent then scratch_lent s slice_count n then numbers) v e x h o ∙ (sym fresh_row)
 
-      pub lent_stops : (r : Refusal) → w ≡ Refused r → Refused r ≡ verdict_of Fresh
-      lent_stops r g = past (Refused r) (then_stops Lent (scratch_lent s slice_count n then numbers) w f r g)
+      pub lent_stops : (r : Refusal) → w ≡ Err r → Err r ≡ Fresh
+      lent_stops r g = past (Err r) (then_stops Lent (scratch_lent s slice_count n then numbers) w f r g)
 
-      module _ (g : w ≡ Fits) (a : ℕ) (o : a ≡ scratch_for (entries_of s)) where
-        further : (x : Verdict) → x ≡ verdict_of (scratch_lent s slice_count n then numbers) → x ≡ verdict_of Fresh
+      module _ (g : w ≡ Ok tt) (a : ℕ) (o : a ≡ scratch_for (entries_of s)) where
+        further : (x : Check) → x ≡ (scratch_lent s slice_count n then numbers) → x ≡ Fresh
         further x p = past x (then_passes Lent (scratch_lent s slice_count n then numbers) w f x g p)
 
-        pub scratch_stops : (n ≡ a → ⊥) → Refused (Length slice_count) ≡ verdict_of Fresh
+        pub scratch_stops : (n ≡ a → ⊥) → Err (Length slice_count) ≡ Fresh
         unfolding scratch_lent
-        scratch_stops q = further (Refused (Length slice_count)) (size_stops numbers (Length slice_count) n (scratch_for (entries_of s)) a o q)
+        scratch_stops q = further (Err (Length slice_count)) (size_stops numbers (Length slice_count) n (scratch_for (entries_of s)) a o q)
 
-        module _ (q : n ≡ a) (y : Verdict) (p : y ≡ verdict_of (made_ok i)) where
-          onward : (x : Verdict) → x ≡ verdict_of numbers → x ≡ verdict_of Fresh
+        module _ (q : n ≡ a) (y : Check) (p : y ≡ made_ok i) where
+          onward : (x : Check) → x ≡ numbers → x ≡ Fresh
           unfolding scratch_lent
           onward x b = further x (size_passes numbers (Length slice_count) n (scratch_for (entries_of s)) a o q x b)
 
-          pub numbers_stop : (r : Refusal) → y ≡ Refused r → Refused r ≡ verdict_of Fresh
-          numbers_stop r h = onward (Refused r) (then_stops (made_ok i) shifts y p r h)
+          pub numbers_stop : (r : Refusal) → y ≡ Err r → Err r ≡ Fresh
+          numbers_stop r h = onward (Err r) (then_stops (made_ok i) shifts y p r h)
 
-          pub fresh_fits : y ≡ Fits → (x : Verdict) → x ≡ verdict_of shifts → x ≡ verdict_of Fresh
+          pub fresh_fits : y ≡ Ok tt → (x : Check) → x ≡ shifts → x ≡ Fresh
           fresh_fits h x b = onward x (then_passes (made_ok i) shifts y p x h b)

@@ -12,8 +12,8 @@ use mir.Syntax.{w64}
 use mir.Val as val
 use Rattle.numbers.specs.Finite.{finite}
 use Rattle.answers.specs.declared.Refusal.TheVariants.{Reach}
-use Rattle.answers.specs.declared.Verdict.TheVariants.{Fits, Refused}
-use Rattle.answers.specs.Outcome.{done, demand_each, verdict_of}
+use Rattle.std.specs.Prelude.{Ok, Err}
+use Rattle.answers.specs.Outcome.{demand_each}
 use Rattle.answers.proofs.Checks.{each_same, each_from}
 use Rattle.lists.specs.Lists.{first_not}
 use Rattle.lists.specs.Slots.{offset, slot}
@@ -51,7 +51,7 @@ module _ (size : ℕ → ℕ) (d k : ℕ) (l : List Float) (lt : k < d) (room : 
   front_is = ap (λ (m : ℕ). take used (drop m l)) e ∙ sym (take-take used (size k) (drop (offset size k) l) f)
 
 -- ---- of a run whose shape and ranks passed
-module _ (s : Shape) (bonds : List Bond) (ok : shape_ok s (rank_ok s bonds) ≡ done tt) (k : ℕ) (lt : k < s.d) where
+module _ (s : Shape) (bonds : List Bond) (ok : shape_ok s (rank_ok s bonds) ≡ Ok tt) (k : ℕ) (lt : k < s.d) where
   abbrev shp : Shaped s
   shp = shaped s (rank_ok s bonds) ok
 
@@ -149,11 +149,11 @@ module _ (z : ℕ) (set : Settings) (s : Shape) (xs : List Axis) where
       ∙ each_same Reach (reach_from z set s xs) (axis_reaches set s xs) (s.d - z) z (λ j a b. sym (reach_found j a (axis_reaches set s xs j) refl))
 
   module _ (l : z ≤ s.d) (i : ℕ) (e : i ≡ first_not (reach_from z set s xs) s.d) where
-    pub far_wrong : i < s.d → Refused (Reach i) ≡ verdict_of (demand_each Reach (axis_reaches set s xs) (s.d - z) z)
-    far_wrong m = place_wrong (reach_from z set s xs) s.d i e Reach m ∙ ap verdict_of (reach_all l)
+    pub far_wrong : i < s.d → Err (Reach i) ≡ (demand_each Reach (axis_reaches set s xs) (s.d - z) z)
+    far_wrong m = place_wrong (reach_from z set s xs) s.d i e Reach m ∙ (reach_all l)
 
-    pub far_right : s.d ≤ i → Fits ≡ verdict_of (demand_each Reach (axis_reaches set s xs) (s.d - z) z)
-    far_right m = places_right (reach_from z set s xs) s.d i e Reach m ∙ ap verdict_of (reach_all l)
+    pub far_right : s.d ≤ i → Ok tt ≡ (demand_each Reach (axis_reaches set s xs) (s.d - z) z)
+    far_right m = places_right (reach_from z set s xs) s.d i e Reach m ∙ (reach_all l)
 
 -- what a bond dropped
 module _ (s : Shape) (bonds : List Bond) (k : ℕ) where

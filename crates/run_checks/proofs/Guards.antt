@@ -8,9 +8,8 @@ use mathlib.Core.List.{List}
 use lib.Ieee.{Float}
 use Rattle.answers.specs.declared.Refusal.{Refusal}
 use Rattle.answers.specs.declared.Refusal.TheVariants.{Number, Setting}
-use Rattle.answers.specs.declared.Verdict.{Verdict}
-use Rattle.answers.specs.declared.Verdict.TheVariants.{Fits, Refused}
-use Rattle.answers.specs.Outcome.{done, Check, ◌then◌, demand, demand_each, verdict_of}
+use Rattle.std.specs.Prelude.{Ok, Err}
+use Rattle.answers.specs.Outcome.{Check, ◌then◌, demand, demand_each}
 use Rattle.answers.proofs.Checks.{demand_yes, demand_no, then_stops, then_passes}
 use Rattle.lists.specs.Lists.{pick, first_not}
 use Rattle.lists.specs.Floats.{all_finite}
@@ -27,28 +26,28 @@ use Rattle.lists.proofs.Asked.{length_wrong, length_right, test_wrong, test_righ
 module _ (o : Check) (r : Refusal) where
   -- a length a that is to be x; m is what code took for x
   module _ (a x m : ℕ) (e : m ≡ x) where
-    pub size_stops : (a ≡ m → ⊥) → Refused r ≡ verdict_of (demand (eqb a x) r then o)
-    size_stops h = then_stops (demand (eqb a x) r) o (Refused r) (length_wrong a x r (λ k. h (k ∙ sym e))) r refl
+    pub size_stops : (a ≡ m → ⊥) → Err r ≡ (demand (eqb a x) r then o)
+    size_stops h = then_stops (demand (eqb a x) r) o (Err r) (length_wrong a x r (λ k. h (k ∙ sym e))) r refl
 
-    pub size_passes : a ≡ m → (w : Verdict) → w ≡ verdict_of o → w ≡ verdict_of (demand (eqb a x) r then o)
-    size_passes h w g = then_passes (demand (eqb a x) r) o Fits (length_right a x r (h ∙ e)) w refl g
+    pub size_passes : a ≡ m → (w : Check) → w ≡ o → w ≡ (demand (eqb a x) r then o)
+    size_passes h w g = then_passes (demand (eqb a x) r) o (Ok tt) (length_right a x r (h ∙ e)) w refl g
 
   module _ (z d : ℕ) where
-    pub below_stops : d ≤ z → Refused r ≡ verdict_of (demand (ltb z d) r then o)
-    below_stops h = then_stops (demand (ltb z d) r) o (Refused r) (ap verdict_of (sym (demand_no (ltb z d) r (ltb_no z d h)))) r refl
+    pub below_stops : d ≤ z → Err r ≡ (demand (ltb z d) r then o)
+    below_stops h = then_stops (demand (ltb z d) r) o (Err r) ((sym (demand_no (ltb z d) r (ltb_no z d h)))) r refl
 
-    pub below_passes : z < d → (w : Verdict) → w ≡ verdict_of o → w ≡ verdict_of (demand (ltb z d) r then o)
-    below_passes h w g = then_passes (demand (ltb z d) r) o Fits (ap verdict_of (sym (demand_yes (ltb z d) r (ltb_yes z d h)))) w refl g
+    pub below_passes : z < d → (w : Check) → w ≡ o → w ≡ (demand (ltb z d) r then o)
+    below_passes h w g = then_passes (demand (ltb z d) r) o (Ok tt) ((sym (demand_yes (ltb z d) r (ltb_yes z d h)))) w refl g
 
 module _ (r : Refusal) (a x m : ℕ) (e : m ≡ x) where
-  pub size_wrong : (a ≡ m → ⊥) → Refused r ≡ verdict_of (demand (eqb a x) r)
+  pub size_wrong : (a ≡ m → ⊥) → Err r ≡ demand (eqb a x) r
   size_wrong h = length_wrong a x r (λ k. h (k ∙ sym e))
 
-  pub size_right : a ≡ m → Fits ≡ verdict_of (demand (eqb a x) r)
+  pub size_right : a ≡ m → Ok tt ≡ demand (eqb a x) r
   size_right h = length_right a x r (h ∙ e)
 
 -- nothing is left to ask
-pub all_asked : Fits ≡ verdict_of {A = Unit {0}} (done tt)
+pub all_asked : ◌≡◌ {A = Check} (Ok tt) (Ok tt)
 all_asked = refl
 
 pub ruleset sized = (all_asked, size_stops, size_passes, below_stops, below_passes, size_wrong, size_right, then_stops, then_passes)
@@ -83,32 +82,32 @@ module _ (lone mild : Bool) (number setting d : ℕ) (p q : ℕ → Bool) (e : n
   abbrev all : Check
   all = demand lone (Number 0) then demand_each Number p d 0 then settings
 
-  pub lone_wrong : not lone ≡ true → Refused (Number 0) ≡ verdict_of all
-  lone_wrong h = then_stops (demand lone (Number 0)) (demand_each Number p d 0 then settings) (Refused (Number 0)) (test_wrong lone lone (Number 0) refl h) (Number 0) refl
+  pub lone_wrong : not lone ≡ true → Err (Number 0) ≡ all
+  lone_wrong h = then_stops (demand lone (Number 0)) (demand_each Number p d 0 then settings) (Err (Number 0)) (test_wrong lone lone (Number 0) refl h) (Number 0) refl
 
   module _ (h : not lone ≡ false) where
-    past : (w : Verdict) → w ≡ verdict_of (demand_each Number p d 0 then settings) → w ≡ verdict_of all
-    past w g = then_passes (demand lone (Number 0)) (demand_each Number p d 0 then settings) Fits (test_right lone lone (Number 0) refl h) w refl g
+    past : (w : Check) → w ≡ (demand_each Number p d 0 then settings) → w ≡ all
+    past w g = then_passes (demand lone (Number 0)) (demand_each Number p d 0 then settings) (Ok tt) (test_right lone lone (Number 0) refl h) w refl g
 
-    pub number_wrong : number < d → Refused (Number number) ≡ verdict_of all
-    number_wrong l = past (Refused (Number number)) (then_stops (demand_each Number p d 0) settings (Refused (Number number)) (place_wrong p d number e Number l) (Number number) refl)
+    pub number_wrong : number < d → Err (Number number) ≡ all
+    number_wrong l = past (Err (Number number)) (then_stops (demand_each Number p d 0) settings (Err (Number number)) (place_wrong p d number e Number l) (Number number) refl)
 
     module _ (l : d ≤ number) where
-      later : (w : Verdict) → w ≡ verdict_of settings → w ≡ verdict_of all
-      later w g = past w (then_passes (demand_each Number p d 0) settings Fits (places_right p d number e Number l) w refl g)
+      later : (w : Check) → w ≡ settings → w ≡ all
+      later w g = past w (then_passes (demand_each Number p d 0) settings (Ok tt) (places_right p d number e Number l) w refl g)
 
-      pub mild_wrong : not mild ≡ true → Refused (Setting 0) ≡ verdict_of all
-      mild_wrong i = later (Refused (Setting 0)) (then_stops (demand mild (Setting 0)) (demand_each Setting q d 0) (Refused (Setting 0)) (test_wrong mild mild (Setting 0) refl i) (Setting 0) refl)
+      pub mild_wrong : not mild ≡ true → Err (Setting 0) ≡ all
+      mild_wrong i = later (Err (Setting 0)) (then_stops (demand mild (Setting 0)) (demand_each Setting q d 0) (Err (Setting 0)) (test_wrong mild mild (Setting 0) refl i) (Setting 0) refl)
 
       module _ (i : not mild ≡ false) where
-        last : (w : Verdict) → w ≡ verdict_of (demand_each Setting q d 0) → w ≡ verdict_of all
-        last w g = later w (then_passes (demand mild (Setting 0)) (demand_each Setting q d 0) Fits (test_right mild mild (Setting 0) refl i) w refl g)
+        last : (w : Check) → w ≡ demand_each Setting q d 0 → w ≡ all
+        last w g = later w (then_passes (demand mild (Setting 0)) (demand_each Setting q d 0) (Ok tt) (test_right mild mild (Setting 0) refl i) w refl g)
 
-        pub setting_wrong : setting < d → Refused (Setting setting) ≡ verdict_of all
-        setting_wrong m = last (Refused (Setting setting)) (place_wrong q d setting f Setting m)
+        pub setting_wrong : setting < d → Err (Setting setting) ≡ all
+        setting_wrong m = last (Err (Setting setting)) (place_wrong q d setting f Setting m)
 
-        pub all_right : d ≤ setting → Fits ≡ verdict_of all
-        all_right m = last Fits (places_right q d setting f Setting m)
+        pub all_right : d ≤ setting → Ok tt ≡ all
+        all_right m = last (Ok tt) (places_right q d setting f Setting m)
 
 pub ruleset numbers-found = (lone_wrong, number_wrong, mild_wrong, setting_wrong, all_right)
 

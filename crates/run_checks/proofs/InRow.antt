@@ -8,9 +8,8 @@ use lib.ListN.{length, set}
 use lib.Ieee.{Float}
 use Rattle.answers.specs.declared.Refusal.{Refusal}
 use Rattle.answers.specs.declared.Refusal.TheVariants.{Zone, Length, Reach}
-use Rattle.answers.specs.declared.Verdict.{Verdict}
-use Rattle.answers.specs.declared.Verdict.TheVariants.{Fits, Refused}
-use Rattle.answers.specs.Outcome.{done, refused, Check, ◌then◌, demand, demand_each, verdict_of}
+use Rattle.std.specs.Prelude.{Ok, Err}
+use Rattle.answers.specs.Outcome.{Check, ◌then◌, demand, demand_each}
 use Rattle.answers.proofs.Checks.{demand_is, then_is, then_stops, then_passes, verdict_passed}
 use Rattle.lists.specs.Floats.{all_finite}
 use Rattle.lists.proofs.Tests.{ltb_is}
@@ -27,9 +26,9 @@ use Rattle.runform.specs.Kept.{Kept, lengths_of}
 use Rattle.runform.specs.Checks.{rank_ok, slices_lent, scratch_lent}
 use Rattle.runform.specs.Requests.{Request, new_core, new_axis, new_weights, zone_of, part_fits, found_ok, found_numbers, numbers_ok, replace_ok}
 
-then_done : (c : Check) → c then done tt ≡ c
-then_done (done t1) = refl
-then_done (refused r) = refl
+then_done : (c : Check) → c then Ok tt ≡ c
+then_done (Ok t1) = refl
+then_done (Err r) = refl
 
 module _ (R : Rules) (room : Check) (k : Kept) (q : Request) where
   abbrev s : Shape
@@ -43,17 +42,17 @@ module _ (R : Rules) (room : Check) (k : Kept) (q : Request) where
   found_first = refl
 
   -- what was found passes
-  module _ (v : Verdict) (e : v ≡ verdict_of (found_ok k (zone_of q))) where
-    pub found_stops : (r : Refusal) → v ≡ Refused r → Refused r ≡ verdict_of (replace_ok R room k q)
-    found_stops r h = then_stops (found_ok k (zone_of q)) rest v e r h ∙ ap verdict_of (sym found_first)
+  module _ (v : Check) (e : v ≡ found_ok k (zone_of q)) where
+    pub found_stops : (r : Refusal) → v ≡ Err r → Err r ≡ replace_ok R room k q
+    found_stops r h = then_stops (found_ok k (zone_of q)) rest v e r h ∙ (sym found_first)
 
-    pub found_goes : v ≡ Fits → (w : Verdict) → w ≡ verdict_of rest → w ≡ verdict_of (replace_ok R room k q)
-    found_goes h w g = then_passes (found_ok k (zone_of q)) rest v e w h g ∙ ap verdict_of (sym found_first)
+    pub found_goes : v ≡ Ok tt → (w : Check) → w ≡ rest → w ≡ replace_ok R room k q
+    found_goes h w g = then_passes (found_ok k (zone_of q)) rest v e w h g ∙ (sym found_first)
 
 -- what it says that it passed
-pub found_says : (k : Kept) (z : ℕ) (v : Verdict) → v ≡ verdict_of (found_ok k z) → v ≡ Fits
-    → (z < k.inputs.shape.d) × (shape_ok k.inputs.shape (rank_ok k.inputs.shape k.stepped.bonds) ≡ done tt)
-    × (slices_lent k.inputs.shape (lengths_of k) ≡ done tt)
+pub found_says : (k : Kept) (z : ℕ) (v : Check) → v ≡ found_ok k z → v ≡ Ok tt
+    → (z < k.inputs.shape.d) × (shape_ok k.inputs.shape (rank_ok k.inputs.shape k.stepped.bonds) ≡ Ok tt)
+    × (slices_lent k.inputs.shape (lengths_of k) ≡ Ok tt)
 unfolding found_ok
 found_says k z v e h =
     let s = k.inputs.shape in
@@ -69,70 +68,70 @@ module _ (R : Rules) (k : Kept) (z : ℕ) (ws : List Float) where
   unfolding numbers_ok
   weights_numbers = then_done (found_numbers k z (all_finite ws) true)
 
-  module _ (n : ℕ) (v : Verdict) (e : v ≡ verdict_of (found_ok k z)) (h : v ≡ Fits) where
+  module _ (n : ℕ) (v : Check) (e : v ≡ found_ok k z) (h : v ≡ Ok tt) where
     abbrev Asks : Check
     Asks = replace_ok R (scratch_lent k.inputs.shape behind_part n) k (new_weights z ws)
 
     abbrev later : Check
     later = scratch_lent k.inputs.shape behind_part n then numbers_ok R k (new_weights z ws)
 
-    pub weights_wrong : (length ws ≡ points_of k.inputs.shape z → ⊥) → Refused (Length slice_count) ≡ verdict_of Asks
+    pub weights_wrong : (length ws ≡ points_of k.inputs.shape z → ⊥) → Err (Length slice_count) ≡ Asks
     unfolding point_size
     weights_wrong f =
-        found_goes R (scratch_lent k.inputs.shape behind_part n) k (new_weights z ws) v e h (Refused (Length slice_count))
+        found_goes R (scratch_lent k.inputs.shape behind_part n) k (new_weights z ws) v e h (Err (Length slice_count))
         (size_stops later (Length slice_count) (length ws) (point_size k.inputs.shape z) (points_of k.inputs.shape z) refl f)
 
     module _ (f : length ws ≡ points_of k.inputs.shape z) (m : ℕ) (g : m ≡ scratch_for (entries_of k.inputs.shape)) where
-      go : (w : Verdict) → w ≡ verdict_of later → w ≡ verdict_of Asks
+      go : (w : Check) → w ≡ later → w ≡ Asks
       unfolding point_size
       go w o = found_goes R (scratch_lent k.inputs.shape behind_part n) k (new_weights z ws) v e h w (size_passes later (Length slice_count) (length ws) (point_size k.inputs.shape z) (points_of k.inputs.shape z) refl f w o)
 
-      pub weights_room : (n ≡ m → ⊥) → Refused (Length behind_part) ≡ verdict_of Asks
+      pub weights_room : (n ≡ m → ⊥) → Err (Length behind_part) ≡ Asks
       unfolding scratch_lent
-      weights_room o = go (Refused (Length behind_part)) (size_stops (numbers_ok R k (new_weights z ws)) (Length behind_part) n (scratch_for (entries_of k.inputs.shape)) m g o)
+      weights_room o = go (Err (Length behind_part)) (size_stops (numbers_ok R k (new_weights z ws)) (Length behind_part) n (scratch_for (entries_of k.inputs.shape)) m g o)
 
-      pub weights_fit : n ≡ m → (part : Bool) → part ≡ all_finite ws → (w : Verdict) → w ≡ verdict_of (found_numbers k z part true) → w ≡ verdict_of Asks
+      pub weights_fit : n ≡ m → (part : Bool) → part ≡ all_finite ws → (w : Check) → w ≡ found_numbers k z part true → w ≡ Asks
       unfolding scratch_lent
       weights_fit o part p w y =
           go w (size_passes (numbers_ok R k (new_weights z ws)) (Length behind_part) n (scratch_for (entries_of k.inputs.shape)) m g o w
-          (y ∙ ap (λ (b : Bool). verdict_of (found_numbers k z b true)) p ∙ ap verdict_of (sym weights_numbers)))
+          (y ∙ ap (λ (b : Bool). (found_numbers k z b true)) p ∙ (sym weights_numbers)))
 
 -- ---- a new core
 module _ (k : Kept) (z : ℕ) (xs : List Float) where
   abbrev shifts : Check
   shifts = demand_each Reach (axis_reaches k.inputs.set k.inputs.shape k.inputs.axes) (k.inputs.shape.d - z) z
 
-  module _ (n : ℕ) (v : Verdict) (e : v ≡ verdict_of (found_ok k z)) (h : v ≡ Fits) (l : ℕ) (sz : l ≡ core_size k.inputs.shape z) where
+  module _ (n : ℕ) (v : Check) (e : v ≡ found_ok k z) (h : v ≡ Ok tt) (l : ℕ) (sz : l ≡ core_size k.inputs.shape z) where
     abbrev CoreAsks : Check
     CoreAsks = replace_ok rules (scratch_lent k.inputs.shape behind_part n) k (new_core z xs)
 
     abbrev behind : Check
     behind = scratch_lent k.inputs.shape behind_part n then numbers_ok rules k (new_core z xs)
 
-    pub core_wrong : (length xs ≡ l → ⊥) → Refused (Length slice_count) ≡ verdict_of CoreAsks
-    core_wrong f = found_goes rules (scratch_lent k.inputs.shape behind_part n) k (new_core z xs) v e h (Refused (Length slice_count)) (size_stops behind (Length slice_count) (length xs) (core_size k.inputs.shape z) l sz f)
+    pub core_wrong : (length xs ≡ l → ⊥) → Err (Length slice_count) ≡ CoreAsks
+    core_wrong f = found_goes rules (scratch_lent k.inputs.shape behind_part n) k (new_core z xs) v e h (Err (Length slice_count)) (size_stops behind (Length slice_count) (length xs) (core_size k.inputs.shape z) l sz f)
 
     module _ (f : length xs ≡ l) (m : ℕ) (g : m ≡ scratch_for (entries_of k.inputs.shape)) where
-      past : (w : Verdict) → w ≡ verdict_of behind → w ≡ verdict_of CoreAsks
+      past : (w : Check) → w ≡ behind → w ≡ CoreAsks
       past w o = found_goes rules (scratch_lent k.inputs.shape behind_part n) k (new_core z xs) v e h w (size_passes behind (Length slice_count) (length xs) (core_size k.inputs.shape z) l sz f w o)
 
-      pub core_room : (n ≡ m → ⊥) → Refused (Length behind_part) ≡ verdict_of CoreAsks
+      pub core_room : (n ≡ m → ⊥) → Err (Length behind_part) ≡ CoreAsks
       unfolding scratch_lent
-      core_room o = past (Refused (Length behind_part)) (size_stops (numbers_ok rules k (new_core z xs)) (Length behind_part) n (scratch_for (entries_of k.inputs.shape)) m g o)
+      core_room o = past (Err (Length behind_part)) (size_stops (numbers_ok rules k (new_core z xs)) (Length behind_part) n (scratch_for (entries_of k.inputs.shape)) m g o)
 
-      module _ (o : n ≡ m) (part : Bool) (p : part ≡ all_finite xs) (u : Verdict) (y : u ≡ verdict_of (found_numbers k z part true)) where
-        onward : (w : Verdict) → w ≡ verdict_of (found_numbers k z (all_finite xs) true then shifts) → w ≡ verdict_of CoreAsks
+      module _ (o : n ≡ m) (part : Bool) (p : part ≡ all_finite xs) (u : Check) (y : u ≡ found_numbers k z part true) where
+        onward : (w : Check) → w ≡ (found_numbers k z (all_finite xs) true then shifts) → w ≡ CoreAsks
         unfolding scratch_lent numbers_ok
         onward w i =
             past w (size_passes (numbers_ok rules k (new_core z xs)) (Length behind_part) n (scratch_for (entries_of k.inputs.shape)) m g o w i)
 
-        told : u ≡ verdict_of (found_numbers k z (all_finite xs) true)
-        told = y ∙ ap (λ (b : Bool). verdict_of (found_numbers k z b true)) p
+        told : u ≡ found_numbers k z (all_finite xs) true
+        told = y ∙ ap (λ (b : Bool). (found_numbers k z b true)) p
 
-        pub core_stops : (r : Refusal) → u ≡ Refused r → Refused r ≡ verdict_of CoreAsks
-        core_stops r i = onward (Refused r) (then_stops (found_numbers k z (all_finite xs) true) shifts u told r i)
+        pub core_stops : (r : Refusal) → u ≡ Err r → Err r ≡ CoreAsks
+        core_stops r i = onward (Err r) (then_stops (found_numbers k z (all_finite xs) true) shifts u told r i)
 
-        pub core_fits : u ≡ Fits → (w : Verdict) → w ≡ verdict_of shifts → w ≡ verdict_of CoreAsks
+        pub core_fits : u ≡ Ok tt → (w : Check) → w ≡ shifts → w ≡ CoreAsks
         core_fits i w j = onward w (then_passes (found_numbers k z (all_finite xs) true) shifts u told w i j)
 
 -- ---- a new axis record
@@ -140,29 +139,29 @@ module _ (k : Kept) (z : ℕ) (x : Axis) where
   abbrev new_shifts : Check
   new_shifts = demand_each Reach (axis_reaches k.inputs.set k.inputs.shape (set k.inputs.axes z x)) (k.inputs.shape.d - z) z
 
-  module _ (n : ℕ) (v : Verdict) (e : v ≡ verdict_of (found_ok k z)) (h : v ≡ Fits) (m : ℕ) (g : m ≡ scratch_for (entries_of k.inputs.shape)) where
+  module _ (n : ℕ) (v : Check) (e : v ≡ found_ok k z) (h : v ≡ Ok tt) (m : ℕ) (g : m ≡ scratch_for (entries_of k.inputs.shape)) where
     abbrev AxisAsks : Check
     AxisAsks = replace_ok rules (scratch_lent k.inputs.shape slice_count n) k (new_axis z x)
 
-    beyond : (w : Verdict) → w ≡ verdict_of (scratch_lent k.inputs.shape slice_count n then numbers_ok rules k (new_axis z x)) → w ≡ verdict_of AxisAsks
+    beyond : (w : Check) → w ≡ (scratch_lent k.inputs.shape slice_count n then numbers_ok rules k (new_axis z x)) → w ≡ AxisAsks
     unfolding demand
     beyond w o = found_goes rules (scratch_lent k.inputs.shape slice_count n) k (new_axis z x) v e h w o
 
-    pub axis_room : (n ≡ m → ⊥) → Refused (Length slice_count) ≡ verdict_of AxisAsks
+    pub axis_room : (n ≡ m → ⊥) → Err (Length slice_count) ≡ AxisAsks
     unfolding scratch_lent
-    axis_room o = beyond (Refused (Length slice_count)) (size_stops (numbers_ok rules k (new_axis z x)) (Length slice_count) n (scratch_for (entries_of k.inputs.shape)) m g o)
+    axis_room o = beyond (Err (Length slice_count)) (size_stops (numbers_ok rules k (new_axis z x)) (Length slice_count) n (scratch_for (entries_of k.inputs.shape)) m g o)
 
-    module _ (o : n ≡ m) (part mild : Bool) (p : part ≡ axis_finite x) (q : mild ≡ axis_ok x) (u : Verdict) (y : u ≡ verdict_of (found_numbers k z part mild)) where
-      further : (w : Verdict) → w ≡ verdict_of (found_numbers k z (axis_finite x) (axis_ok x) then new_shifts) → w ≡ verdict_of AxisAsks
+    module _ (o : n ≡ m) (part mild : Bool) (p : part ≡ axis_finite x) (q : mild ≡ axis_ok x) (u : Check) (y : u ≡ found_numbers k z part mild) where
+      further : (w : Check) → w ≡ (found_numbers k z (axis_finite x) (axis_ok x) then new_shifts) → w ≡ AxisAsks
       unfolding scratch_lent numbers_ok
       further w i =
           beyond w (size_passes (numbers_ok rules k (new_axis z x)) (Length slice_count) n (scratch_for (entries_of k.inputs.shape)) m g o w i)
 
-      heard : u ≡ verdict_of (found_numbers k z (axis_finite x) (axis_ok x))
-      heard = y ∙ ap (λ (b : Bool). verdict_of (found_numbers k z b mild)) p ∙ ap (λ (b : Bool). verdict_of (found_numbers k z (axis_finite x) b)) q
+      heard : u ≡ found_numbers k z (axis_finite x) (axis_ok x)
+      heard = y ∙ ap (λ (b : Bool). (found_numbers k z b mild)) p ∙ ap (λ (b : Bool). (found_numbers k z (axis_finite x) b)) q
 
-      pub axis_stops : (r : Refusal) → u ≡ Refused r → Refused r ≡ verdict_of AxisAsks
-      axis_stops r i = further (Refused r) (then_stops (found_numbers k z (axis_finite x) (axis_ok x)) new_shifts u heard r i)
+      pub axis_stops : (r : Refusal) → u ≡ Err r → Err r ≡ AxisAsks
+      axis_stops r i = further (Err r) (then_stops (found_numbers k z (axis_finite x) (axis_ok x)) new_shifts u heard r i)
 
-      pub axis_fits : u ≡ Fits → (w : Verdict) → w ≡ verdict_of new_shifts → w ≡ verdict_of AxisAsks
+      pub axis_fits : u ≡ Ok tt → (w : Check) → w ≡ new_shifts → w ≡ AxisAsks
       axis_fits i w j = further w (then_passes (found_numbers k z (axis_finite x) (axis_ok x)) new_shifts u heard w i j)

@@ -1,6 +1,5 @@
 // All that a fresh run, a new core and new weights ask, in their order.
 ghost use Rattle.std.specs.Prelude.{◌≡◌};
-ghost use Rattle.answers.specs.Outcome.{verdict_of};
 ghost use Rattle.runform.specs.Slices.{outputs, slices, behind_part};
 ghost use Rattle.runform.specs.Kept.{kept_of};
 ghost use Rattle.runform.specs.Checks.{scratch_lent, fresh_ok};
@@ -19,13 +18,13 @@ pub fn fresh_ok(
     carries: usize,
     sums: usize,
     scratch: usize,
-) -> answers::Verdict
-    ensures { result ≡ verdict_of (fresh_ok rules (room_lent s (outputs chain carries sums) scratch)
+) -> Result<(), answers::Refusal>
+    ensures { result ≡ (fresh_ok rules (room_lent s (outputs chain carries sums) scratch)
         (record { shape = s; axes = xs; set = set; source = source.now; weights = weights.now })) }
 {
     let shaped = s.check();
-    if let answers::Verdict::Refused(q) = shaped {
-        return answers::Verdict::Refused(q);
+    if let Err(q) = shaped {
+        return Err(q);
     }
     let l = runform::Lengths {
         source: source.len(),
@@ -35,15 +34,15 @@ pub fn fresh_ok(
         sums,
     };
     let lent = crate::found::lent(s, l);
-    if let answers::Verdict::Refused(q) = lent {
-        return answers::Verdict::Refused(q);
+    if let Err(q) = lent {
+        return Err(q);
     }
     if scratch != checks::scratch_of(s) {
-        return answers::Verdict::Refused(answers::Refusal::Length(runform::SLICES));
+        return Err(answers::Refusal::Length(runform::SLICES));
     }
     let numbers = crate::numeric::numbers_made(s, xs, set, source, weights);
-    if let answers::Verdict::Refused(q) = numbers {
-        return answers::Verdict::Refused(q);
+    if let Err(q) = numbers {
+        return Err(q);
     }
     crate::rooms::reaches_ok(0, set, s, xs)
 }
@@ -59,21 +58,21 @@ pub fn weights_ok(
     sums: &[f64],
     part: &[f64],
     scratch: usize,
-) -> answers::Verdict
-    ensures { result ≡ verdict_of (replace_ok rules (scratch_lent r.shape behind_part scratch)
+) -> Result<(), answers::Refusal>
+    ensures { result ≡ (replace_ok rules (scratch_lent r.shape behind_part scratch)
         (kept_of r (slices source.now weights.now chain.now carries.now sums.now))
         (new_weights z part.now)) }
 {
     let s = r.shape;
     let found = crate::found::found_ok(r, z, source, weights, chain, carries, sums);
-    if let answers::Verdict::Refused(q) = found {
-        return answers::Verdict::Refused(q);
+    if let Err(q) = found {
+        return Err(q);
     }
     if part.len() != s.n[z] {
-        return answers::Verdict::Refused(answers::Refusal::Length(runform::SLICES));
+        return Err(answers::Refusal::Length(runform::SLICES));
     }
     if scratch != checks::scratch_of(s) {
-        return answers::Verdict::Refused(answers::Refusal::Length(runform::BEHIND_PART));
+        return Err(answers::Refusal::Length(runform::BEHIND_PART));
     }
     let finite = lists::all_finite(part);
     crate::numeric::numbers_found(r, z, finite, true, source, weights, chain, carries, sums)
@@ -90,28 +89,28 @@ pub fn core_ok(
     sums: &[f64],
     part: &[f64],
     scratch: usize,
-) -> answers::Verdict
-    ensures { result ≡ verdict_of (replace_ok rules (scratch_lent r.shape behind_part scratch)
+) -> Result<(), answers::Refusal>
+    ensures { result ≡ (replace_ok rules (scratch_lent r.shape behind_part scratch)
         (kept_of r (slices source.now weights.now chain.now carries.now sums.now))
         (new_core z part.now)) }
 {
     let s = r.shape;
     let found = crate::found::found_ok(r, z, source, weights, chain, carries, sums);
-    if let answers::Verdict::Refused(q) = found {
-        return answers::Verdict::Refused(q);
+    if let Err(q) = found {
+        return Err(q);
     }
     if part.len() != s.core_size(z) {
-        return answers::Verdict::Refused(answers::Refusal::Length(runform::SLICES));
+        return Err(answers::Refusal::Length(runform::SLICES));
     }
     if scratch != checks::scratch_of(s) {
-        return answers::Verdict::Refused(answers::Refusal::Length(runform::BEHIND_PART));
+        return Err(answers::Refusal::Length(runform::BEHIND_PART));
     }
     let finite = lists::all_finite(part);
     let numbers = crate::numeric::numbers_found(
         r, z, finite, true, source, weights, chain, carries, sums,
     );
-    if let answers::Verdict::Refused(q) = numbers {
-        return answers::Verdict::Refused(q);
+    if let Err(q) = numbers {
+        return Err(q);
     }
     let set = r.set;
     let xs = r.axes;

@@ -1,7 +1,7 @@
 // What a run is like as it is found: its slices' lengths, and the first zone with a number that isn't finite.
 ghost use Rattle.std.specs.Prelude.{◌≡◌, Bool, true, ◌&&◌, ℕ, ◌≤◌, ◌<◌, eqb, length};
 ghost use Rattle.answers.specs.declared.Refusal.TheVariants.{Number, Setting};
-ghost use Rattle.answers.specs.Outcome.{verdict_of, ◌then◌, demand, demand_each};
+ghost use Rattle.answers.specs.Outcome.{◌then◌, demand, demand_each};
 ghost use Rattle.lists.specs.Lists.{pick, first_not};
 ghost use Rattle.shape.specs.Shapes.{entries_of, all_points};
 ghost use Rattle.shape.specs.Sizes.{SizesWithin};
@@ -11,28 +11,28 @@ ghost use Rattle.runform.specs.Checks.{slices_lent, made_finite};
 ghost use Rattle.runform.specs.Requests.{found_ok};
 
 // Refusal 5 of a run's slices.
-pub fn lent(s: shape::Shape, l: runform::Lengths) -> answers::Verdict
+pub fn lent(s: shape::Shape, l: runform::Lengths) -> Result<(), answers::Refusal>
     requires { SizesWithin s }
-    ensures { result ≡ verdict_of (slices_lent s (lengths_in l)) }
+    ensures { result ≡ slices_lent s (lengths_in l) }
 {
     let entries = s.entries();
     if l.source != entries {
-        return answers::Verdict::Refused(answers::Refusal::Length(0));
+        return Err(answers::Refusal::Length(0));
     }
     if l.weights != s.points() {
-        return answers::Verdict::Refused(answers::Refusal::Length(1));
+        return Err(answers::Refusal::Length(1));
     }
     if l.chain != entries {
-        return answers::Verdict::Refused(answers::Refusal::Length(2));
+        return Err(answers::Refusal::Length(2));
     }
     let d = s.d;
     if l.carries != cuts::carry_offset(s, d) {
-        return answers::Verdict::Refused(answers::Refusal::Length(3));
+        return Err(answers::Refusal::Length(3));
     }
     if l.sums != product::sums::sum_offset(s, d) {
-        return answers::Verdict::Refused(answers::Refusal::Length(4));
+        return Err(answers::Refusal::Length(4));
     }
-    answers::Verdict::Fits
+    Ok(())
 }
 
 // Refusals 1 to 5 of a run and a zone of it.
@@ -44,18 +44,18 @@ pub fn found_ok(
     chain: &[f64],
     carries: &[f64],
     sums: &[f64],
-) -> answers::Verdict
-    ensures { result ≡ verdict_of (found_ok
+) -> Result<(), answers::Refusal>
+    ensures { result ≡ (found_ok
         (kept_of r (slices source.now weights.now chain.now carries.now sums.now)) z) }
 {
     let s = r.shape;
     let bonds = r.bonds;
     let shaped = crate::ranks::shape_ok(s, bonds);
-    if let answers::Verdict::Refused(q) = shaped {
-        return answers::Verdict::Refused(q);
+    if let Err(q) = shaped {
+        return Err(q);
     }
     if z >= s.d {
-        return answers::Verdict::Refused(answers::Refusal::Zone);
+        return Err(answers::Refusal::Zone);
     }
     let l = runform::Lengths {
         source: source.len(),
@@ -129,21 +129,21 @@ pub fn numbers_ok(
     mild: bool,
     setting: usize,
     d: usize,
-) -> answers::Verdict
+) -> Result<(), answers::Refusal>
     ensures { (p q : ℕ → Bool) → number ≡ first_not p d → setting ≡ first_not q d → result
-        ≡ verdict_of (demand lone (Number 0) then demand_each Number p d 0 then demand mild (Setting 0) then demand_each Setting q d 0) }
+        ≡ (demand lone (Number 0) then demand_each Number p d 0 then demand mild (Setting 0) then demand_each Setting q d 0) }
 {
     if !lone {
-        return answers::Verdict::Refused(answers::Refusal::Number(0));
+        return Err(answers::Refusal::Number(0));
     }
     if number < d {
-        return answers::Verdict::Refused(answers::Refusal::Number(number));
+        return Err(answers::Refusal::Number(number));
     }
     if !mild {
-        return answers::Verdict::Refused(answers::Refusal::Setting(0));
+        return Err(answers::Refusal::Setting(0));
     }
     if setting < d {
-        return answers::Verdict::Refused(answers::Refusal::Setting(setting));
+        return Err(answers::Refusal::Setting(setting));
     }
-    answers::Verdict::Fits
+    Ok(())
 }

@@ -1,6 +1,5 @@
 // All that a new axis record asks of the run that it finds, in its order.
 ghost use Rattle.std.specs.Prelude.{◌≡◌};
-ghost use Rattle.answers.specs.Outcome.{verdict_of};
 ghost use Rattle.stepform.specs.Zones.{rules};
 ghost use Rattle.runform.specs.Slices.{slices, slice_count};
 ghost use Rattle.runform.specs.Kept.{kept_of};
@@ -17,26 +16,26 @@ pub fn axis_ok(
     carries: &[f64],
     sums: &[f64],
     scratch: usize,
-) -> answers::Verdict
-    ensures { result ≡ verdict_of (replace_ok rules (scratch_lent r.shape slice_count scratch)
+) -> Result<(), answers::Refusal>
+    ensures { result ≡ (replace_ok rules (scratch_lent r.shape slice_count scratch)
         (kept_of r (slices source.now weights.now chain.now carries.now sums.now))
         (new_axis z a)) }
 {
     let s = r.shape;
     let found = crate::found::found_ok(r, z, source, weights, chain, carries, sums);
-    if let answers::Verdict::Refused(q) = found {
-        return answers::Verdict::Refused(q);
+    if let Err(q) = found {
+        return Err(q);
     }
     if scratch != checks::scratch_of(s) {
-        return answers::Verdict::Refused(answers::Refusal::Length(runform::SLICES));
+        return Err(answers::Refusal::Length(runform::SLICES));
     }
     let finite = axes::axis_finite(a);
     let mild = axes::axis_ok(a);
     let numbers = crate::numeric::numbers_found(
         r, z, finite, mild, source, weights, chain, carries, sums,
     );
-    if let answers::Verdict::Refused(q) = numbers {
-        return answers::Verdict::Refused(q);
+    if let Err(q) = numbers {
+        return Err(q);
     }
     let set = r.set;
     let mut xs = r.axes;

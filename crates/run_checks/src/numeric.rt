@@ -1,6 +1,5 @@
 // Refusals 6 and 7: what a run is made from and what is found of it, in used room.
-ghost use Rattle.std.specs.Prelude.{◌≡◌, ◌≤◌, ◌<◌, length};
-ghost use Rattle.answers.specs.Outcome.{verdict_of, done};
+ghost use Rattle.std.specs.Prelude.{◌≡◌, ◌≤◌, ◌<◌, length, Ok};
 ghost use Rattle.lists.specs.Lists.{first_not};
 ghost use Rattle.shape.specs.Shapes.{shape_ok, entries_of, all_points};
 ghost use Rattle.shape.specs.Sizes.{SizesWithin};
@@ -18,8 +17,8 @@ fn first_bad_number(
     carries: &[f64],
     sums: &[f64],
 ) -> usize
-    requires bonds_value { shape_ok r.shape (rank_ok r.shape r.bonds) ≡ done tt }
-    requires sums_value { slices_lent r.shape (lengths_of (kept_of r (slices source.now weights.now chain.now carries.now sums.now))) ≡ done tt }
+    requires bonds_value { shape_ok r.shape (rank_ok r.shape r.bonds) ≡ Ok tt }
+    requires sums_value { slices_lent r.shape (lengths_of (kept_of r (slices source.now weights.now chain.now carries.now sums.now))) ≡ Ok tt }
     ensures { result ≡ first_not (zone_found
         (kept_of r (slices source.now weights.now chain.now carries.now sums.now))) r.shape.d }
 {
@@ -43,10 +42,10 @@ pub fn numbers_found(
     chain: &[f64],
     carries: &[f64],
     sums: &[f64],
-) -> answers::Verdict
-    requires z_lt_d { (z < r.shape.d) × (shape_ok r.shape (rank_ok r.shape r.bonds) ≡ done tt) }
-    requires sums_value { slices_lent r.shape (lengths_of (kept_of r (slices source.now weights.now chain.now carries.now sums.now))) ≡ done tt }
-    ensures { result ≡ verdict_of (found_numbers
+) -> Result<(), answers::Refusal>
+    requires z_lt_d { (z < r.shape.d) × (shape_ok r.shape (rank_ok r.shape r.bonds) ≡ Ok tt) }
+    requires sums_value { slices_lent r.shape (lengths_of (kept_of r (slices source.now weights.now chain.now carries.now sums.now))) ≡ Ok tt }
+    ensures { result ≡ (found_numbers
         (kept_of r (slices source.now weights.now chain.now carries.now sums.now)) z part axis) }
 {
     let s = r.shape;
@@ -70,10 +69,10 @@ pub fn numbers_made(
     set: stepform::Settings,
     source: &[f64],
     weights: &[f64],
-) -> answers::Verdict
+) -> Result<(), answers::Refusal>
     requires sizes_within { SizesWithin s }
     requires s_in_bounds { (entries_of s ≤ length source.now) × (all_points s ≤ length weights.now) }
-    ensures { result ≡ verdict_of (made_ok
+    ensures { result ≡ (made_ok
         (record { shape = s; axes = xs; set = set; source = source.now; weights = weights.now })) }
 {
     let d = s.d;

@@ -1,6 +1,5 @@
 // Refusals 1 to 3 of a run: its shape, and the ranks that are kept.
 ghost use Rattle.std.specs.Prelude.{◌≡◌, ◌&&◌, ℕ, ◌≤◌, ◌<◌};
-ghost use Rattle.answers.specs.Outcome.{verdict_of};
 ghost use Rattle.lists.specs.Lists.{first_not};
 ghost use Rattle.shape.specs.Limits.{most_axes};
 ghost use Rattle.shape.specs.Shapes.{bond_ok, shape_ok};
@@ -35,23 +34,26 @@ fn first_bad_bond(s: shape::Shape, bonds: [cutform::Bond; shape::MOST_AXES]) -> 
 }
 
 // Refusals 1 to 3, of a shape and the ranks that are kept of it.
-pub fn shape_ok(s: shape::Shape, bonds: [cutform::Bond; shape::MOST_AXES]) -> answers::Verdict
-    ensures { result ≡ verdict_of (shape_ok s (rank_ok s bonds)) }
+pub fn shape_ok(
+    s: shape::Shape,
+    bonds: [cutform::Bond; shape::MOST_AXES],
+) -> Result<(), answers::Refusal>
+    ensures { result ≡ shape_ok s (rank_ok s bonds) }
 {
     let d = s.d;
     if !shape::within(shape::MOST_AXES, d) {
-        return answers::Verdict::Refused(answers::Refusal::Axes);
+        return Err(answers::Refusal::Axes);
     }
     let size = s.first_bad_size();
     if size < d {
-        return answers::Verdict::Refused(answers::Refusal::Size(size));
+        return Err(answers::Refusal::Size(size));
     }
     if s.left[0] != 1 {
-        return answers::Verdict::Refused(answers::Refusal::Ranks(0));
+        return Err(answers::Refusal::Ranks(0));
     }
     let bond = first_bad_bond(s, bonds);
     if bond < d {
-        return answers::Verdict::Refused(answers::Refusal::Ranks(bond));
+        return Err(answers::Refusal::Ranks(bond));
     }
-    answers::Verdict::Fits
+    Ok(())
 }

@@ -1,7 +1,7 @@
 // The numbers of a run in used room, and the shifts that are to be made: refusals 6 and 8.
-ghost use Rattle.std.specs.Prelude.{◌≡◌, ◌+◌, ◌-◌, ◌≤◌, ◌<◌, length, take, drop};
+ghost use Rattle.std.specs.Prelude.{◌≡◌, ◌+◌, ◌-◌, ◌≤◌, ◌<◌, length, take, drop, Ok};
 ghost use Rattle.answers.specs.declared.Refusal.TheVariants.{Reach};
-ghost use Rattle.answers.specs.Outcome.{verdict_of, done, demand_each};
+ghost use Rattle.answers.specs.Outcome.{demand_each};
 ghost use Rattle.lists.specs.Lists.{first_not};
 ghost use Rattle.lists.specs.Floats.{all_finite};
 ghost use Rattle.shape.specs.Shapes.{shape_ok, entries_of};
@@ -27,7 +27,7 @@ fn core_held(
     chain: &[f64],
     k: usize,
 ) -> bool
-    requires { (SizesWithin s) × (shape_ok s (rank_ok s bonds) ≡ done tt) × (k < s.d) × (entries_of s ≤ length chain.now) }
+    requires { (SizesWithin s) × (shape_ok s (rank_ok s bonds) ≡ Ok tt) × (k < s.d) × (entries_of s ≤ length chain.now) }
     ensures { result ≡ core_held s bonds chain.now k }
 {
     let at = s.offset(k);
@@ -42,7 +42,7 @@ fn carry_held(
     carries: &[f64],
     k: usize,
 ) -> bool
-    requires { (SizesWithin s) × (shape_ok s (rank_ok s bonds) ≡ done tt) × (k < s.d) × (all_carries s ≤ length carries.now) }
+    requires { (SizesWithin s) × (shape_ok s (rank_ok s bonds) ≡ Ok tt) × (k < s.d) × (all_carries s ≤ length carries.now) }
     ensures { result ≡ carry_held s bonds carries.now k }
 {
     if k + 1 < s.d {
@@ -59,7 +59,7 @@ fn sums_held(
     sums: &[f64],
     k: usize,
 ) -> bool
-    requires { (SizesWithin s) × (shape_ok s (rank_ok s bonds) ≡ done tt) × (k < s.d) × (all_sums s ≤ length sums.now) }
+    requires { (SizesWithin s) × (shape_ok s (rank_ok s bonds) ≡ Ok tt) × (k < s.d) × (all_sums s ≤ length sums.now) }
     ensures { result ≡ sums_held s bonds sums.now k }
 {
     let at = product::sums::sum_offset(s, k);
@@ -87,7 +87,7 @@ fn zone_held(
     sums: &[f64],
     k: usize,
 ) -> bool
-    requires sizes_within { (SizesWithin s) × (shape_ok s (rank_ok s bonds) ≡ done tt) × (k < s.d) }
+    requires sizes_within { (SizesWithin s) × (shape_ok s (rank_ok s bonds) ≡ Ok tt) × (k < s.d) }
     requires s_in_bounds { (entries_of s ≤ length chain.now) × (all_carries s ≤ length carries.now) × (all_sums s ≤ length sums.now) }
     ensures { result ≡ held_finite s bonds (outputs chain.now carries.now sums.now) k }
 {
@@ -106,7 +106,7 @@ pub fn first_bad_held(
     carries: &[f64],
     sums: &[f64],
 ) -> usize
-    requires sizes_within { (SizesWithin s) × (shape_ok s (rank_ok s bonds) ≡ done tt) }
+    requires sizes_within { (SizesWithin s) × (shape_ok s (rank_ok s bonds) ≡ Ok tt) }
     requires s_in_bounds { (entries_of s ≤ length chain.now) × (all_carries s ≤ length carries.now) × (all_sums s ≤ length sums.now) }
     ensures { result ≡ first_not (held_finite s bonds (outputs chain.now carries.now sums.now)) s.d }
 {
@@ -163,15 +163,15 @@ pub fn reaches_ok(
     set: stepform::Settings,
     s: shape::Shape,
     xs: [stepform::Axis; shape::MOST_AXES],
-) -> answers::Verdict
+) -> Result<(), answers::Refusal>
     requires points_within { PointsWithin s }
     requires z_le_d { z ≤ s.d }
-    ensures { result ≡ verdict_of (demand_each Reach (axis_reaches set s xs) (s.d - z) z) }
+    ensures { result ≡ (demand_each Reach (axis_reaches set s xs) (s.d - z) z) }
 {
     let d = s.d;
     let far = first_too_far(z, set, s, xs);
     if far < d {
-        return answers::Verdict::Refused(answers::Refusal::Reach(far));
+        return Err(answers::Refusal::Reach(far));
     }
-    answers::Verdict::Fits
+    Ok(())
 }

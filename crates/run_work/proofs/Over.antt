@@ -7,10 +7,9 @@ use mathlib.Core.List.{List, map}
 use lib.ListN.{length, take, length-map}
 use lib.Ieee.{Float, nan}
 use Rattle.numbers.specs.Arithmetic.{zero64}
-use Rattle.answers.specs.declared.Verdict.{Verdict}
-use Rattle.answers.specs.declared.Verdict.TheVariants.{Fits, Refused}
-use Rattle.answers.specs.Outcome.{Answer, done, refused, bind, answered}
-use Rattle.answers.proofs.Outcomes.{bind_assoc, bind_cong, bind_done, done_inj, refused_inj, done_refused}
+use Rattle.std.specs.Prelude.{Ok, Err}
+use Rattle.answers.specs.Outcome.{Answer, bind, answered, Check}
+use Rattle.answers.proofs.Outcomes.{bind_assoc, bind_cong, bind_ok, ok_inj, err_inj, ok_err}
 use Rattle.lists.specs.Slots.{offset, slot, write}
 use Rattle.lists.specs.Walks.{walk}
 use Rattle.lists.specs.Floats.{at}
@@ -44,30 +43,30 @@ traces : Inputs → Stepped → Summed → ℕ → Answer Traces
 traces i h u z =
     bind (step_from rules i.set i.shape.d z (carry_at i.shape h z) (zones_from i z)) (λ tr.
     bind (walk (sum_zone rules) z (sums_at i.shape (keep_step i.shape z tr h) u z) (weighed_from i (keep_step i.shape z tr h) z)) (λ e.
-    done (tr, e)))
+    Ok (tr, e)))
 
 abbrev kept : Inputs → Stepped → Summed → ℕ → Traces → Kept
 kept i h u z x = running i (keep_step i.shape z x.0 h) (keep_sums i.shape z x.1 u)
 
-by_traces : (i : Inputs) (h : Stepped) (u : Summed) (z : ℕ) → work_from rules (running i h u) z ≡ bind (traces i h u z) (λ x. done (kept i h u z x))
+by_traces : (i : Inputs) (h : Stepped) (u : Summed) (z : ℕ) → work_from rules (running i h u) z ≡ bind (traces i h u z) (λ x. Ok (kept i h u z x))
 unfolding traces work_from restep sum_from resum
 by_traces i h u z =
     let T = step_from rules i.set i.shape.d z (carry_at i.shape h z) (zones_from i z) in
     let H : List (Carry × Cut) → Stepped = λ tr. keep_step i.shape z tr h in
     let W : List (Carry × Cut) → Answer (List (List Float × Unit {0})) = λ tr. walk (sum_zone rules) z (sums_at i.shape (H tr) u z) (weighed_from i (H tr) z) in
-    bind_assoc T (λ tr. done (H tr)) (λ t. sum_from rules (running i t u) z)
-    ∙ bind_cong T (λ tr. sum_from rules (running i (H tr) u) z) (λ tr. bind (bind (W tr) (λ e. done (tr, e))) (λ x. done (kept i h u z x))) (λ tr _.
-    bind_assoc (W tr) (λ e. done (keep_sums i.shape z e u)) (λ v. done (running i (H tr) v))
-    ∙ sym (bind_assoc (W tr) (λ e. done (tr, e)) (λ x. done (kept i h u z x))))
-    ∙ sym (bind_assoc T (λ tr. bind (W tr) (λ e. done (tr, e))) (λ x. done (kept i h u z x)))
+    bind_assoc T (λ tr. Ok (H tr)) (λ t. sum_from rules (running i t u) z)
+    ∙ bind_cong T (λ tr. sum_from rules (running i (H tr) u) z) (λ tr. bind (bind (W tr) (λ e. Ok (tr, e))) (λ x. Ok (kept i h u z x))) (λ tr _.
+    bind_assoc (W tr) (λ e. Ok (keep_sums i.shape z e u)) (λ v. Ok (running i (H tr) v))
+    ∙ sym (bind_assoc (W tr) (λ e. Ok (tr, e)) (λ x. Ok (kept i h u z x))))
+    ∙ sym (bind_assoc T (λ tr. bind (W tr) (λ e. Ok (tr, e))) (λ x. Ok (kept i h u z x)))
 
 -- what code says of one reading of an answer it says of another
-answered_by : {A B C : Type 0} (o : Answer A) (g : A → B) (f : A → C) (v : Verdict) (y : B) (z : C) → bind o (λ x. done (g x)) ≡ answered v y → ((x : A) → o ≡ done x → g x ≡ y → f x ≡ z) → bind o (λ x. done (f x)) ≡ answered v z
+answered_by : {A B C : Type 0} (o : Answer A) (g : A → B) (f : A → C) (v : Check) (y : B) (z : C) → bind o (λ x. Ok (g x)) ≡ answered v y → ((x : A) → o ≡ Ok x → g x ≡ y → f x ≡ z) → bind o (λ x. Ok (f x)) ≡ answered v z
 unfolding answered
-answered_by (done x) g f Fits y z e h = ap done (h x refl (done_inj e))
-answered_by (done x) g f (Refused q) y z e h = absurd (done_refused e)
-answered_by (refused r) g f Fits y z e h = absurd (done_refused (sym e))
-answered_by (refused r) g f (Refused q) y z e h = ap refused (refused_inj e)
+answered_by (Ok x) g f (Ok _) y z e h = ap Ok (h x refl (ok_inj e))
+answered_by (Ok x) g f (Err q) y z e h = absurd (ok_err e)
+answered_by (Err r) g f (Ok _) y z e h = absurd (ok_err (sym e))
+answered_by (Err r) g f (Err q) y z e h = ap Err (err_inj e)
 
 -- a run by its parts
 run_same : {i : Inputs} {a a' : List Bond} {d d' e e' f f' : List Float} {g g' : Float} → a ≡ a' → d ≡ d' → e ≡ e' → f ≡ f' → g ≡ g'
@@ -134,29 +133,29 @@ module _ (i : Inputs) (shp : Shaped i.shape) (h : Stepped) (u : Summed) (z : ℕ
     unfolding weighed_at
     pairs_same = listed_same (s.d - z) z (weighed_at i new) (weighed_at i' new') (λ j a b. ap (λ (c : Core). (c, points_at s i.weights j)) (core_same j a (omega arith)))
 
-  traced : (tr : List (Carry × Cut)) → step_from rules i.set i.shape.d z (carry_at i.shape h z) (zones_from i z) ≡ done tr → z + length tr ≡ i.shape.d
+  traced : (tr : List (Carry × Cut)) → step_from rules i.set i.shape.d z (carry_at i.shape h z) (zones_from i z) ≡ Ok tr → z + length tr ≡ i.shape.d
   traced tr e = let n : length tr ≡ s.d - z = step_length rules i.set s.d z (carry_at s h z) (zones_from i z) tr e ∙ listed_length (s.d - z) z (zone_at i) in omega arith
 
   traces_same : traces i h u z ≡ traces i' h' u' z
   unfolding traces
   traces_same =
-      let W : Inputs → Stepped → Summed → List (Carry × Cut) → Answer Traces = λ j t v tr. bind (walk (sum_zone rules) z (sums_at s t v z) (weighed_from j t z)) (λ e. done (tr, e)) in
+      let W : Inputs → Stepped → Summed → List (Carry × Cut) → Answer Traces = λ j t v tr. bind (walk (sum_zone rules) z (sums_at s t v z) (weighed_from j t z)) (λ e. Ok (tr, e)) in
       bind_cong (step_from rules i.set s.d z (carry_at s h z) (zones_from i z)) (λ tr. W i (keep_step s z tr h) u tr) (λ tr. W i' (keep_step s z tr h') u' tr) (λ tr o.
       let n = traced tr o in
-      ap (λ (e : List Float). bind (walk (sum_zone rules) z e (weighed_from i (keep_step s z tr h) z)) (λ e. done (tr, e))) (sums_start tr n z M.sum)
-      ∙ ap (λ (ps : List (Core × List Float)). bind (walk (sum_zone rules) z (sums_at s (keep_step s z tr h') u' z) ps) (λ e. done (tr, e))) (pairs_same tr n))
+      ap (λ (e : List Float). bind (walk (sum_zone rules) z e (weighed_from i (keep_step s z tr h) z)) (λ e. Ok (tr, e))) (sums_start tr n z M.sum)
+      ∙ ap (λ (ps : List (Core × List Float)). bind (walk (sum_zone rules) z (sums_at s (keep_step s z tr h') u' z) ps) (λ e. Ok (tr, e))) (pairs_same tr n))
       ∙ ap (λ (o : Answer (List (Carry × Cut))). bind o (λ tr. W i' (keep_step s z tr h') u' tr)) step_same
 
   -- ---- what they leave
-  lengths : (x : Traces) → traces i h u z ≡ done x → (z + length x.0 ≡ i.shape.d) × (z + length x.1 ≡ i.shape.d)
+  lengths : (x : Traces) → traces i h u z ≡ Ok x → (z + length x.0 ≡ i.shape.d) × (z + length x.1 ≡ i.shape.d)
   unfolding traces
   lengths x e =
       let T = step_from rules i.set s.d z (carry_at s h z) (zones_from i z) in
       let W : List (Carry × Cut) → Answer (List (List Float × Unit {0})) = λ tr. walk (sum_zone rules) z (sums_at s (keep_step s z tr h) u z) (weighed_from i (keep_step s z tr h) z) in
-      let A = bind_done T (λ tr. bind (W tr) (λ e. done (tr, e))) x e in
-      let B = bind_done (W A.0) (λ e. done (A.0, e)) x A.2 in
+      let A = bind_ok T (λ tr. bind (W tr) (λ e. Ok (tr, e))) x e in
+      let B = bind_ok (W A.0) (λ e. Ok (A.0, e)) x A.2 in
       let n : length B.0 ≡ s.d - z = walk_length (sum_zone rules) z (sums_at s (keep_step s z A.0 h) u z) (weighed_from i (keep_step s z A.0 h) z) B.0 B.1 ∙ listed_length (s.d - z) z (weighed_at i (keep_step s z A.0 h)) in
-      let p = done_inj B.2 in
+      let p = ok_inj B.2 in
       (ap (λ (y : Traces). z + length y.0) (sym p) ∙ traced A.0 A.1, ap (λ (y : Traces). z + length y.1) (sym p) ∙ omega arith)
 
   -- the figure stands first in the last slot
@@ -182,7 +181,7 @@ module _ (i : Inputs) (shp : Shaped i.shape) (h : Stepped) (u : Summed) (z : ℕ
     abbrev end : Kept
     end = running i (stepped_over a b h t) (summed_over i.shape c u.sums sums')
 
-    ends : (x : Traces) → traces i' h' u' z ≡ done x → kept i' h' u' z x ≡ running i' t (summed_in i.shape sums') → kept i h u z x ≡ end
+    ends : (x : Traces) → traces i' h' u' z ≡ Ok x → kept i' h' u' z x ≡ running i' t (summed_in i.shape sums') → kept i h u z x ≡ end
     unfolding keep_step keep_sums
     ends x o g =
         let n = lengths x (traces_same ∙ o) in
@@ -204,8 +203,8 @@ module _ (i : Inputs) (shp : Shaped i.shape) (h : Stepped) (u : Summed) (z : ℕ
         let figure : (keep_sums s z x.1 u).figure ≡ at sums' (offset (sum_size s) (s.d - 1)) = figure_same (map e x.1) ne ∙ ap (λ (l : List Float). at l (offset (sum_size s) (s.d - 1))) q in
         run_same bonds chain held summed figure
 
-    pub work_over : (v : Verdict) → work_from rules (running i' h' u') z ≡ answered v (running i' t (summed_in i.shape sums')) → work_from rules (running i h u) z ≡ answered v end
+    pub work_over : (v : Check) → work_from rules (running i' h' u') z ≡ answered v (running i' t (summed_in i.shape sums')) → work_from rules (running i h u) z ≡ answered v end
     work_over v e =
         by_traces i h u z
-        ∙ ap (λ (o : Answer Traces). bind o (λ x. done (kept i h u z x))) traces_same
+        ∙ ap (λ (o : Answer Traces). bind o (λ x. Ok (kept i h u z x))) traces_same
         ∙ answered_by (traces i' h' u' z) (kept i' h' u' z) (kept i h u z) v (running i' t (summed_in i.shape sums')) end (sym (by_traces i' h' u' z) ∙ e) ends

@@ -9,8 +9,7 @@ use lib.Seq.{take_at, take-append-le, drop-append-le}
 use lib.Ieee.{Float}
 use mir.Syntax.{w64}
 use mir.Val.{Fits}
-use Rattle.answers.specs.declared.Verdict.{Verdict}
-use Rattle.answers.specs.Outcome.{answered}
+use Rattle.answers.specs.Outcome.{answered, Check}
 use Rattle.lists.specs.Slots.{offset, put}
 use Rattle.lists.proofs.Slots.{offset_suc, offset_mono, put_length}
 use Rattle.shape.specs.declared.Shape.{Shape}
@@ -58,7 +57,7 @@ module _ (s t : Shape) (z : ℕ) (chain weights sums a x u : List Float) (f : x 
   pub front_held : take (length sums - 0) x ≡ sums
   front_held = ap (λ (m : ℕ). take m x) (sub-zero (length sums)) ∙ ap (take (length sums)) f ∙ take_at sums (drop (0 + length sums) a) (length sums) refl
 
-  pub summed_front : (w : List Float) (v : Verdict) → w ≡ weights → sums_from s t chain w z (take (length sums - 0) x) ≡ answered v u → length u ≡ length (take (length sums - 0) x)
+  pub summed_front : (w : List Float) (v : Check) → w ≡ weights → sums_from s t chain w z (take (length sums - 0) x) ≡ answered v u → length u ≡ length (take (length sums - 0) x)
       → sums_from s t chain weights z sums ≡ answered v (take (length sums) (u ++ drop (length sums - 0) x))
   summed_front w v g e n =
       ap (λ (l : List Float). sums_from s t chain l z sums) (sym g)

@@ -1,4 +1,5 @@
 -- The shape of the chain that is kept, core by core; it stands within the source's. Assumes nothing.
+use Rattle.std.specs.Prelude.{Ok}
 use mathlib.Core.Path.{◌≡◌, refl, sym, ap, ◌∙◌, subst}
 use Prim.Native.Nat.{ℕ, suc, ◌+◌, ◌≤◌, ◌<◌}
 use native.Mathlib.Omega.{arith}
@@ -6,7 +7,6 @@ use mathlib.Core.Bool.{Bool, true, false}
 use mathlib.Core.List.{List, []}
 use lib.Dec.{eqb}
 use lib.ListN.{length, get_or, length-set}
-use Rattle.answers.specs.Outcome.{done}
 use Rattle.lists.proofs.Tests.{eqb_is, eqb_not}
 use Rattle.shape.specs.declared.Shape.{Shape}
 use Rattle.shape.specs.Limits.{most_axes, most_points}
@@ -57,7 +57,7 @@ pub ranked_all : (s : Shape) (bonds : List Bond) (t : Shape) (k : ℕ) → Ranke
 ranked_all s bonds t k R l = record { axes = R.axes; points = R.points; left = λ j m. R.left j (omega arith); right = λ j m. R.right j (omega arith); lefts = R.lefts; rights = R.rights }
 
 -- ---- a run whose shape and ranks pass has a chain that stands in the room of its source
-module _ (s : Shape) (bonds : List Bond) (ok : shape_ok s (rank_ok s bonds) ≡ done tt) where
+module _ (s : Shape) (bonds : List Bond) (ok : shape_ok s (rank_ok s bonds) ≡ Ok tt) where
   abbrev shp : Shaped s
   shp = shaped s (rank_ok s bonds) ok
 

@@ -7,9 +7,8 @@ use mathlib.Core.List.{List}
 use lib.ListN.{length}
 use lib.Ieee.{Float}
 use Rattle.answers.specs.declared.Refusal.{Refusal}
-use Rattle.answers.specs.declared.Verdict.{Verdict}
-use Rattle.answers.specs.declared.Verdict.TheVariants.{Fits, Refused}
-use Rattle.answers.specs.Outcome.{answered}
+use Rattle.std.specs.Prelude.{Ok, Err}
+use Rattle.answers.specs.Outcome.{answered, Check}
 use Rattle.lists.specs.Slots.{offset}
 use Rattle.lists.specs.Floats.{at}
 use Rattle.shape.specs.declared.Shape.{Shape}
@@ -122,22 +121,22 @@ module _ (r : Run) (z : ℕ) (weights : List Float) (m : Outputs (List Float)) (
           work_over k.inputs shp k.stepped k.summed z A.zone scratch held summed M' (held_by x work held') summed'
           (offset (core_size s) z) (offset (carry_size s) z) (offset (sum_size s) z) refl refl refl x.verdict own
 
-      pub renew_stops : (q : Refusal) → x.verdict ≡ Refused q → (a : Ran) → a ≡ record { verdict = Refused q; run = r } → Renewed r z weights m scratch a m
+      pub renew_stops : (q : Refusal) → x.verdict ≡ Err q → (a : Ran) → a ≡ record { verdict = Err q; run = r } → Renewed r z weights m scratch a m
       unfolding answered
       renew_stops q f a g = subst (λ (y : Ran). Renewed r z weights m scratch y m) (sym g) (record {
-        work = λ source h. came source h ∙ ap (λ (v : Verdict). answered v (kept_of (run_with r x figure) (slices_with source over))) f;
+        work = λ source h. came source h ∙ ap (λ (v : Check). answered v (kept_of (run_with r x figure) (slices_with source over))) f;
         left = λ p h. (refl, refl);
       })
 
-      pub renew_fits : x.verdict ≡ Fits → (chain' carries' sums' : List Float) (f : Float)
+      pub renew_fits : x.verdict ≡ Ok tt → (chain' carries' sums' : List Float) (f : Float)
           → (f ≡ figure) × (chain' ≡ over_from (offset (core_size r.shape) z) m.chain work)
           × (carries' ≡ over_from (offset (carry_size r.shape) z) m.carries held') × (sums' ≡ over_from (offset (sum_size r.shape) z) m.sums summed')
-          → (a : Ran) → a ≡ record { verdict = Fits; run = run_with r x f } → Renewed r z weights m scratch a (outputs chain' carries' sums')
+          → (a : Ran) → a ≡ record { verdict = Ok tt; run = run_with r x f } → Renewed r z weights m scratch a (outputs chain' carries' sums')
       renew_fits v chain' carries' sums' f c a g = subst (λ (y : Ran). Renewed r z weights m scratch y (outputs chain' carries' sums')) (sym g) (record {
         work = λ source h.
             came source h
-            ∙ ap (λ (y : Verdict). answered y (kept_of (run_with r x figure) (slices_with source over))) v
-            ∙ ap (answered Fits) (parts source (sym c.0) (sym c.1) (sym c.2) (sym c.3));
+            ∙ ap (λ (y : Check). answered y (kept_of (run_with r x figure) (slices_with source over))) v
+            ∙ ap (answered (Ok tt)) (parts source (sym c.0) (sym c.1) (sym c.2) (sym c.3));
         left = λ p h. let n : ◌≡◌ {A = ℕ} 0 1 = cc in let no : ⊥ = omega arith in absurd no;
       })
         where

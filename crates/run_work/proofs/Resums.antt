@@ -1,4 +1,5 @@
 -- The sums from zone z on of a run are those that `product::sums` makes over the chain in its room. Assumes nothing.
+use Rattle.std.specs.Prelude.{Ok}
 use mathlib.Core.Path.{◌≡◌, refl, sym, ap, ◌∙◌}
 use Prim.Native.Nat.{ℕ, zero, suc, ◌-◌, ◌<◌}
 use native.Mathlib.Omega.{arith}
@@ -6,7 +7,7 @@ use mathlib.Core.List.{List, map}
 use lib.ListN.{get_or, take}
 use lib.Ieee.{Float}
 use Rattle.numbers.specs.Arithmetic.{zero64}
-use Rattle.answers.specs.Outcome.{Answer, done, bind}
+use Rattle.answers.specs.Outcome.{Answer, bind}
 use Rattle.answers.proofs.Outcomes.{bind_assoc}
 use Rattle.lists.specs.Lists.{listed}
 use Rattle.lists.specs.Slots.{offset, slot, write}
@@ -49,10 +50,10 @@ module _ (i : Inputs) (h : Stepped) (t : Shape) (R : Ranked i.shape h.bonds t i.
   pairs_same z = listed_same (s.d - z) z (weighed_at i h) (weighed_in s t h.chain i.weights) (λ j a b. ap (λ (c : Core). (c, points_at s i.weights j)) (sym (core_kept s h t R j (omega arith))))
 
   pub resum_is : (u : Summed) (z : ℕ) → z < s.d
-      → resum rules i h u z ≡ bind (sums_from s t h.chain i.weights z u.sums) (λ l. done (record { sums = l; figure = at l (offset (sum_size s) (s.d - 1)) }))
+      → resum rules i h u z ≡ bind (sums_from s t h.chain i.weights z u.sums) (λ l. Ok (record { sums = l; figure = at l (offset (sum_size s) (s.d - 1)) }))
   unfolding resum sums_from keep_sums sum_zone sum_axis rules
   resum_is u z l =
       let W : Answer (List (List Float × Unit {0})) = walk sum_axis z (sums_left s (left_of t z) u.sums z) (listed (s.d - z) z (weighed_in s t h.chain i.weights)) in
-      ap (λ (e : List Float). bind (walk sum_axis z e (weighed_from i h z)) (λ tr. done (keep_sums s z tr u))) (left_sums u z l)
-      ∙ ap (λ (ps : List (Core × List Float)). bind (walk sum_axis z (sums_left s (left_of t z) u.sums z) ps) (λ tr. done (keep_sums s z tr u))) (pairs_same z)
-      ∙ sym (bind_assoc W (λ tr. done (write (sum_size s) zero64 s.d z (map (λ (r : List Float × Unit {0}). r.0) tr) u.sums)) (λ l. done (record { sums = l; figure = at l (offset (sum_size s) (s.d - 1)) })))
+      ap (λ (e : List Float). bind (walk sum_axis z e (weighed_from i h z)) (λ tr. Ok (keep_sums s z tr u))) (left_sums u z l)
+      ∙ ap (λ (ps : List (Core × List Float)). bind (walk sum_axis z (sums_left s (left_of t z) u.sums z) ps) (λ tr. Ok (keep_sums s z tr u))) (pairs_same z)
+      ∙ sym (bind_assoc W (λ tr. Ok (write (sum_size s) zero64 s.d z (map (λ (r : List Float × Unit {0}). r.0) tr) u.sums)) (λ l. Ok (record { sums = l; figure = at l (offset (sum_size s) (s.d - 1)) })))

@@ -8,10 +8,9 @@ use lib.ListN.{length, take, drop, take-append-drop}
 use lib.Ieee.{Float}
 use Rattle.numbers.specs.Arithmetic.{zero64}
 use Rattle.answers.specs.declared.Refusal.{Refusal}
-use Rattle.answers.specs.declared.Verdict.{Verdict}
-use Rattle.answers.specs.declared.Verdict.TheVariants.{Fits, Refused}
-use Rattle.answers.specs.Outcome.{Answer, done, refused, bind, answered}
-use Rattle.answers.proofs.Outcomes.{bind_assoc, bind_done, done_inj}
+use Rattle.std.specs.Prelude.{Ok, Err}
+use Rattle.answers.specs.Outcome.{Answer, bind, answered, Check}
+use Rattle.answers.proofs.Outcomes.{bind_assoc, bind_ok, ok_inj}
 use Rattle.lists.specs.Lists.{pick, listed}
 use Rattle.lists.specs.Slots.{offset, put}
 use Rattle.lists.specs.Walks.{walk}
@@ -37,12 +36,12 @@ use Rattle.run_work.specs.Weights.{weights_end}
 
 module _ (s t : Shape) (work weights : List Float) (z : ℕ) (sums : List Float) where
   -- what stands before zone z is as it was
-  pub sums_before : (p : List Float) → sums_from s t work weights z sums ≡ done p → z ≤ s.d → offset (sum_size s) s.d ≤ length sums → take (offset (sum_size s) z) p ≡ take (offset (sum_size s) z) sums
+  pub sums_before : (p : List Float) → sums_from s t work weights z sums ≡ Ok p → z ≤ s.d → offset (sum_size s) s.d ≤ length sums → take (offset (sum_size s) z) p ≡ take (offset (sum_size s) z) sums
   unfolding sums_from
   sums_before p e l h =
-      let b = bind_done (walk sum_axis z (sums_left s (left_of t z) sums z) (listed (s.d - z) z (weighed_in s t work weights))) _ p e in
+      let b = bind_ok (walk sum_axis z (sums_left s (left_of t z) sums z) (listed (s.d - z) z (weighed_in s t work weights))) _ p e in
       let rows = map (λ (r : List Float × Unit {0}). r.0) b.0 in
-      ap (take (offset (sum_size s) z)) (sym (done_inj b.2))
+      ap (take (offset (sum_size s) z)) (sym (ok_inj b.2))
       ∙ write_before (sum_size s) zero64 s.d z rows sums (omega (arith, offset_mono (sum_size s) z s.d l))
 
 -- ---- the sums that a run has at its end
@@ -50,14 +49,14 @@ abbrev summed_as : Shape → List Float → Summed
 summed_as s l = record { sums = l; figure = at l (offset (sum_size s) (s.d - 1)) }
 
 sum_from_is : (k : Kept) (t : Shape) → Ranked k.inputs.shape k.stepped.bonds t k.inputs.shape.d → (z : ℕ) → z < k.inputs.shape.d
-    → sum_from rules k z ≡ bind (sums_from k.inputs.shape t k.stepped.chain k.inputs.weights z k.summed.sums) (λ l. done (running k.inputs k.stepped (summed_as k.inputs.shape l)))
+    → sum_from rules k z ≡ bind (sums_from k.inputs.shape t k.stepped.chain k.inputs.weights z k.summed.sums) (λ l. Ok (running k.inputs k.stepped (summed_as k.inputs.shape l)))
 unfolding sum_from
 sum_from_is k t R z lt =
     let S = sums_from k.inputs.shape t k.stepped.chain k.inputs.weights z k.summed.sums in
-    ap (λ (o : Answer Summed). bind o (λ u. done (running k.inputs k.stepped u))) (resum_is k.inputs k.stepped t R k.summed z lt)
-    ∙ bind_assoc S (λ l. done (summed_as k.inputs.shape l)) (λ u. done (running k.inputs k.stepped u))
+    ap (λ (o : Answer Summed). bind o (λ u. Ok (running k.inputs k.stepped u))) (resum_is k.inputs k.stepped t R k.summed z lt)
+    ∙ bind_assoc S (λ l. Ok (summed_as k.inputs.shape l)) (λ u. Ok (running k.inputs k.stepped u))
 
-module _ (r : Run) (z : ℕ) (weights chain sums part : List Float) (t : Shape) (R : Ranked r.shape r.bonds t r.shape.d) (lt : z < r.shape.d) (v : Verdict) (p : List Float)
+module _ (r : Run) (z : ℕ) (weights chain sums part : List Float) (t : Shape) (R : Ranked r.shape r.bonds t r.shape.d) (lt : z < r.shape.d) (v : Check) (p : List Float)
     (e : sums_from r.shape t chain (put (point_size r.shape) z part weights) z sums ≡ answered v p) (source carries scratch : List Float) where
   abbrev before : Kept
   before = kept_of r (slices source weights chain carries sums)
@@ -68,33 +67,33 @@ module _ (r : Run) (z : ℕ) (weights chain sums part : List Float) (t : Shape) 
   abbrev end : RunEnd
   end = weights_end r z (slices source weights chain carries sums) part scratch
 
-  summed : sum_from rules anew z ≡ bind (answered v p) (λ l. done (running anew.inputs anew.stepped (summed_as r.shape l)))
-  summed = sum_from_is anew t R z lt ∙ ap (λ (o : Answer (List Float)). bind o (λ l. done (running anew.inputs anew.stepped (summed_as r.shape l)))) e
+  summed : sum_from rules anew z ≡ bind (answered v p) (λ l. Ok (running anew.inputs anew.stepped (summed_as r.shape l)))
+  summed = sum_from_is anew t R z lt ∙ ap (λ (o : Answer (List Float)). bind o (λ l. Ok (running anew.inputs anew.stepped (summed_as r.shape l)))) e
 
-  opened : end ≡ run_end before scratch (bind (answered v p) (λ l. done (running anew.inputs anew.stepped (summed_as r.shape l))))
+  opened : end ≡ run_end before scratch (bind (answered v p) (λ l. Ok (running anew.inputs anew.stepped (summed_as r.shape l))))
   unfolding weights_end
   opened = ap (run_end before scratch) summed
 
-  pub resum_stops : (q : Refusal) → v ≡ Refused q → (a : Ran) → a ≡ record { verdict = Refused q; run = r }
+  pub resum_stops : (q : Refusal) → v ≡ Err q → (a : Ran) → a ≡ record { verdict = Err q; run = r }
       → record { result = a; slices = slices source weights chain carries sums; scratch = zeros (length scratch) } ≡ end
   unfolding run_end scratch_after answered pick
   resum_stops q h a f =
-      let o : sum_from rules anew z ≡ refused q = summed ∙ ap (λ (w : Verdict). bind (answered w p) (λ l. done (running anew.inputs anew.stepped (summed_as r.shape l)))) h in
+      let o : sum_from rules anew z ≡ Err q = summed ∙ ap (λ (w : Check). bind (answered w p) (λ l. Ok (running anew.inputs anew.stepped (summed_as r.shape l)))) h in
       let b = late_sums anew z q o in
       ap (λ (x : Ran). record { result = x; slices = slices source weights chain carries sums; scratch = zeros (length scratch) }) f
       ∙ sym
       (opened
-      ∙ ap (λ (w : Verdict). run_end before scratch (bind (answered w p) (λ l. done (running anew.inputs anew.stepped (summed_as r.shape l))))) h
-      ∙ ap (λ (y : Bool). record { result = record { verdict = Refused q; run = r }; slices = slices source weights chain carries sums; scratch = pick y scratch (zeros (length scratch)) }) b)
+      ∙ ap (λ (w : Check). run_end before scratch (bind (answered w p) (λ l. Ok (running anew.inputs anew.stepped (summed_as r.shape l))))) h
+      ∙ ap (λ (y : Bool). record { result = record { verdict = Err q; run = r }; slices = slices source weights chain carries sums; scratch = pick y scratch (zeros (length scratch)) }) b)
 
   -- x and y are the weights and the sums at the end, and f is the figure
-  pub resum_ends : v ≡ Fits → offset (sum_size r.shape) r.shape.d ≤ length sums → (x y : List Float) (f : Float) (a : Ran)
+  pub resum_ends : v ≡ Ok tt → offset (sum_size r.shape) r.shape.d ≤ length sums → (x y : List Float) (f : Float) (a : Ran)
       → x ≡ put (point_size r.shape) z part weights → y ≡ take (offset (sum_size r.shape) z) sums ++ drop (offset (sum_size r.shape) z) p → f ≡ at y (offset (sum_size r.shape) (r.shape.d - 1))
-      → a ≡ record { verdict = Fits; run = record { shape = r.shape; axes = r.axes; set = r.set; bonds = r.bonds; figure = f } }
+      → a ≡ record { verdict = Ok tt; run = record { shape = r.shape; axes = r.axes; set = r.set; bonds = r.bonds; figure = f } }
       → record { result = a; slices = slices source x chain carries y; scratch = zeros (length scratch) } ≡ end
   unfolding run_end scratch_after answered
   resum_ends h held x y f a g i j l =
-      let o : sums_from r.shape t chain (put (point_size r.shape) z part weights) z sums ≡ done p = e ∙ ap (λ (w : Verdict). answered w p) h in
+      let o : sums_from r.shape t chain (put (point_size r.shape) z part weights) z sums ≡ Ok p = e ∙ ap (λ (w : Check). answered w p) h in
       let n = offset (sum_size r.shape) z in
       let b : y ≡ p = i ∙ ap (λ (u : List Float). u ++ drop n p) (sym (sums_before r.shape t chain (put (point_size r.shape) z part weights) z sums p o (omega arith) held)) ∙ take-append-drop n p in
-      rw (l, j, g, b) (sym (opened ∙ ap (λ (w : Verdict). run_end before scratch (bind (answered w p) (λ l. done (running anew.inputs anew.stepped (summed_as r.shape l))))) h))
+      rw (l, j, g, b) (sym (opened ∙ ap (λ (w : Check). run_end before scratch (bind (answered w p) (λ l. Ok (running anew.inputs anew.stepped (summed_as r.shape l))))) h))

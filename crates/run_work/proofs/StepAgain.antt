@@ -8,10 +8,9 @@ use mathlib.Core.List.{List, [], map}
 use lib.ListN.{length, take, drop, length-map}
 use lib.Seq.{take-take}
 use lib.Ieee.{Float}
-use Rattle.answers.specs.declared.Verdict.{Verdict}
-use Rattle.answers.specs.declared.Verdict.TheVariants.{Fits, Refused}
-use Rattle.answers.specs.Outcome.{Answer, done, bind, answered}
-use Rattle.answers.proofs.Outcomes.{bind_assoc, answered_fits}
+use Rattle.std.specs.Prelude.{Ok, Err}
+use Rattle.answers.specs.Outcome.{Answer, bind, answered, Check}
+use Rattle.answers.proofs.Outcomes.{bind_assoc, answered_ok}
 use Rattle.lists.specs.Lists.{listed}
 use Rattle.lists.specs.Slots.{offset, slot}
 use Rattle.lists.proofs.Tables.{listed_same}
@@ -58,21 +57,21 @@ module _ (s : Shape) (shp : Shaped s) where
     unfolding zone_at
     zones_stand = listed_same (s.d - z) z (zone_in s s xs h.chain) (zone_at i) (λ j a b. ap (λ c. zone c (axis_at xs j)) (core_stands h.chain j))
 
-    held_restep : bind (step_held set s z xs s h) (λ x. done x.1) ≡ restep rules i h z
+    held_restep : bind (step_held set s z xs s h) (λ x. Ok x.1) ≡ restep rules i h z
     unfolding step_held restep
     held_restep =
         let T : Carry → List Zone → Answer (List (Carry × Cut)) = λ c zs. step_from rules set s.d z c zs in
-        bind_assoc (T (carry_left s s h z) (listed (s.d - z) z (zone_in s s xs h.chain))) (λ tr. done (reshaped z s (cores_in tr), keep_step s z tr h)) (λ x. done x.1)
-        ∙ ap (λ (c : Carry). bind (T c (listed (s.d - z) z (zone_in s s xs h.chain))) (λ tr. done (keep_step s z tr h))) (carry_left_lem h z l)
-        ∙ ap (λ (zs : List Zone). bind (T (carry_at s h z) zs) (λ tr. done (keep_step s z tr h))) zones_stand
+        bind_assoc (T (carry_left s s h z) (listed (s.d - z) z (zone_in s s xs h.chain))) (λ tr. Ok (reshaped z s (cores_in tr), keep_step s z tr h)) (λ x. Ok x.1)
+        ∙ ap (λ (c : Carry). bind (T c (listed (s.d - z) z (zone_in s s xs h.chain))) (λ tr. Ok (keep_step s z tr h))) (carry_left_lem h z l)
+        ∙ ap (λ (zs : List Zone). bind (T (carry_at s h z) zs) (λ tr. Ok (keep_step s z tr h))) zones_stand
 
-    second : (v : Verdict) (t : Shape) (h' : Stepped) → bind {A = Shape × Stepped} (answered v (t, h')) (λ x. done x.1) ≡ answered v h'
+    second : (v : Check) (t : Shape) (h' : Stepped) → bind {A = Shape × Stepped} (answered v (t, h')) (λ x. Ok x.1) ≡ answered v h'
     unfolding answered
-    second Fits t h' = refl
-    second (Refused q) t h' = refl
+    second (Ok _) t h' = refl
+    second (Err q) t h' = refl
 
-    pub restep_is : (v : Verdict) (t : Shape) (h' : Stepped) → step_held set s z xs s h ≡ answered v (t, h') → restep rules i h z ≡ answered v h'
-    restep_is v t h' e = sym held_restep ∙ ap (λ (o : Answer (Shape × Stepped)). bind o (λ x. done x.1)) e ∙ second v t h'
+    pub restep_is : (v : Check) (t : Shape) (h' : Stepped) → step_held set s z xs s h ≡ answered v (t, h') → restep rules i h z ≡ answered v h'
+    restep_is v t h' e = sym held_restep ∙ ap (λ (o : Answer (Shape × Stepped)). bind o (λ x. Ok x.1)) e ∙ second v t h'
 
 -- a list has as many places as what is made of it place by place: so an array of records has those of its memory
 pub mapped_long : (X Y : Type 0) (f : X → Y) (l : List X) (n : ℕ) → length (map f l) ≡ n → length l ≡ n
@@ -121,8 +120,8 @@ module _ (z : ℕ) (w : Walked) (set : Settings) (xs : List Axis) (work carries 
   roomy = let b = bond_count w.shape shp.least in let m = shp.most in record { bonds = omega arith; chain = S.cores; carries = S.carried }
 
   pub step_made : (r : Walked) (work' carries' : List Float) → step_held set w.shape z xs w.shape held ≡ answered r.verdict (r.shape, held_by r work' carries')
-      → ((weights : List Float) → restep rules (in_place w.shape xs set work weights) held z ≡ answered r.verdict (held_by r work' carries')) × (r.verdict ≡ Fits → RanksWithin w.shape r.bonds w.shape.d)
+      → ((weights : List Float) → restep rules (in_place w.shape xs set work weights) held z ≡ answered r.verdict (held_by r work' carries')) × (r.verdict ≡ Ok tt → RanksWithin w.shape r.bonds w.shape.d)
   step_made r work' carries' e =
       let R : (weights : List Float) → restep rules (in_place w.shape xs set work weights) held z ≡ answered r.verdict (held_by r work' carries') =
       λ weights. restep_is w.shape shp xs set weights held z S.zone r.verdict r.shape (held_by r work' carries') e in
-      (R, λ f. ranks_after (in_place w.shape xs set work []) shp held (held_by r work' carries') roomy z S.zone S.ranks (R [] ∙ ap (λ (v : Verdict). answered v (held_by r work' carries')) f ∙ answered_fits (held_by r work' carries')))
+      (R, λ f. ranks_after (in_place w.shape xs set work []) shp held (held_by r work' carries') roomy z S.zone S.ranks (R [] ∙ ap (λ (v : Check). answered v (held_by r work' carries')) f ∙ answered_ok (held_by r work' carries')))

@@ -1,7 +1,5 @@
 -- The work from zone z on as memory has it: the sources of the zones from z on stand in the slots that take what is made of them. Definitions for code only.
-use Rattle.std.specs.Prelude.{◌≡◌, ℕ, suc, ◌-◌, ◌≤◌, ◌<◌, true, List, length, Float}
-use Rattle.answers.specs.declared.Verdict.TheVariants.{Fits}
-use Rattle.answers.specs.Outcome.{done}
+use Rattle.std.specs.Prelude.{◌≡◌, ℕ, suc, ◌-◌, ◌≤◌, ◌<◌, true, List, length, Float, Ok}
 use Rattle.lists.specs.Slots.{offset, slot}
 use Rattle.cutform.specs.declared.Bond.{Bond}
 use Rattle.run_slices.specs.Passing.{Beside, over_from}
@@ -35,9 +33,9 @@ RanksWithin s bonds m = (k : ℕ) → k < m → suc k < s.d → (1 ≤ rank_amon
 
 -- what the step from zone z on asks
 pub record Steps (z : ℕ) (w : Walked) (set : Settings) (xs : List Axis) (work carries : List Float) : Type 0 where
-  pub ok : chain_ok w.shape ≡ done tt
+  pub ok : chain_ok w.shape ≡ Ok tt
   pub zone : z < w.shape.d
-  pub fits : w.verdict ≡ Fits
+  pub fits : w.verdict ≡ (Ok tt)
   pub reach : (k : ℕ) → z ≤ k → k < w.shape.d → axis_reaches set w.shape xs k ≡ true
   pub ranks : RanksWithin w.shape w.bonds z
   pub cores : entries_of w.shape ≤ length work

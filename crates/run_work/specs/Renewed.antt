@@ -1,8 +1,7 @@
 -- The work of a run from zone z on, where its checks have passed: what it asks of memory, and what it leaves. Definitions for code only.
-use Rattle.std.specs.Prelude.{◌≡◌, ℕ, ◌≤◌, ◌<◌, true, List, length, Float}
+use Rattle.std.specs.Prelude.{◌≡◌, ℕ, ◌≤◌, ◌<◌, true, List, length, Float, Ok, Err}
 use Rattle.answers.specs.declared.Refusal.{Refusal}
-use Rattle.answers.specs.declared.Verdict.TheVariants.{Fits, Refused}
-use Rattle.answers.specs.Outcome.{done, answered}
+use Rattle.answers.specs.Outcome.{answered}
 use Rattle.lists.specs.Slots.{slot}
 use Rattle.shape.specs.declared.Shape.{Shape}
 use Rattle.shape.specs.Shapes.{chain_ok, core_size, entries_of, all_points}
@@ -22,7 +21,7 @@ SourcesFrom s z source work = (k : ℕ) → z ≤ k → k < s.d → slot (core_s
 
 -- what the checks let through
 pub record RenewAsks (r : Run) (z : ℕ) (weights : List Float) (m : Outputs (List Float)) (scratch : List Float) : Type 0 where
-  pub ok : chain_ok r.shape ≡ done tt
+  pub ok : chain_ok r.shape ≡ Ok tt
   pub zone : z < r.shape.d
   pub reach : (k : ℕ) → z ≤ k → k < r.shape.d → axis_reaches r.set r.shape r.axes k ≡ true
   pub ranks : RanksWithin r.shape r.bonds z
@@ -36,11 +35,11 @@ pub record Renewed (r : Run) (z : ℕ) (weights : List Float) (m : Outputs (List
   pub work : (source : List Float) → SourcesFrom r.shape z source scratch
       → work_from rules (kept_of r (record { source = source; weights = weights; outputs = m })) z
       ≡ answered a.verdict (kept_of a.run (record { source = source; weights = weights; outputs = m' }))
-  pub left : (q : Refusal) → a.verdict ≡ Refused q → (a.run ≡ r) × (m' ≡ m)
+  pub left : (q : Refusal) → a.verdict ≡ Err q → (a.run ≡ r) × (m' ≡ m)
 
 -- the bonds of a run
 abbrev pub walked_of : Run → Walked
-walked_of r = record { verdict = Fits; shape = r.shape; bonds = r.bonds }
+walked_of r = record { verdict = Ok tt; shape = r.shape; bonds = r.bonds }
 
 -- and the run with new ones, and with a new figure
 abbrev pub run_with : Run → Walked → Float → Run

@@ -1,6 +1,5 @@
 // The step and the sums of a run from one zone on, in place: what a fresh run does from zone 0, a replacement from its own.
-ghost use Rattle.std.specs.Prelude.{◌≡◌, List, Float};
-ghost use Rattle.answers.specs.declared.Verdict.TheVariants.{Fits};
+ghost use Rattle.std.specs.Prelude.{◌≡◌, List, Float, Ok};
 ghost use Rattle.answers.specs.Outcome.{answered};
 ghost use Rattle.cuts.specs.Slots.{held_by};
 ghost use Rattle.stepform.specs.Zones.{rules};
@@ -19,7 +18,7 @@ fn step_again(
     requires { Steps z w set xs work.old carries.old }
     ensures { ((weights : List Float) →
         restep rules (in_place w.shape xs set work.old weights) (held_by w work.old carries.old) z
-        ≡ answered result.verdict (held_by result work.new carries.new)) × (result.verdict ≡ Fits → RanksWithin w.shape result.bonds w.shape.d) }
+        ≡ answered result.verdict (held_by result work.new carries.new)) × (result.verdict ≡ Ok tt → RanksWithin w.shape result.bonds w.shape.d) }
 {
     let s = w.shape;
     let mut room = [0.0; shape::MOST_CORE];
@@ -28,7 +27,7 @@ fn step_again(
 }
 
 // The same bonds with another verdict.
-fn judged(verdict: answers::Verdict, w: cuts::Walked) -> cuts::Walked
+fn judged(verdict: Result<(), answers::Refusal>, w: cuts::Walked) -> cuts::Walked
     ensures { result ≡ record { verdict = verdict; shape = w.shape; bonds = w.bonds } }
 {
     let shape = w.shape;
@@ -61,7 +60,7 @@ pub fn redo_from(
     let s = w.shape;
     let stepped = step_again(z, w, set, xs, work, carries);
     let verdict = stepped.verdict;
-    if let answers::Verdict::Refused(q) = verdict {
+    if let Err(q) = verdict {
         return stepped;
     }
     let bonds = stepped.bonds;

@@ -6,15 +6,14 @@ pub mod kept;
 pub mod renewal;
 pub mod weights;
 
-ghost use Rattle.std.specs.Prelude.{◌≡◌};
-ghost use Rattle.answers.specs.declared.Verdict.TheVariants.{Refused};
+ghost use Rattle.std.specs.Prelude.{◌≡◌, Err};
 
 // A refusal leaves the run as it was.
 pub fn refused(q: answers::Refusal, r: runform::Run) -> runform::Ran
-    ensures { result ≡ record { verdict = Refused q; run = r } }
+    ensures { result ≡ record { verdict = Err q; run = r } }
 {
     runform::Ran {
-        verdict: answers::Verdict::Refused(q),
+        verdict: Err(q),
         run: r,
     }
 }

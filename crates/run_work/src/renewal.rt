@@ -1,6 +1,5 @@
 // A run made anew from one zone on: the work goes on in scratch and in arrays of its own, and into the run once nothing can refuse.
-ghost use Rattle.std.specs.Prelude.{◌≡◌, ◌≤◌, ◌<◌, length};
-ghost use Rattle.answers.specs.declared.Verdict.TheVariants.{Fits};
+ghost use Rattle.std.specs.Prelude.{◌≡◌, ◌≤◌, ◌<◌, length, Ok};
 ghost use Rattle.lists.specs.Slots.{put};
 ghost use Rattle.lists.specs.Floats.{zeros};
 ghost use Rattle.shape.specs.Shapes.{core_size, entries_of};
@@ -46,20 +45,20 @@ fn walked_of(r: runform::Run) -> cuts::Walked
     let shape = r.shape;
     let bonds = r.bonds;
     cuts::Walked {
-        verdict: answers::Verdict::Fits,
+        verdict: Ok(()),
         shape,
         bonds,
     }
 }
 
 fn fitted(mut r: runform::Run, w: cuts::Walked, figure: f64) -> runform::Ran
-    ensures { result ≡ record { verdict = Fits; run = run_with r w figure } }
+    ensures { result ≡ record { verdict = Ok tt; run = run_with r w figure } }
 {
     let bonds = w.bonds;
     r.bonds = bonds;
     r.figure = figure;
     runform::Ran {
-        verdict: answers::Verdict::Fits,
+        verdict: Ok(()),
         run: r,
     }
 }
@@ -96,7 +95,7 @@ fn worked(
         &mut summed,
     );
     let verdict = w.verdict;
-    if let answers::Verdict::Refused(q) = verdict {
+    if let Err(q) = verdict {
         return crate::refused(q, r);
     }
     let figure = run_slices::commit(z, s, scratch, &held, &summed, chain, carries, sums);

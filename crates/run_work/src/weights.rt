@@ -1,7 +1,6 @@
 // New weights of one zone: the sums are made apart, and go into the run once nothing can refuse any more.
-ghost use Rattle.std.specs.Prelude.{◌≡◌, List, ◌++◌, ◌-◌, ◌≤◌, ◌<◌, length, take, drop, Float};
-ghost use Rattle.answers.specs.declared.Verdict.TheVariants.{Fits};
-ghost use Rattle.answers.specs.Outcome.{answered, done};
+ghost use Rattle.std.specs.Prelude.{◌≡◌, List, ◌++◌, ◌-◌, ◌≤◌, ◌<◌, length, take, drop, Float, Ok};
+ghost use Rattle.answers.specs.Outcome.{answered};
 ghost use Rattle.lists.specs.Slots.{offset, put};
 ghost use Rattle.lists.specs.Floats.{at, zeros};
 ghost use Rattle.shape.specs.Shapes.{shape_ok, point_size, entries_of, all_points};
@@ -32,7 +31,7 @@ fn sums_anew(
     part: &[f64],
     sums: &[f64],
     held: &mut [f64],
-) -> answers::Verdict
+) -> Result<(), answers::Refusal>
     requires sizes_within { (SizesWithin s) × (Inside s t) × (entries_of s ≤ length chain.now) }
     requires z_lt_d { (z < s.d) × (length part.now ≡ point_size s z) × (length weights.now ≡ all_points s) }
     requires sums_len { (length sums.now ≡ offset (sum_size s) s.d) × (length sums.now ≤ length held.old) }
@@ -72,11 +71,11 @@ fn commit(
 }
 
 fn fitted(mut r: runform::Run, figure: f64) -> runform::Ran
-    ensures { result ≡ record { verdict = Fits; run = record { shape = r.shape; axes = r.axes; set = r.set; bonds = r.bonds; figure = figure } } }
+    ensures { result ≡ record { verdict = Ok tt; run = record { shape = r.shape; axes = r.axes; set = r.set; bonds = r.bonds; figure = figure } } }
 {
     r.figure = figure;
     runform::Ran {
-        verdict: answers::Verdict::Fits,
+        verdict: Ok(()),
         run: r,
     }
 }
@@ -90,7 +89,7 @@ pub fn resummed(
     sums: &mut [f64],
     part: &[f64],
 ) -> runform::Ran
-    requires bonds_value { shape_ok r.shape (rank_ok r.shape r.bonds) ≡ done tt }
+    requires bonds_value { shape_ok r.shape (rank_ok r.shape r.bonds) ≡ Ok tt }
     requires lent { Lent r.shape z part.now weights.old chain.now sums.old }
     ensures { ((source carries scratch : List Float) →
         record {
@@ -105,7 +104,7 @@ pub fn resummed(
     let t = crate::kept::kept_shape(s, bonds);
     let mut held = [0.0; shape::MOST_SUMS];
     let made = sums_anew(z, s, t, chain, weights, part, sums, &mut held);
-    if let answers::Verdict::Refused(q) = made {
+    if let Err(q) = made {
         return crate::refused(q, r);
     }
     let figure = commit(s, z, part, &held, weights, sums);

@@ -1,4 +1,5 @@
 -- Two runs that agree in used room: the checks of a replacement pass or fail alike, and a step from zone z on leaves runs that agree again. Assumes nothing of the rules.
+use Rattle.std.specs.Prelude.{Ok, Err}
 use mathlib.Core.Path.{◌≡◌, refl, sym, ap, ◌∙◌}
 use Prim.Native.Nat.{ℕ, zero, suc, ◌+◌, ◌*◌, ◌≤◌, ◌<◌}
 use native.Mathlib.Omega.{arith}
@@ -10,7 +11,7 @@ use lib.Ieee.{Float}
 use Rattle.numbers.specs.Arithmetic.{zero64}
 use Rattle.numbers.specs.Finite.{finite}
 use Rattle.answers.specs.declared.Refusal.TheVariants.{Zone, Length, Number}
-use Rattle.answers.specs.Outcome.{Answer, done, refused, Check, ◌then◌, demand}
+use Rattle.answers.specs.Outcome.{Answer, Check, ◌then◌, demand}
 use Rattle.answers.proofs.Checks.{then_on, each_same}
 use Rattle.lists.specs.Slots.{slot}
 use Rattle.lists.specs.Lists.{pick}
@@ -54,10 +55,10 @@ pub record Alike (k k' : Kept) : Type 0 where
 
 -- the same refusal, or two runs that agree
 abbrev pub AnswersAlike : Answer Kept → Answer Kept → Type 0
-AnswersAlike (done k) (done k') = Alike k k'
-AnswersAlike (refused r) (refused r') = r ≡ r'
-AnswersAlike (done k) (refused r) = ⊥
-AnswersAlike (refused r) (done k) = ⊥
+AnswersAlike (Ok k) (Ok k') = Alike k k'
+AnswersAlike (Err r) (Err r') = r ≡ r'
+AnswersAlike (Ok k) (Err r) = ⊥
+AnswersAlike (Err r) (Ok k) = ⊥
 
 -- ---- a test at bonds
 pub bond_same : (s : Shape) (k : ℕ) {A : Type 0} (x y z : A) → (suc k < s.d → x ≡ y) → cond (ltb (suc k) s.d) x z ≡ cond (ltb (suc k) s.d) y z

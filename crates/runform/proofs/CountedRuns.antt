@@ -5,9 +5,8 @@ use native.Mathlib.Omega.{arith}
 use mathlib.Core.List.{List, [], ◌∷◌, map}
 use lib.ListN.{length, get_or}
 use lib.Ieee.{Float}
-use Rattle.answers.specs.declared.Verdict.TheVariants.{Fits}
-use Rattle.answers.specs.Outcome.{done}
-use Rattle.answers.proofs.Outcomes.{bind_done, done_inj}
+use Rattle.std.specs.Prelude.{Ok}
+use Rattle.answers.proofs.Outcomes.{bind_ok, ok_inj}
 use Rattle.answers.proofs.Checks.{then_is}
 use Rattle.lists.specs.Slots.{fit, write}
 use Rattle.lists.proofs.Tables.{listed_length}
@@ -39,15 +38,15 @@ use Rattle.runform.proofs.StaysFresh.{ran_fresh, first_fresh}
 use Rattle.runform.proofs.Demand3.{demand3_calls}
 
 -- what a run keeps of its step
-step_kept : (i : Inputs) (k : Kept) → step_then_inner i ≡ done k
-    → (cuts : List (Carry × Cut)) × (step i.set i.axes (cores_of i.shape i.source) ≡ done cuts) × (keep_step i.shape 0 cuts (blank i).stepped ≡ k.stepped)
+step_kept : (i : Inputs) (k : Kept) → step_then_inner i ≡ Ok k
+    → (cuts : List (Carry × Cut)) × (step i.set i.axes (cores_of i.shape i.source) ≡ Ok cuts) × (keep_step i.shape 0 cuts (blank i).stepped ≡ k.stepped)
 unfolding step_then_inner
 step_kept i k h =
-    let A = bind_done (step i.set i.axes (cores_of i.shape i.source)) _ k h in
+    let A = bind_ok (step i.set i.axes (cores_of i.shape i.source)) _ k h in
     let ps = paired i.shape i.weights 0 (cores_in A.0) in
-    let B = bind_done (sums ps) _ k A.2 in
-    let C = bind_done (inner ps) _ k B.2 in
-    (A.0, A.1, ap (λ (x : Kept). x.stepped) (done_inj C.2))
+    let B = bind_ok (sums ps) _ k A.2 in
+    let C = bind_ok (inner ps) _ k B.2 in
+    (A.0, A.1, ap (λ (x : Kept). x.stepped) (ok_inj C.2))
 
 -- an array that keeps one value a bond has bond j's at j
 kept_at : {A : Type 0} (s : Shape) (f : Carry × Cut → List A) (o : A) (cuts : List (Carry × Cut)) (l : List A) (j : ℕ) (a : A) → f no_cut ≡ [] → length cuts ≡ s.d → suc j < s.d
@@ -64,7 +63,7 @@ unfolding keep_step cores_of
 run_counted i k F =
     let s = i.shape in
     let cs = cores_of s i.source in
-    let S = step_kept i k (then_is (fresh_ok rules (done tt) i) (step_then_inner i) k (sym (fresh_is (done tt) i) ∙ ran_fresh rules i k F)).1 in
+    let S = step_kept i k (then_is (fresh_ok rules (Ok tt) i) (step_then_inner i) k (sym (fresh_is (Ok tt) i) ∙ ran_fresh rules i k F)).1 in
     let cuts = S.0 in
     let P = step_parts i.set i.axes cs cuts S.1 in
     let n : length cs ≡ s.d = listed_length s.d 0 (core_at s i.source) in
@@ -78,7 +77,7 @@ run_counted i k F =
 -- and so of the call
 pub fresh_counted : (s : Shape) (axes : List Axis) (t : Settings) (m : Slices (List Float)) (scratch : List Float) → length axes ≡ most_axes
     → let e = fresh_call s axes t m scratch in
-    e.result.verdict ≡ Fits → StepCounted t axes (cores_of s m.source) e.result.run.bonds
+    e.result.verdict ≡ Ok tt → StepCounted t axes (cores_of s m.source) e.result.run.bonds
 fresh_counted s axes t m scratch all e =
     let i = inputs_of s axes t m in
     let room : Room = record { outputs = m.outputs; scratch = scratch } in
@@ -86,7 +85,7 @@ fresh_counted s axes t m scratch all e =
 
 -- and of the run that any calls leave, some of them refused
 pub calls_counted : (s : Shape) (axes : List Axis) (t : Settings) (m : Slices (List Float)) (scratch : List Float) → length axes ≡ most_axes
-    → (fresh_call s axes t m scratch).result.verdict ≡ Fits → (cs : List Asked)
+    → (fresh_call s axes t m scratch).result.verdict ≡ Ok tt → (cs : List Asked)
     → let i = inputs_of s axes t m in
     let k = kept_after (fresh_call s axes t m scratch) in
     let j = present_after_all rules i k cs in

@@ -5,8 +5,8 @@ use mathlib.Core.List.{List, [], ◌∷◌}
 use lib.ListN.{length}
 use lib.Ieee.{Float}
 use Rattle.answers.specs.declared.Refusal.TheVariants.{Length}
-use Rattle.answers.specs.declared.Verdict.TheVariants.{Fits}
-use Rattle.answers.specs.Outcome.{Answer, done, refused, Check, verdict_of}
+use Rattle.std.specs.Prelude.{Ok, Err}
+use Rattle.answers.specs.Outcome.{Answer, Check, verdict_of}
 use Rattle.answers.proofs.Checks.{demand_yes}
 use Rattle.lists.proofs.Tests.{eqb_yes}
 use Rattle.shape.specs.declared.Shape.{Shape}
@@ -44,8 +44,8 @@ module _ (R : Rules) (S : Sound R) where
       room = scratch_lent k.inputs.shape (scratch_place c.request) (length c.scratch)
 
       go : (o : Answer Kept) → replace R room k' c.request ≡ o → AsFresh R (taken_up (verdict_of o) i c.request) (returned k c.slices (kept_after (run_end k' c.scratch o)))
-      go (done x) h = absurd (ne (accepted_lengths R room k' c.request (accepted R room k' x c.request h).0))
-      go (refused r) h = subst (AsFresh R i) (sym (returned_same k c.slices)) F
+      go (Ok x) h = absurd (ne (accepted_lengths R room k' c.request (accepted R room k' x c.request h).0))
+      go (Err r) h = subst (AsFresh R i) (sym (returned_same k c.slices)) F
 
   all_fresh : (i : Inputs) (k : Kept) → AsFresh R i k → (cs : List Asked) → AllLend R k cs → AsFresh R (present_after_all R i k cs) (kept_after_all R k cs)
   all_fresh i k F [] L = F
@@ -54,18 +54,18 @@ module _ (R : Rules) (S : Sound R) where
   -- THE THEOREM. Start from an accepted fresh run on the inputs i, lent the slices m. Then make any replacements, as many as you like
   -- and in any order, each on the run that the last one left, with any part and any scratch, some refused, some lent slices of wrong lengths.
   -- The run is then, in its record and in its slices, bit for bit what a fresh run on the present inputs leaves: on i with every accepted part in.
-  pub demand3 : (i : Inputs) (m : Room) → length i.axes ≡ most_axes → (fresh_by R i m).result.verdict ≡ Fits → (cs : List Asked)
+  pub demand3 : (i : Inputs) (m : Room) → length i.axes ≡ most_axes → (fresh_by R i m).result.verdict ≡ Ok tt → (cs : List Asked)
       → let k = kept_after (fresh_by R i m) in AllLend R k cs → AsFresh R (present_after_all R i k cs) (kept_after_all R k cs)
   demand3 i m all e cs L = all_fresh i (kept_after (fresh_by R i m)) (first_fresh R i m all e) cs L
 
   -- On such a run a replacement whose zone number and lengths are in order is refused exactly when a fresh run with the new part in is,
   -- and with the same refusal.
   pub refused_same : (i : Inputs) (k : Kept) → AsFresh R i k → (q : Request) → InOrder i.shape q
-      → (scratch : List Float) → length scratch ≡ scratch_for (entries_of i.shape) → (m : Room) → room_ok i.shape m ≡ done tt
+      → (scratch : List Float) → length scratch ≡ scratch_for (entries_of i.shape) → (m : Room) → room_ok i.shape m ≡ Ok tt
       → (replace_by R k q scratch).result.verdict ≡ (fresh_by R (present i q) m).result.verdict
   unfolding replace_by run_end fresh_by scratch_lent
   refused_same i k F q O scratch long m lent =
-      let room : scratch_lent k.inputs.shape (scratch_place q) (length scratch) ≡ done tt =
+      let room : scratch_lent k.inputs.shape (scratch_place q) (length scratch) ≡ Ok tt =
       ap (λ (j : Inputs). scratch_lent j.shape (scratch_place q) (length scratch)) F.inputs ∙ demand_yes _ (Length (scratch_place q)) (eqb_yes (length scratch) (scratch_for (entries_of i.shape)) long) in
       ap (λ (c : Check). verdict_of (replace R c k q)) room
       ∙ ap verdict_of (answers_same R S i k F q O)
@@ -91,7 +91,7 @@ module _ (k : Kept) (z : ℕ) (m : Slices Slice) (scratch : List Float) where
 
 -- after an accepted `fresh_call` and any replacements the run is as fresh on the present inputs
 pub demand3_calls : (s : Shape) (axes : List Axis) (t : Settings) (m : Slices (List Float)) (scratch : List Float) → length axes ≡ most_axes
-    → (fresh_call s axes t m scratch).result.verdict ≡ Fits → (cs : List Asked)
+    → (fresh_call s axes t m scratch).result.verdict ≡ Ok tt → (cs : List Asked)
     → let i = inputs_of s axes t m in
     let k = kept_after (fresh_call s axes t m scratch) in
     AllLend rules k cs → AsFresh rules (present_after_all rules i k cs) (kept_after_all rules k cs)

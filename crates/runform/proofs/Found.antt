@@ -1,4 +1,5 @@
 -- A run that a fresh start made passes every check that a replacement makes of what it finds: what is left is asked of the new part. Of the rules only `Sound` is used.
+use Rattle.std.specs.Prelude.{Ok}
 use mathlib.Core.Path.{◌≡◌, refl, ap, ◌∙◌}
 use Prim.Native.Nat.{ℕ, suc, ◌<◌}
 use native.Mathlib.Omega.{arith}
@@ -10,7 +11,7 @@ use lib.Ieee.{Float}
 use Rattle.numbers.specs.Arithmetic.{zero64}
 use Rattle.numbers.specs.Finite.{finite}
 use Rattle.answers.specs.declared.Refusal.TheVariants.{Zone, Length, Number, Setting}
-use Rattle.answers.specs.Outcome.{done, Check, ◌then◌, demand_each}
+use Rattle.answers.specs.Outcome.{Check, ◌then◌, demand_each}
 use Rattle.answers.proofs.Checks.{demand_yes, then_skip, then_on, each_same}
 use Rattle.lists.specs.Lists.{pick}
 use Rattle.lists.specs.Floats.{all_finite}
@@ -73,7 +74,7 @@ module _ (R : Rules) (S : Sound R) (i : Inputs) (T : Trace R i) where
       (and_yes _ _ (sum_finite R S i T k lt)
       (at_bond_lem s k (finite (dropped_among t.bonds k)) (dropped_finite R S i T.step k) (ltb (suc k) s.d) refl)))
 
-  slices_pass : slices_lent s (lengths_of (kept_by T)) ≡ done tt
+  slices_pass : slices_lent s (lengths_of (kept_by T)) ≡ Ok tt
   unfolding keep_step keep_sums blank bare
   slices_pass =
       let I = inputs_are i T.step.ok.lent in
@@ -83,15 +84,15 @@ module _ (R : Rules) (S : Sound R) (i : Inputs) (T : Trace R i) where
       let sums : length u.sums ≡ all_sums s = written_length (sum_size s) zero64 s.d (λ (r : List Float × Unit {0}). r.0) T.sums (sums_length R S i T) in
       lent_passes 0 (lengths_of (kept_by T)) (lengths_for s) cc
 
-  pub shape_passes : shape_ok s (rank_ok s t.bonds) ≡ done tt
+  pub shape_passes : shape_ok s (rank_ok s t.bonds) ≡ Ok tt
   shape_passes = shape_same s (rank_ok s t.bonds) (λ (k : ℕ). true) ranks_pass ∙ T.step.ok.shape
 
   -- 1 to 5
-  pub run_passes : (z : ℕ) → z < i.shape.d → found_ok (kept_by T) z ≡ done tt
+  pub run_passes : (z : ℕ) → z < i.shape.d → found_ok (kept_by T) z ≡ Ok tt
   unfolding found_ok
   run_passes z lt = then_skip _ _ _ shape_passes (then_skip _ _ _ (demand_yes (ltb z s.d) Zone (ltb_yes z s.d lt)) slices_pass)
 
-  pub found_passes : (q : Request) → InOrder i.shape q → replace_ok R (done tt) (kept_by T) q ≡ part_passes R i q
+  pub found_passes : (q : Request) → InOrder i.shape q → replace_ok R (Ok tt) (kept_by T) q ≡ part_passes R i q
   unfolding replace_ok numbers_ok found_numbers part_passes
   found_passes q O =
       let P = T.step.ok in

@@ -1,4 +1,5 @@
 -- What a fresh run holds is what its walks left: carries and sums are read again as the walks' states, kept ranks lie within their bounds, every kept number is finite. Of the rules only `Sound` is used.
+use Rattle.std.specs.Prelude.{Ok}
 use mathlib.Core.Path.{◌≡◌, refl, sym, ap, ◌∙◌, subst}
 use Prim.Native.Nat.{ℕ, zero, suc, ◌-◌, ◌*◌, ◌≤◌, ◌<◌}
 use native.Mathlib.Nat.{zero-add, add-zero, sub-zero, le_refl, mul-le-mul_right}
@@ -11,8 +12,8 @@ use lib.Seq.{get_or-take}
 use lib.Ieee.{Float, nan}
 use Rattle.numbers.specs.Arithmetic.{zero64}
 use Rattle.numbers.specs.Finite.{finite}
-use Rattle.answers.specs.Outcome.{done, bind}
-use Rattle.answers.proofs.Outcomes.{bind_done, done_inj}
+use Rattle.answers.specs.Outcome.{bind}
+use Rattle.answers.proofs.Outcomes.{bind_ok, ok_inj}
 use Rattle.lists.specs.Slots.{offset, slot, fit}
 use Rattle.lists.specs.Walks.{every, walk, state_at}
 use Rattle.lists.specs.Floats.{at, all_finite}
@@ -60,20 +61,20 @@ module _ (R : Rules) (S : Sound R) (i : Inputs) (P : StepTrace R i) where
   abbrev Good : ℕ → Carry × Cut → Type 0
   Good k r = (all_finite r.1.core.entries ≡ true) × (suc k < i.shape.d → Carried (right_of i.shape k) r)
 
-  shift_fine : (k : ℕ) (z : Zone) (c : Core) → Fine k z.core → shift_zone R i.set k z ≡ done c → Fine k c
+  shift_fine : (k : ℕ) (z : Zone) (c : Core) → Fine k z.core → shift_zone R i.set k z ≡ Ok c → Fine k c
   unfolding shift_zone
   shift_fine k z c g h =
-      let A = bind_done (R.shift i.set k z) (λ l. done (holding z.core l)) c h in
-      subst (Fine k) (done_inj A.2) (S.shifted i.set k z A.0 g.0 A.1, g.1)
+      let A = bind_ok (R.shift i.set k z) (λ l. Ok (holding z.core l)) c h in
+      subst (Fine k) (ok_inj A.2) (S.shifted i.set k z A.0 g.0 A.1, g.1)
 
-  scale_fine : (k : ℕ) (c c' : Core) → Fine k c → scale_zone R i.set k c ≡ done c' → Fine k c'
+  scale_fine : (k : ℕ) (c c' : Core) → Fine k c → scale_zone R i.set k c ≡ Ok c' → Fine k c'
   unfolding scale_zone
   scale_fine zero c c' g h =
-      let A = bind_done (R.scale i.set c.entries) (λ l. done (holding c l)) c' h in
-      subst (Fine 0) (done_inj A.2) (S.scaled i.set c.entries A.0 A.1, g.1)
-  scale_fine (suc k) c c' g h = subst (Fine (suc k)) (done_inj h) g
+      let A = bind_ok (R.scale i.set c.entries) (λ l. Ok (holding c l)) c' h in
+      subst (Fine 0) (ok_inj A.2) (S.scaled i.set c.entries A.0 A.1, g.1)
+  scale_fine (suc k) c c' g h = subst (Fine (suc k)) (ok_inj h) g
 
-  round_good : (k : ℕ) (b : Carry) (c : Core) (r : Carry × Cut) → Fine k c → round_zone R i.set i.shape.d k b c ≡ done r → Good k r
+  round_good : (k : ℕ) (b : Carry) (c : Core) (r : Carry × Cut) → Fine k c → round_zone R i.set i.shape.d k b c ≡ Ok r → Good k r
   unfolding round_zone
   round_good k b c r g h = (
     S.rounded i.set (ltb (suc k) i.shape.d) k b c r g.0 h,
@@ -93,8 +94,8 @@ module _ (R : Rules) (S : Sound R) (i : Inputs) (P : StepTrace R i) where
   unfolding step_from
   all_good =
       let round = round_zone R i.set i.shape.d in
-      let A = bind_done (every (shift_zone R i.set) 0 (zones_from i 0)) (λ a. bind (every (scale_zone R i.set) 0 a) (λ b. walk round 0 none b)) P.cuts P.ran in
-      let B = bind_done (every (scale_zone R i.set) 0 A.0) (λ b. walk round 0 none b) P.cuts A.2 in
+      let A = bind_ok (every (shift_zone R i.set) 0 (zones_from i 0)) (λ a. bind (every (scale_zone R i.set) 0 a) (λ b. walk round 0 none b)) P.cuts P.ran in
+      let B = bind_ok (every (scale_zone R i.set) 0 A.0) (λ b. walk round 0 none b) P.cuts A.2 in
       walk_all round Fine Good round_good 0 none B.0 P.cuts
       (every_all (scale_zone R i.set) Fine Fine scale_fine 0 A.0 B.0 (every_all (shift_zone R i.set) (λ (k : ℕ) (z : Zone). Fine k z.core) Fine shift_fine 0 (zones_from i 0) A.0 zones_fine A.1) B.1)
       B.2
@@ -192,12 +193,12 @@ module _ (R : Rules) (S : Sound R) (i : Inputs) (T : Trace R i) where
   abbrev Sum : ℕ → List Float × Unit {0} → Type 0
   Sum k r = (length r.0 ≡ right_rank i.shape (stepped_by i T.step.cuts) k) × (all_finite r.0 ≡ true)
 
-  sum_good : (k : ℕ) (e : List Float) (p : Core × List Float) (r : List Float × Unit {0}) → Right k p → sum_zone R k e p ≡ done r → Sum k r
+  sum_good : (k : ℕ) (e : List Float) (p : Core × List Float) (r : List Float × Unit {0}) → Right k p → sum_zone R k e p ≡ Ok r → Sum k r
   unfolding sum_zone
   sum_good k e p r g h =
-      let A = bind_done (R.weigh k p.0 p.1 e) (λ e'. done (e', tt)) r h in
+      let A = bind_ok (R.weigh k p.0 p.1 e) (λ e'. Ok (e', tt)) r h in
       let W = S.weighed k p.0 p.1 e A.0 A.1 in
-      subst (Sum k) (done_inj A.2) (W.0 ∙ g, W.1)
+      subst (Sum k) (ok_inj A.2) (W.0 ∙ g, W.1)
 
   pub sums_length : length T.sums ≡ i.shape.d
   sums_length = walk_length (sum_zone R) 0 start_sums (weighed_from i (stepped_by i T.step.cuts) 0) T.sums T.ran ∙ listed_length (i.shape.d - 0) 0 (weighed_at i (stepped_by i T.step.cuts)) ∙ sub-zero i.shape.d

@@ -1,4 +1,5 @@
 -- Refusal 5 of slices in a row: passed where the lengths are those that are asked, else given at the first that differs. By recursion over both lists.
+use Rattle.std.specs.Prelude.{Ok, Err}
 use mathlib.Core.Path.{◌≡◌, refl, sym, ap, ◌∙◌}
 use Prim.Native.Nat.{ℕ, zero, suc, ◌+◌}
 use native.Mathlib.Omega.{arith}
@@ -6,19 +7,19 @@ use mathlib.Core.List.{List, [], ◌∷◌, ◌++◌}
 use lib.Dec.{eqb}
 use lib.ListN.{length, take, get_or}
 use Rattle.answers.specs.declared.Refusal.TheVariants.{Length}
-use Rattle.answers.specs.Outcome.{done, refused, Check, ◌then◌, demand}
+use Rattle.answers.specs.Outcome.{Check, ◌then◌, demand}
 use Rattle.answers.proofs.Outcomes.{bind_assoc}
 use Rattle.answers.proofs.Checks.{demand_yes, demand_is, then_is, then_skip}
 use Rattle.lists.proofs.Tests.{eqb_yes, eqb_no, eqb_is}
 use Rattle.runform.specs.Checks.{lent_from}
 
-pub lent_passes : (j : ℕ) (ns ms : List ℕ) → ns ≡ ms → lent_from j ns ms ≡ done tt
+pub lent_passes : (j : ℕ) (ns ms : List ℕ) → ns ≡ ms → lent_from j ns ms ≡ Ok tt
 unfolding lent_from
 lent_passes j [] ms e = refl
 lent_passes j (n ∷ ns) [] e = refl
 lent_passes j (n ∷ ns) (m ∷ ms) e = then_skip _ _ _ (demand_yes _ (Length j) (eqb_yes n m cc)) (lent_passes (suc j) ns ms cc)
 
-pub lent_is : (j : ℕ) (ns ms : List ℕ) → length ns ≡ length ms → lent_from j ns ms ≡ done tt → ns ≡ ms
+pub lent_is : (j : ℕ) (ns ms : List ℕ) → length ns ≡ length ms → lent_from j ns ms ≡ Ok tt → ns ≡ ms
 unfolding lent_from
 lent_is j [] [] l e = refl
 lent_is j [] (m ∷ ms) l e = let n : ⊥ = omega arith in absurd n
@@ -30,15 +31,15 @@ lent_is j (n ∷ ns) (m ∷ ms) l e =
     cc
 
 pub lent_wrong : (i j : ℕ) (ns ms : List ℕ) → length ns ≡ length ms → take j ns ≡ take j ms → ¬ (get_or ns j 0 ≡ get_or ms j 0)
-    → lent_from i ns ms ≡ refused (Length (i + j))
+    → lent_from i ns ms ≡ Err (Length (i + j))
 unfolding lent_from demand
 lent_wrong i j [] [] l b w = absurd (w refl)
 lent_wrong i j [] (m ∷ ms) l b w = let n : ⊥ = omega arith in absurd n
 lent_wrong i j (n ∷ ns) [] l b w = let x : ⊥ = omega arith in absurd x
-lent_wrong i zero (n ∷ ns) (m ∷ ms) l b w = let e : i ≡ i + 0 = omega arith in rw (eqb_no n m w) (ap (λ (k : ℕ). refused (Length k)) e)
+lent_wrong i zero (n ∷ ns) (m ∷ ms) l b w = let e : i ≡ i + 0 = omega arith in rw (eqb_no n m w) (ap (λ (k : ℕ). Err (Length k)) e)
 lent_wrong i (suc j) (n ∷ ns) (m ∷ ms) l b w =
     let e : suc i + j ≡ i + suc j = omega arith in
-    rw (eqb_yes n m cc) (lent_wrong (suc i) j ns ms (omega arith) (cc) w ∙ ap (λ (k : ℕ). refused (Length k)) e)
+    rw (eqb_yes n m cc) (lent_wrong (suc i) j ns ms (omega arith) (cc) w ∙ ap (λ (k : ℕ). Err (Length k)) e)
 
 -- slices asked in two parts, the second behind the first
 pub lent_parts : (j k : ℕ) (ns ms ns' ms' : List ℕ) → length ns ≡ length ms → j + length ns ≡ k

@@ -1,4 +1,5 @@
 -- The kept ranks left and right of a core, by whether there is a bond; where shape and ranks pass they are at most the source's. Assumes nothing.
+use Rattle.std.specs.Prelude.{Ok}
 use mathlib.Core.Path.{◌≡◌, refl, sym, ap, ◌∙◌, subst}
 use Prim.Native.Nat.{ℕ, zero, suc, ◌+◌, ◌-◌, ◌≤◌, ◌<◌}
 use native.Mathlib.Nat.{le_refl}
@@ -6,7 +7,6 @@ use native.Mathlib.Omega.{arith}
 use mathlib.Core.Bool.{Bool, true, false, cond}
 use mathlib.Core.List.{List}
 use lib.Dec.{ltb}
-use Rattle.answers.specs.Outcome.{done}
 use Rattle.lists.proofs.Tests.{ltb_yes, ltb_no, ltb_is, ltb_not}
 use Rattle.shape.specs.declared.Shape.{Shape}
 use Rattle.shape.specs.Limits.{within}
@@ -41,7 +41,7 @@ left_next bonds zero l = let z : ⊥ = omega arith in absurd z
 left_next bonds (suc k) l = let e : suc k - 1 ≡ k = omega arith in ap (λ (j : ℕ). rank_among bonds j) e
 
 -- ---- a run whose shape and ranks pass has a chain that stands in the room of its source
-module _ (s : Shape) (bonds : List Bond) (ok : shape_ok s (rank_ok s bonds) ≡ done tt) where
+module _ (s : Shape) (bonds : List Bond) (ok : shape_ok s (rank_ok s bonds) ≡ Ok tt) where
   abbrev shp : Shaped s
   shp = shaped s (rank_ok s bonds) ok
 

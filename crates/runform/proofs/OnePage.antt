@@ -5,8 +5,8 @@ use native.Mathlib.Omega.{arith}
 use mathlib.Core.List.{List}
 use lib.ListN.{length, length-replicate}
 use lib.Ieee.{Float}
-use Rattle.answers.specs.declared.Verdict.{Verdict}
-use Rattle.answers.specs.declared.Verdict.TheVariants.{Fits}
+use Rattle.std.specs.Prelude.{Ok}
+use Rattle.answers.specs.Outcome.{Check}
 use Rattle.answers.specs.Table.{told_of}
 use Rattle.lists.proofs.Written.{written_from}
 use Rattle.shape.specs.declared.Shape.{Shape}
@@ -51,7 +51,7 @@ trace_arrays i T all =
 fresh_arrays : (i : Inputs) (k : Kept) → AsFresh rules i k → Arrays k
 fresh_arrays i k F = let T = traced rules i k (ran_fresh rules i k F) in subst Arrays T.1 (trace_arrays i T.0 F.array)
 
-alike_by : (v w : Verdict) → v ≡ w → Alike v w
+alike_by : (v w : Check) → v ≡ w → Alike v w
 alike_by v w e = record { same = e; told = ap told_of e }
 
 holds : (i : Inputs) (k : Kept) → AsFresh rules i k → Holds i k
@@ -66,7 +66,7 @@ holds i k F = record {
 
 -- THE THEOREM. After an accepted `fresh_run` and any replacements, in any order, some refused, some lent slices of wrong lengths
 pub one_page : (s : Shape) (axes : List Axis) (t : Settings) (m : Slices (List Float)) (scratch : List Float) → length axes ≡ most_axes
-    → (fresh_call s axes t m scratch).result.verdict ≡ Fits → (cs : List Asked)
+    → (fresh_call s axes t m scratch).result.verdict ≡ Ok tt → (cs : List Asked)
     → let i = inputs_of s axes t m in
     let k = kept_after (fresh_call s axes t m scratch) in
     AllLend rules k cs → Holds (present_after_all rules i k cs) (kept_after_all rules k cs)

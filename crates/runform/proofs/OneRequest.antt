@@ -1,4 +1,5 @@
 -- One replacement on a run that a fresh start made answers what a fresh run with the new part in answers: the same run, or the same refusal. Of the rules only `Sound` is used.
+use Rattle.std.specs.Prelude.{Ok}
 use mathlib.Core.Path.{◌≡◌, refl, sym, ap, ◌∙◌}
 use Prim.Native.Nat.{ℕ, suc, ◌+◌, ◌-◌, ◌≤◌, ◌<◌}
 use native.Mathlib.Nat.{zero-add}
@@ -10,7 +11,7 @@ use lib.ListN.{length, set}
 use lib.Seq.{get_or-set_same, get_or-set_other}
 use lib.Ieee.{Float}
 use Rattle.answers.specs.declared.Refusal.TheVariants.{Number, Setting, Reach}
-use Rattle.answers.specs.Outcome.{done, Check, ◌then◌, demand_each}
+use Rattle.answers.specs.Outcome.{Check, ◌then◌, demand_each}
 use Rattle.answers.proofs.Checks.{demand_yes, then_skip, then_on, each_same, each_yes, each_from}
 use Rattle.lists.specs.Lists.{pick}
 use Rattle.lists.specs.Slots.{offset, slot, put}
@@ -57,7 +58,7 @@ module _ (R : Rules) (S : Sound R) (i : Inputs) (T : Trace R i) where
       → ((k : ℕ) → k < i.shape.d → zone_finite (changed i axes source weights) k ≡ six k)
       → ((k : ℕ) → k < i.shape.d → axis_ok (axis_at axes k) ≡ seven k)
       → demand_each Reach (in_reach_at R (changed i axes source weights)) i.shape.d 0 ≡ eight
-      → fresh_ok R (done tt) (changed i axes source weights) ≡ (demand_each Number six i.shape.d 0 then demand_each Setting seven i.shape.d 0) then eight
+      → fresh_ok R (Ok tt) (changed i axes source weights) ≡ (demand_each Number six i.shape.d 0 then demand_each Setting seven i.shape.d 0) then eight
   unfolding fresh_ok made_ok
   changed_passes axes source weights six seven eight len six-is seven_is eight_is =
       let j = changed i axes source weights in
@@ -123,7 +124,7 @@ module _ (R : Rules) (S : Sound R) (i : Inputs) (T : Trace R i) where
         let rest = and_yes _ _ F.axis F.weights in
         at_zone k z _ (all_finite xs) (λ e. and_last _ _ rest ∙ core_here k e) (λ ne. and_yes _ _ (ap (λ (c : Core). all_finite c.entries) (core_other k ne) ∙ F.core) rest)
 
-    core_one : replace R (done tt) (kept_by T) (new_core z xs) ≡ fresh_run R (done tt) (present i (new_core z xs))
+    core_one : replace R (Ok tt) (kept_by T) (new_core z xs) ≡ fresh_run R (Ok tt) (present i (new_core z xs))
     unfolding replace fresh_run part_passes
     core_one =
         let q = new_core z xs in
@@ -157,7 +158,7 @@ module _ (R : Rules) (S : Sound R) (i : Inputs) (T : Trace R i) where
     axis_mild : (k : ℕ) → k < i.shape.d → axis_ok (axis_at axes' k) ≡ part_ok (new_axis z a) k
     axis_mild k lt = at_zone k z _ (axis_ok a) (λ e. ap axis_ok (axis_here k e)) (λ ne. ap axis_ok (axis_other k ne) ∙ T.step.ok.axes k lt)
 
-    axis_one : replace R (done tt) (kept_by T) (new_axis z a) ≡ fresh_run R (done tt) (present i (new_axis z a))
+    axis_one : replace R (Ok tt) (kept_by T) (new_axis z a) ≡ fresh_run R (Ok tt) (present i (new_axis z a))
     unfolding replace fresh_run part_passes
     axis_one =
         let q = new_axis z a in
@@ -196,16 +197,16 @@ module _ (R : Rules) (S : Sound R) (i : Inputs) (T : Trace R i) where
         (λ e. and_first _ _ _ F.core (and_first _ _ _ F.axis (ap all_finite (weights_here k e))))
         (λ ne. and_yes _ _ F.core (and_yes _ _ F.axis (ap all_finite (weights_other k ne) ∙ F.weights)))
 
-    weights_one : replace R (done tt) (kept_by T) (new_weights z ws) ≡ fresh_run R (done tt) (present i (new_weights z ws))
+    weights_one : replace R (Ok tt) (kept_by T) (new_weights z ws) ≡ fresh_run R (Ok tt) (present i (new_weights z ws))
     unfolding replace fresh_run part_passes
     weights_one =
         let q = new_weights z ws in
         let L : Lent (present i q) = record { source = lent.source; weights = put_length (point_size s) z ws i.weights wide weights_room ∙ lent.weights } in
         let E = each_yes Reach (in_reach_at R (present i q)) i.shape.d 0 (λ k a b. reach_same i.axes i.source weights' k (omega arith) (weights_agree k)) in
-        let F = changed_passes i.axes i.source weights' (part_finite q) (part_ok q) (done tt) L weights_finite (still_mild z) E in
+        let F = changed_passes i.axes i.source weights' (part_finite q) (part_ok q) (Ok tt) L weights_finite (still_mild z) E in
         then_on _ _ _ _ (found_passes R S i T q O ∙ sym F) (sym (sums_same R S i T z O.inside i.axes i.source weights' weights_agree (λ k lt. weights_other k (λ e. omega arith))))
 
-  pub one_request : i.shape.d ≤ length i.axes → (q : Request) → InOrder i.shape q → replace R (done tt) (kept_by T) q ≡ fresh_run R (done tt) (present i q)
+  pub one_request : i.shape.d ≤ length i.axes → (q : Request) → InOrder i.shape q → replace R (Ok tt) (kept_by T) q ≡ fresh_run R (Ok tt) (present i q)
   one_request all (new_core z xs) O = core_one z xs O
   one_request all (new_axis z a) O = axis_one all z a O
   one_request all (new_weights z ws) O = weights_one z ws O

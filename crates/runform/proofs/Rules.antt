@@ -1,4 +1,5 @@
 -- The rules of 000 and 001 are sound, and make as many numbers as they should.
+use Rattle.std.specs.Prelude.{Ok}
 use mathlib.Core.Path.{◌≡◌, sym, ap, ◌∙◌}
 use Prim.Native.Nat.{ℕ}
 use mathlib.Core.Bool.{true}
@@ -7,8 +8,7 @@ use lib.ListN.{length, length-map}
 use lib.Ieee.{Float}
 use Rattle.numbers.specs.Arithmetic.{plus, times, one64}
 use Rattle.answers.specs.declared.Part.TheVariants.{Entry, Sum}
-use Rattle.answers.specs.Outcome.{done}
-use Rattle.answers.proofs.Outcomes.{done_inj}
+use Rattle.answers.proofs.Outcomes.{ok_inj}
 use Rattle.lists.specs.Floats.{all_finite}
 use Rattle.lists.proofs.Tables.{length_tab}
 use Rattle.lists.proofs.Floats.{making_stored}
@@ -25,16 +25,16 @@ use Rattle.runform.proofs.Sound.{Sound, Sized}
 
 -- ---- shift and scaling
 module _ (k : ℕ) (c : Core) (l : List Float) where
-  move_fine : (x : Shift) → all_finite c.entries ≡ true → move_core k x c ≡ done l → all_finite l ≡ true
-  move_fine stay f h = ap all_finite (sym (done_inj h)) ∙ f
+  move_fine : (x : Shift) → all_finite c.entries ≡ true → move_core k x c ≡ Ok l → all_finite l ≡ true
+  move_fine stay f h = ap all_finite (sym (ok_inj h)) ∙ f
   move_fine (by r b) f h = (making_stored Entry k (shifted c r b) l h).1
 
-  move_long : (x : Shift) → length c.entries ≡ volume c → move_core k x c ≡ done l → length l ≡ volume c
+  move_long : (x : Shift) → length c.entries ≡ volume c → move_core k x c ≡ Ok l → length l ≡ volume c
   unfolding shifted
-  move_long stay f h = ap length (sym (done_inj h)) ∙ f
+  move_long stay f h = ap length (sym (ok_inj h)) ∙ f
   move_long (by r b) f h = ap length (sym (making_stored Entry k (shifted c r b) l h).0) ∙ block_length c.rl c.n c.rr _
 
-scale_made : (tau c : Float) (l m : List Float) → scaled tau c l ≡ done m → (length m ≡ length l) × (all_finite m ≡ true)
+scale_made : (tau c : Float) (l m : List Float) → scaled tau c l ≡ Ok m → (length m ≡ length l) × (all_finite m ≡ true)
 unfolding scaled
 scale_made tau c l m h =
     let factor : Float → Float = λ v. times v (plus one64 (times tau c)) in

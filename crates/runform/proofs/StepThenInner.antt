@@ -1,4 +1,5 @@
 -- A fresh run is one step, then the inner product over the step's own cores: what the sums read out of the chain's slots is what the rounding made. The same run, and the same refusals in the same order.
+use Rattle.std.specs.Prelude.{Ok, Err}
 use mathlib.Core.Path.{◌≡◌, refl, sym, ap, ◌∙◌, subst}
 use Prim.Native.Nat.{ℕ, zero, suc, ◌-◌, ◌*◌, ◌≤◌, ◌<◌}
 use native.Mathlib.Nat.{zero-add, sub-zero, le_trans, le_of_eq, mul-le-mul_right, mul-le-mul_left}
@@ -9,8 +10,8 @@ use lib.Dec.{ltb}
 use lib.ListN.{length, take, get_or, length-map, get_or-map}
 use lib.Ieee.{Float}
 use Rattle.numbers.specs.Arithmetic.{zero64}
-use Rattle.answers.specs.Outcome.{Answer, done, refused, bind, Check, ◌then◌}
-use Rattle.answers.proofs.Outcomes.{bind_assoc, bind_done, bind_cong, done_inj}
+use Rattle.answers.specs.Outcome.{Answer, bind, Check, ◌then◌}
+use Rattle.answers.proofs.Outcomes.{bind_assoc, bind_ok, bind_cong, ok_inj}
 use Rattle.lists.specs.Lists.{listed, tab}
 use Rattle.lists.specs.Slots.{slot, fit}
 use Rattle.lists.specs.Walks.{every, walk, state_at}
@@ -67,22 +68,22 @@ module _ (R : Rules) (S : Sound R) (Z : Sized R) (i : Inputs) (P : StepTrace R i
     right : r.1.core.rr ≡ at_bond i.shape k (rank_on r.0 0) (right_of i.shape k)
     long : length r.1.core.entries ≡ volume r.1.core
 
-  shift_of : (k : ℕ) (z : Zone) (c : Core) → Of k z.core → shift_zone R i.set k z ≡ done c → Of k c
+  shift_of : (k : ℕ) (z : Zone) (c : Core) → Of k z.core → shift_zone R i.set k z ≡ Ok c → Of k c
   unfolding shift_zone
   shift_of k z c g h =
-      let A = bind_done (R.shift i.set k z) (λ l. done (holding z.core l)) c h in
+      let A = bind_ok (R.shift i.set k z) (λ l. Ok (holding z.core l)) c h in
       let o : Of k (holding z.core A.0) = record { left = g.left; points = g.points; right = g.right; long = Z.shifted i.set k z A.0 g.long A.1 } in
-      subst (Of k) (done_inj A.2) o
+      subst (Of k) (ok_inj A.2) o
 
-  scale_of : (k : ℕ) (c d : Core) → Of k c → scale_zone R i.set k c ≡ done d → Of k d
+  scale_of : (k : ℕ) (c d : Core) → Of k c → scale_zone R i.set k c ≡ Ok d → Of k d
   unfolding scale_zone
   scale_of zero c d g h =
-      let A = bind_done (R.scale i.set c.entries) (λ l. done (holding c l)) d h in
+      let A = bind_ok (R.scale i.set c.entries) (λ l. Ok (holding c l)) d h in
       let o : Of 0 (holding c A.0) = record { left = g.left; points = g.points; right = g.right; long = Z.scaled i.set c.entries A.0 A.1 ∙ g.long } in
-      subst (Of 0) (done_inj A.2) o
-  scale_of (suc k) c d g h = subst (Of (suc k)) (done_inj h) g
+      subst (Of 0) (ok_inj A.2) o
+  scale_of (suc k) c d g h = subst (Of (suc k)) (ok_inj h) g
 
-  round_of : (k : ℕ) (b : Carry) (c : Core) (r : Carry × Cut) → Of k c → round_zone R i.set i.shape.d k b c ≡ done r → CutHere k b r
+  round_of : (k : ℕ) (b : Carry) (c : Core) (r : Carry × Cut) → Of k c → round_zone R i.set i.shape.d k b c ≡ Ok r → CutHere k b r
   unfolding round_zone
   round_of k b c r g h =
       let C = Z.rounded i.set (ltb (suc k) i.shape.d) k b c r g.long h in
@@ -104,8 +105,8 @@ module _ (R : Rules) (S : Sound R) (Z : Sized R) (i : Inputs) (P : StepTrace R i
   unfolding step_from
   cut_here k lt =
       let round = round_zone R i.set i.shape.d in
-      let A = bind_done (every (shift_zone R i.set) 0 (zones_from i 0)) (λ a. bind (every (scale_zone R i.set) 0 a) (λ b. walk round 0 none b)) P.cuts P.ran in
-      let B = bind_done (every (scale_zone R i.set) 0 A.0) (λ b. walk round 0 none b) P.cuts A.2 in
+      let A = bind_ok (every (shift_zone R i.set) 0 (zones_from i 0)) (λ a. bind (every (scale_zone R i.set) 0 a) (λ b. walk round 0 none b)) P.cuts P.ran in
+      let B = bind_ok (every (scale_zone R i.set) 0 A.0) (λ b. walk round 0 none b) P.cuts A.2 in
       let shifted = every_all (shift_zone R i.set) (λ (k : ℕ) (z : Zone). Of k z.core) Of shift_of 0 (zones_from i 0) A.0 zones_of_lem A.1 in
       let W = walk_from round Of CutHere round_of 0 none B.0 P.cuts (every_all (scale_zone R i.set) Of Of scale_of 0 A.0 B.0 shifted B.1) B.2 in
       let l = cuts_length R S i P in
@@ -195,25 +196,25 @@ module _ (i : Inputs) (P : StepTrace rules i) where
   last_sum e = at (state_at start_sums e (length e)) 0
 
   figure_is : (o : Answer (List (List Float × Unit {0}))) → walk (sum_zone rules) 0 start_sums (weighed_from i (stepped_by i P.cuts) 0) ≡ o
-      → bind (bind o (λ e. done (summed_by i e))) (λ u. done (running i (stepped_by i P.cuts) u)) ≡ bind o (λ e. bind (bind o (λ f. done (last_sum f))) (λ x. done (kept_with e x)))
-  figure_is (done e) h = let T : Trace rules i = record { step = P; sums = e; ran = h } in ap (λ (x : Float). done (kept_with e x)) (figure_read rules rules_sound i T)
-  figure_is (refused r) h = refl
+      → bind (bind o (λ e. Ok (summed_by i e))) (λ u. Ok (running i (stepped_by i P.cuts) u)) ≡ bind o (λ e. bind (bind o (λ f. Ok (last_sum f))) (λ x. Ok (kept_with e x)))
+  figure_is (Ok e) h = let T : Trace rules i = record { step = P; sums = e; ran = h } in ap (λ (x : Float). Ok (kept_with e x)) (figure_read rules rules_sound i T)
+  figure_is (Err r) h = refl
 
   summed_is : sum_from rules (running i (stepped_by i P.cuts) (blank i).summed) 0
-      ≡ (let ps = paired i.shape i.weights 0 (cores_in P.cuts) in bind (sums ps) (λ e. bind (inner ps) (λ x. done (kept_with e x))))
+      ≡ (let ps = paired i.shape i.weights 0 (cores_in P.cuts) in bind (sums ps) (λ e. bind (inner ps) (λ x. Ok (kept_with e x))))
   unfolding sum_from resum sums inner sums_at sum_zone sum_axis rules
   summed_is =
       figure_is (walk (sum_zone rules) 0 start_sums (weighed_from i (stepped_by i P.cuts) 0)) refl
-      ∙ ap (λ (ps : List (Core × List Float)). bind (walk sum_axis 0 start_sums ps) (λ e. bind (bind (walk sum_axis 0 start_sums ps) (λ f. done (last_sum f))) (λ x. done (kept_with e x)))) cores_read
+      ∙ ap (λ (ps : List (Core × List Float)). bind (walk sum_axis 0 start_sums ps) (λ e. bind (bind (walk sum_axis 0 start_sums ps) (λ f. Ok (last_sum f))) (λ x. Ok (kept_with e x)))) cores_read
 
 -- THE FRESH RUN of 000's and 001's rules, refusals and their order too: once the checks pass, one step, then the inner product
 pub fresh_is : (room : Check) (i : Inputs) → fresh_run rules room i ≡ fresh_ok rules room i then step_then_inner i
 unfolding fresh_run work_from restep carry_at blank bare step_then_inner
 fresh_is room i = bind_cong (fresh_ok rules room i) (λ _. work_from rules (blank i) 0) (λ _. step_then_inner i) (λ u e.
     let ok = (passed rules room i e).0 in
-    let rest : List (Carry × Cut) → Answer Kept = λ tr. (let ps = paired i.shape i.weights 0 (cores_in tr) in bind (sums ps) (λ e. bind (inner ps) (λ x. done (running i (stepped_by i tr) (record { sums = (summed_by i e).sums; figure = x }))))) in
+    let rest : List (Carry × Cut) → Answer Kept = λ tr. (let ps = paired i.shape i.weights 0 (cores_in tr) in bind (sums ps) (λ e. bind (inner ps) (λ x. Ok (running i (stepped_by i tr) (record { sums = (summed_by i e).sums; figure = x }))))) in
     let walked = step_from rules i.set i.shape.d 0 none (zones_from i 0) in
-    bind_assoc walked (λ tr. done (stepped_by i tr)) (λ t. sum_from rules (running i t (blank i).summed) 0)
+    bind_assoc walked (λ tr. Ok (stepped_by i tr)) (λ t. sum_from rules (running i t (blank i).summed) 0)
     ∙ bind_cong walked (λ tr. sum_from rules (running i (stepped_by i tr) (blank i).summed) 0) rest (λ tr h. summed_is i (record { ok = ok; cuts = tr; ran = h }))
     ∙ ap (λ (o : Answer (List (Carry × Cut))). bind o rest) (sym (step_is i)))
 

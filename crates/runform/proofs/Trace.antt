@@ -1,4 +1,5 @@
 -- A fresh run taken apart: what its checks say of the inputs, and what its two walks left. Assumes nothing of the rules.
+use Rattle.std.specs.Prelude.{Ok}
 use mathlib.Core.Path.{◌≡◌, refl, ap, ◌∙◌}
 use Prim.Native.Nat.{ℕ, ◌<◌}
 use native.Mathlib.Omega.{arith}
@@ -7,8 +8,8 @@ use mathlib.Core.List.{List}
 use lib.ListN.{length}
 use lib.Ieee.{Float}
 use Rattle.answers.specs.declared.Refusal.TheVariants.{Number, Setting, Reach}
-use Rattle.answers.specs.Outcome.{done, Check}
-use Rattle.answers.proofs.Outcomes.{bind_done, done_inj}
+use Rattle.answers.specs.Outcome.{Check}
+use Rattle.answers.proofs.Outcomes.{bind_ok, ok_inj}
 use Rattle.answers.proofs.Checks.{demand_is, then_is, each_is}
 use Rattle.lists.specs.Walks.{walk}
 use Rattle.lists.specs.Floats.{all_finite}
@@ -30,8 +31,8 @@ use Rattle.runform.proofs.InRow.{lent_passes, lent_is}
 
 -- ---- the checks
 pub record Passed (R : Rules) (i : Inputs) : Type 0 where
-  pub shape : chain_ok i.shape ≡ done tt
-  pub lent : inputs_lent i ≡ done tt
+  pub shape : chain_ok i.shape ≡ Ok tt
+  pub lent : inputs_lent i ≡ Ok tt
   pub lone : lone_finite i.set ≡ true
   pub fine : (k : ℕ) → k < i.shape.d → zone_finite i k ≡ true
   pub mild : lone_ok i.set ≡ true
@@ -39,7 +40,7 @@ pub record Passed (R : Rules) (i : Inputs) : Type 0 where
   pub reach : (k : ℕ) → k < i.shape.d → in_reach_at R i k ≡ true
 
 -- they say this, and that the call had its room
-pub passed : (R : Rules) (room : Check) (i : Inputs) → fresh_ok R room i ≡ done tt → Passed R i × (room ≡ done tt)
+pub passed : (R : Rules) (room : Check) (i : Inputs) → fresh_ok R room i ≡ Ok tt → Passed R i × (room ≡ Ok tt)
 unfolding fresh_ok made_ok
 passed R room i e =
     let a = then_is _ _ tt e in
@@ -67,10 +68,10 @@ pub record Lent (i : Inputs) : Type 0 where
   pub source : length i.source ≡ entries_of i.shape
   pub weights : length i.weights ≡ all_points i.shape
 
-pub inputs_are : (i : Inputs) → inputs_lent i ≡ done tt → Lent i
+pub inputs_are : (i : Inputs) → inputs_lent i ≡ Ok tt → Lent i
 inputs_are i e = let l = lent_is 0 _ _ refl e in record { source = cc; weights = cc }
 
-pub inputs_pass : (i : Inputs) → Lent i → inputs_lent i ≡ done tt
+pub inputs_pass : (i : Inputs) → Lent i → inputs_lent i ≡ Ok tt
 inputs_pass i L = lent_passes 0 _ _ cc
 
 -- refusal 6 of a zone, part by part
@@ -98,27 +99,27 @@ summed_by i e = keep_sums i.shape 0 e (blank i).summed
 pub record StepTrace (R : Rules) (i : Inputs) : Type 0 where
   pub ok : Passed R i
   pub cuts : List (Carry × Cut)
-  pub ran : step_from R i.set i.shape.d 0 none (zones_from i 0) ≡ done cuts
+  pub ran : step_from R i.set i.shape.d 0 none (zones_from i 0) ≡ Ok cuts
 
 -- and the sums over its cores
 pub record Trace (R : Rules) (i : Inputs) : Type 0 where
   pub step : StepTrace R i
   pub sums : List (List Float × Unit {0})
-  pub ran : walk (sum_zone R) 0 start_sums (weighed_from i (stepped_by i step.cuts) 0) ≡ done sums
+  pub ran : walk (sum_zone R) 0 start_sums (weighed_from i (stepped_by i step.cuts) 0) ≡ Ok sums
 
 abbrev pub kept_by : {R : Rules} {i : Inputs} → Trace R i → Kept
 kept_by {R} {i} T = running i (stepped_by i T.step.cuts) (summed_by i T.sums)
 
-pub traced : (R : Rules) (i : Inputs) (k : Kept) → fresh_run R (done tt) i ≡ done k → (T : Trace R i) × (kept_by T ≡ k)
+pub traced : (R : Rules) (i : Inputs) (k : Kept) → fresh_run R (Ok tt) i ≡ Ok k → (T : Trace R i) × (kept_by T ≡ k)
 unfolding fresh_run work_from sum_from restep resum blank bare carry_at sums_at
 traced R i k e =
     let t0 = (blank i).stepped in
     let u0 = (blank i).summed in
-    let A = then_is (fresh_ok R (done tt) i) (work_from R (blank i) 0) k e in
-    let B = bind_done (restep R i t0 0) (λ t. sum_from R (running i t u0) 0) k A.1 in
-    let C = bind_done (step_from R i.set i.shape.d 0 none (zones_from i 0)) (λ tr. done (stepped_by i tr)) B.0 B.1 in
+    let A = then_is (fresh_ok R (Ok tt) i) (work_from R (blank i) 0) k e in
+    let B = bind_ok (restep R i t0 0) (λ t. sum_from R (running i t u0) 0) k A.1 in
+    let C = bind_ok (step_from R i.set i.shape.d 0 none (zones_from i 0)) (λ tr. Ok (stepped_by i tr)) B.0 B.1 in
     let t = stepped_by i C.0 in
-    let h : sum_from R (running i t u0) 0 ≡ done k = ap (λ (x : Stepped). sum_from R (running i x u0) 0) (done_inj C.2) ∙ B.2 in
-    let D = bind_done (resum R i t u0 0) (λ u. done (running i t u)) k h in
-    let E = bind_done (walk (sum_zone R) 0 start_sums (weighed_from i t 0)) (λ e. done (summed_by i e)) D.0 D.1 in
-    (record { step = record { ok = (passed R (done tt) i A.0).0; cuts = C.0; ran = C.1 }; sums = E.0; ran = E.1 }, ap (λ (u : Summed). running i t u) (done_inj E.2) ∙ done_inj D.2)
+    let h : sum_from R (running i t u0) 0 ≡ Ok k = ap (λ (x : Stepped). sum_from R (running i x u0) 0) (ok_inj C.2) ∙ B.2 in
+    let D = bind_ok (resum R i t u0 0) (λ u. Ok (running i t u)) k h in
+    let E = bind_ok (walk (sum_zone R) 0 start_sums (weighed_from i t 0)) (λ e. Ok (summed_by i e)) D.0 D.1 in
+    (record { step = record { ok = (passed R (Ok tt) i A.0).0; cuts = C.0; ran = C.1 }; sums = E.0; ran = E.1 }, ap (λ (u : Summed). running i t u) (ok_inj E.2) ∙ ok_inj D.2)

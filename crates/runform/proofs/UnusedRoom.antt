@@ -7,7 +7,7 @@ use mathlib.Core.List.{List, map}
 use lib.ListN.{length, take, length-map}
 use lib.Ieee.{Float, nan}
 use Rattle.numbers.specs.Arithmetic.{zero64}
-use Rattle.answers.specs.Outcome.{Answer, done, refused, bind, Check, ◌then◌}
+use Rattle.answers.specs.Outcome.{Answer, bind, Check, ◌then◌}
 use Rattle.lists.specs.Slots.{offset, slot}
 use Rattle.lists.specs.Walks.{walk}
 use Rattle.lists.specs.Floats.{at}
@@ -29,7 +29,7 @@ use Rattle.runform.specs.Kept.{Inputs, Summed, Kept, running, all_sums, zone_at,
 use Rattle.cutform.specs.Keeping.{Stepped, rank_at, keep_step}
 use Rattle.runform.specs.Work.{keep_sums, sum_zone, restep, resum, sum_from, work_from}
 use Rattle.runform.proofs.Before.{Roomy, right_before}
-use Rattle.answers.specs.declared.Verdict.TheVariants.{Refused}
+use Rattle.std.specs.Prelude.{Err, Ok}
 use Rattle.runform.specs.Checks.{rank_ok, scratch_lent}
 use Rattle.runform.specs.Requests.{Request, new_core, new_axis, new_weights, present, InOrder, replace_ok, redo, replace}
 use Rattle.runform.specs.Call.{RunEnd, scratch_place, run_end, replace_by}
@@ -107,7 +107,7 @@ module _ (i : Inputs) (shp : Shaped i.shape) (t t' : Stepped) (steps : AlikeStep
   sum_alike R = subst (λ (o : Answer (List (List Float × Unit {0}))). AnswersAlike (of t u walked) (of t' u' o)) same (go walked refl)
     where
       of : Stepped → Summed → Answer (List (List Float × Unit {0})) → Answer Kept
-      of a b o = bind (bind o (λ e. done (keep_sums s z e b))) (λ v. done (running i a v))
+      of a b o = bind (bind o (λ e. Ok (keep_sums s z e b))) (λ v. Ok (running i a v))
 
       walked : Answer (List (List Float × Unit {0}))
       walked = walk (sum_zone R) z (sums_at s t u z) (weighed_from i t z)
@@ -116,8 +116,8 @@ module _ (i : Inputs) (shp : Shaped i.shape) (t t' : Stepped) (steps : AlikeStep
       same = ap (λ (e : List Float). walk (sum_zone R) z e (weighed_from i t z)) (sums_start z (le_refl z)) ∙ ap (walk (sum_zone R) z (sums_at s t' u' z)) weighed_same
 
       go : (o : Answer (List (List Float × Unit {0}))) → walked ≡ o → AnswersAlike (of t u o) (of t' u' o)
-      go (refused r) h = refl
-      go (done e) h =
+      go (Err r) h = refl
+      go (Ok e) h =
           let n : length e ≡ s.d - z = walk_length (sum_zone R) z (sums_at s t u z) (weighed_from i t z) e h ∙ listed_length (s.d - z) z (weighed_at i t) in
           summed_alike e (omega arith)
 
@@ -135,14 +135,14 @@ module _ (R : Rules) (i : Inputs) (shp : Shaped i.shape) (t t' : Stepped) (u u' 
   work_alike = subst (λ (b : Carry). AnswersAlike (of t u (walked (carry_at i.shape t z))) (of t' u' (walked b))) (carry_same z inside) (go (walked (carry_at i.shape t z)) refl)
     where
       of : Stepped → Summed → Answer (List (Carry × Cut)) → Answer Kept
-      of a b o = bind (bind o (λ c. done (keep_step i.shape z c a))) (λ a'. sum_from R (running i a' b) z)
+      of a b o = bind (bind o (λ c. Ok (keep_step i.shape z c a))) (λ a'. sum_from R (running i a' b) z)
 
       walked : Carry → Answer (List (Carry × Cut))
       walked b = step_from R i.set i.shape.d z b (zones_from i z)
 
       go : (o : Answer (List (Carry × Cut))) → walked (carry_at i.shape t z) ≡ o → AnswersAlike (of t u o) (of t' u' o)
-      go (refused r) h = refl
-      go (done c) h =
+      go (Err r) h = refl
+      go (Ok c) h =
           let s = i.shape in
           let n : length c ≡ s.d - z = step_length R i.set s.d z (carry_at s t z) (zones_from i z) c h ∙ listed_length (s.d - z) z (zone_at i) in
           let whole : z + length c ≡ s.d = omega arith in
@@ -173,8 +173,8 @@ module _ (R : Rules) (i : Inputs) (t t' : Stepped) (u u' : Summed) (A : Arrays (
       new' = redo R q (running (present i q) t' u')
 
       go : (c : Check) → replace_ok R room (running i t u) q ≡ c → AnswersAlike (c then new) (c then new')
-      go (refused r) h = refl
-      go (done tt) h =
+      go (Err r) h = refl
+      go (Ok _) h =
           let s = i.shape in
           let P = checks_say R room (running i t u) q h in
           let P' = checks_say R room (running i t' u') q (sym (checks_same R i t t' u u' E room q) ∙ h) in
@@ -192,10 +192,10 @@ pub record EndsAlike (e e' : RunEnd) : Type 0 where
 
 ends_alike : (k k' : Kept) → Alike k k' → (scratch : List Float) (o o' : Answer Kept) → AnswersAlike o o' → EndsAlike (run_end k scratch o) (run_end k' scratch o')
 unfolding run_end
-ends_alike k k' E scratch (done a) (done b) h = record { verdict = refl; kept = h }
-ends_alike k k' E scratch (refused r) (refused r') h = record { verdict = ap Refused h; kept = E }
-ends_alike k k' E scratch (done a) (refused r) h = absurd h
-ends_alike k k' E scratch (refused r) (done a) h = absurd h
+ends_alike k k' E scratch (Ok a) (Ok b) h = record { verdict = refl; kept = h }
+ends_alike k k' E scratch (Err r) (Err r') h = record { verdict = ap Err h; kept = E }
+ends_alike k k' E scratch (Ok a) (Err r) h = absurd h
+ends_alike k k' E scratch (Err r) (Ok a) h = absurd h
 
 -- UNUSED ROOM NEVER MATTERS
 pub unused_room : (R : Rules) (k k' : Kept) → Arrays k → Arrays k' → Alike k k' → (q : Request) (scratch : List Float) → EndsAlike (replace_by R k q scratch) (replace_by R k' q scratch)

@@ -1,11 +1,10 @@
 -- Small runs, as one list: what the calls give, and what is written here. Definitions only.
 -- D is the chain of the scope's hand sums, with weights (1,2) and (1); nothing moves but by the new axis record.
-use Rattle.std.specs.Prelude.{ℕ, ◌≡◌, Bool, true, false, List, [], ◌∷◌, ◌++◌, map, pos, negsuc, replicate, Float}
+use Rattle.std.specs.Prelude.{ℕ, ◌≡◌, Bool, true, false, List, [], ◌∷◌, ◌++◌, map, pos, negsuc, replicate, Float, Ok, Err}
 use Rattle.std.specs.Float.{fin, nan, binary64}
 use Rattle.std.specs.Float.Ieee.{to_bits}
 use Rattle.numbers.specs.Arithmetic.{zero64, one64, two64}
-use Rattle.answers.specs.declared.Verdict.{Verdict}
-use Rattle.answers.specs.declared.Verdict.TheVariants.{Fits, Refused}
+use Rattle.answers.specs.Outcome.{Check}
 use Rattle.answers.specs.Table.{told_of}
 use Rattle.lists.specs.Floats.{zeros}
 use Rattle.shape.specs.declared.Shape.{Shape}
@@ -62,10 +61,10 @@ abbrev scratch : List Float
 scratch = zeros (scratch_for 6)
 
 -- ---- what a call leaves: what is told of a refusal, or the first rank, what its bond dropped, the figure, the chain, the carries and the sums
-abbrev pub shown : Kept → Verdict → List ℕ
-shown k Fits =
+abbrev pub shown : Kept → Check → List ℕ
+shown k (Ok _) =
     rank_at k.stepped 0 ∷ bits (dropped_among k.stepped.bonds 0 ∷ k.summed.figure ∷ (k.stepped.chain ++ (k.stepped.carries ++ k.summed.sums)))
-shown k (Refused r) = told_of (Refused r)
+shown k (Err r) = told_of (Err r)
 
 abbrev pub told : RunEnd → List ℕ
 told e = shown (kept_after e) e.result.verdict
@@ -131,7 +130,7 @@ cases =
     ∷ case (after kept (new_core 1 new)) (holding (number 3 1) two64 one64 (number 7 1))
     ∷ case (after kept (new_weights 0 (one64 ∷ one64 ∷ []))) (holding (number 3 0) one64 one64 (number 7 0))
     -- core 1 is carried over by 0, 4, 3, 0; the record b = 1 moves it by one of its two points, so that 1, 3 and 5, 7 become 2, 2 and 6, 6
-    ∷ case (shown wide Fits) (widely (number 20 0) (number 28 0) (number 3 0) (number 9 0) (number 173 0))
+    ∷ case (shown wide (Ok tt)) (widely (number 20 0) (number 28 0) (number 3 0) (number 9 0) (number 173 0))
     ∷ case (moved (axis_of zero64 one64)) (widely (number 24 0) (number 24 0) (number 6 0) (number 6 0) (number 162 0))
     -- where its axis reflects, they become 1.5, 2.5 and 5.5, 6.5
     ∷ case (moved (edged_of reflecting one64)) (widely (number 22 0) (number 26 0) (fin false 9 (negsuc 0))

@@ -1,8 +1,8 @@
 -- The checks of a fresh run and what they share with a replacement's. Definitions only.
-use Rattle.std.specs.Prelude.{ℕ, suc, Bool, true, ◌&&◌, List, [], ◌∷◌, eqb, length, Float}
+use Rattle.std.specs.Prelude.{ℕ, suc, Bool, true, ◌&&◌, List, [], ◌∷◌, eqb, length, Float, Ok}
 use Rattle.numbers.specs.Finite.{finite}
 use Rattle.answers.specs.declared.Refusal.TheVariants.{Length, Number, Setting, Reach}
-use Rattle.answers.specs.Outcome.{Answer, done, Check, ◌then◌, demand, demand_each}
+use Rattle.answers.specs.Outcome.{Answer, Check, ◌then◌, demand, demand_each}
 use Rattle.lists.specs.Floats.{all_finite}
 use Rattle.shape.specs.declared.Shape.{Shape}
 use Rattle.shape.specs.Limits.{within, scratch_for}
@@ -27,8 +27,8 @@ rank_ok s bonds k = at_bond s k (within (right_of s k) (rank_among bonds k)) tru
 -- ---- 5: slices that have these lengths and are to have those, the first being slice j
 unfoldable pub lent_from : ℕ → List ℕ → List ℕ → Check
 lent_from j (n ∷ ns) (m ∷ ms) = demand (eqb n m) (Length j) then lent_from (suc j) ns ms
-lent_from j (n ∷ ns) [] = done tt
-lent_from j [] ms = done tt
+lent_from j (n ∷ ns) [] = Ok tt
+lent_from j [] ms = Ok tt
 
 -- all slices of a run
 abbrev pub slices_lent : Shape → List ℕ → Check

@@ -1,11 +1,10 @@
 -- Runs at the edges of their rules: two flaws at once, what others spoilt, every length, unused room, and what a refused fresh run leaves. Definitions only.
-use Rattle.std.specs.Prelude.{ℕ, ◌≡◌, true, false, List, [], ◌∷◌, ◌++◌, pos, negsuc, replicate, Float}
+use Rattle.std.specs.Prelude.{ℕ, ◌≡◌, true, false, List, [], ◌∷◌, ◌++◌, pos, negsuc, replicate, Float, Err}
 use Rattle.std.specs.Float.{fin, inf, nan}
 use Rattle.numbers.specs.Arithmetic.{zero64, one64, two64}
 use Rattle.answers.specs.declared.Part.TheVariants.{Spectrum}
 use Rattle.answers.specs.declared.Refusal.{Refusal}
 use Rattle.answers.specs.declared.Refusal.TheVariants.{Reach, Stored}
-use Rattle.answers.specs.declared.Verdict.TheVariants.{Refused}
 use Rattle.lists.specs.Floats.{zeros}
 use Rattle.shape.specs.declared.Shape.{Shape}
 use Rattle.shape.specs.Limits.{scratch_for}
@@ -229,7 +228,7 @@ LeavesNothing r xs t source after =
     ending xs t source weights
     ≡ record {
       result = record {
-        verdict = Refused r;
+        verdict = Err r;
         run = record {
           shape = shape_of 2 1;
           axes = xs;

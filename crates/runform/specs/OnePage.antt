@@ -1,10 +1,8 @@
 -- DEMAND 3 of a run, whole. Definitions only; proofs/OnePage.antt has the theorem.
-use Rattle.std.specs.Prelude.{◌≡◌, ℕ, ◌≤◌, ◌<◌, List, length, take, get_or, Float}
+use Rattle.std.specs.Prelude.{◌≡◌, ℕ, ◌≤◌, ◌<◌, List, length, take, get_or, Float, Ok, Err}
 use Rattle.answers.specs.declared.Refusal.{Refusal}
 use Rattle.answers.specs.declared.Refusal.TheVariants.{Zone, Length}
-use Rattle.answers.specs.declared.Verdict.{Verdict}
-use Rattle.answers.specs.declared.Verdict.TheVariants.{Fits, Refused}
-use Rattle.answers.specs.Outcome.{done}
+use Rattle.answers.specs.Outcome.{Check}
 use Rattle.answers.specs.Table.{told_of}
 use Rattle.shape.specs.Limits.{scratch_for}
 use Rattle.shape.specs.Shapes.{entries_of}
@@ -21,7 +19,7 @@ pub record FirstWrong (j : ℕ) (xs ys : List ℕ) : Type 0 where
   pub wrong : ¬ (get_or xs j 0 ≡ get_or ys j 0)
 
 -- two verdicts that are the same, and are told alike: by number, core and index, or both by nothing
-pub record Alike (v w : Verdict) : Type 0 where
+pub record Alike (v w : Check) : Type 0 where
   pub same : v ≡ w
   pub told : told_of v ≡ told_of w
 
@@ -30,16 +28,16 @@ pub record Holds (i : Inputs) (k : Kept) : Type 0 where
   -- "every kept number is bit for bit that of a fresh run on the present inputs"
   pub fresh : AsFresh rules i k
   -- "zones before the replaced one are not written"
-  pub before : (q : Request) (scratch : List Float) → (replace_by rules k q scratch).result.verdict ≡ Fits
+  pub before : (q : Request) (scratch : List Float) → (replace_by rules k q scratch).result.verdict ≡ Ok tt
       → Left k (kept_after (replace_by rules k q scratch)) q
   -- "a replacement is refused exactly when the fresh run would be, with the same number and place", which is core and index
   pub alike : (q : Request) → InOrder i.shape q → (scratch : List Float) → length scratch ≡ scratch_for (entries_of i.shape)
-      → (m : Room) → room_ok i.shape m ≡ done tt
+      → (m : Room) → room_ok i.shape m ≡ Ok tt
       → Alike (replace_by rules k q scratch).result.verdict (fresh_by rules (present i q) m).result.verdict
   -- "a refused call leaves all": what it was lent, the run's own or not, and the run
-  pub left : (c : Asked) (r : Refusal) → (end_of rules k c).result.verdict ≡ Refused r
+  pub left : (c : Asked) (r : Refusal) → (end_of rules k c).result.verdict ≡ Err r
       → (kept_after (end_of rules k c) ≡ found k c.slices) × (kept_after_call rules k c ≡ k)
   -- a call that is lent a slice of wrong length is refused: with 5 at the first such slice, or with 4 where the run has no such zone
   pub wrong : (c : Asked) (j : ℕ) → FirstWrong j (lengths_of (found k c.slices)) (lengths_for i.shape) → zone_of c.request < i.shape.d
-      → (end_of rules k c).result.verdict ≡ Refused (Length j)
-  pub outside : (c : Asked) → i.shape.d ≤ zone_of c.request → (end_of rules k c).result.verdict ≡ Refused Zone
+      → (end_of rules k c).result.verdict ≡ Err (Length j)
+  pub outside : (c : Asked) → i.shape.d ≤ zone_of c.request → (end_of rules k c).result.verdict ≡ Err Zone

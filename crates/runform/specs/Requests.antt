@@ -1,8 +1,8 @@
 -- The three replacements on any run, also one that others wrote to: their checks in order, then the same work from their zone on. Definitions only.
-use Rattle.std.specs.Prelude.{◌≡◌, ℕ, ◌-◌, ◌<◌, Bool, true, ◌&&◌, List, eqb, ltb, length, set, Float}
+use Rattle.std.specs.Prelude.{◌≡◌, ℕ, ◌-◌, ◌<◌, Bool, true, ◌&&◌, List, eqb, ltb, length, set, Float, Ok}
 use Rattle.numbers.specs.Finite.{finite}
 use Rattle.answers.specs.declared.Refusal.TheVariants.{Zone, Length, Number, Setting, Reach}
-use Rattle.answers.specs.Outcome.{Answer, done, Check, ◌then◌, demand, demand_each}
+use Rattle.answers.specs.Outcome.{Answer, Check, ◌then◌, demand, demand_each}
 use Rattle.lists.specs.Lists.{pick}
 use Rattle.lists.specs.Slots.{put}
 use Rattle.lists.specs.Floats.{all_finite}
@@ -79,7 +79,7 @@ module _ (R : Rules) where
   abbrev pub shifts_ok : Inputs → Request → Check
   shifts_ok i (new_core z xs) = demand_each Reach (in_reach_at R i) (i.shape.d - z) z
   shifts_ok i (new_axis z a) = demand_each Reach (in_reach_at R i) (i.shape.d - z) z
-  shifts_ok i (new_weights z ws) = done tt
+  shifts_ok i (new_weights z ws) = Ok tt
 
   -- 6 to 8
   unfoldable pub numbers_ok : Kept → Request → Check

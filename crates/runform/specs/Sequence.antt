@@ -1,8 +1,6 @@
 -- Calls one after another on one run. Definitions only.
-use Rattle.std.specs.Prelude.{◌≡◌, List, [], ◌∷◌, length, Float}
-use Rattle.answers.specs.declared.Verdict.{Verdict}
-use Rattle.answers.specs.declared.Verdict.TheVariants.{Fits, Refused}
-use Rattle.answers.specs.Outcome.{done}
+use Rattle.std.specs.Prelude.{◌≡◌, List, [], ◌∷◌, length, Float, Ok, Err}
+use Rattle.answers.specs.Outcome.{Check}
 use Rattle.lists.specs.Floats.{zeros}
 use Rattle.shape.specs.Limits.{most_axes}
 use Rattle.stepform.specs.Zones.{Rules}
@@ -17,7 +15,7 @@ kept_after e = kept_of e.result.run e.slices
 
 -- the end of a fresh run that leaves k
 abbrev pub leaving : Room → Kept → RunEnd
-leaving m k = record { result = record { verdict = Fits; run = record_of k }; slices = slices_of k; scratch = zeros (length m.scratch) }
+leaving m k = record { result = record { verdict = Ok tt; run = record_of k }; slices = slices_of k; scratch = zeros (length m.scratch) }
 
 -- the run k is, in its record and its slices, what a fresh run on the inputs i leaves, whatever slices of the right lengths it is lent
 pub record AsFresh (R : Rules) (i : Inputs) (k : Kept) : Type 0 where
@@ -26,7 +24,7 @@ pub record AsFresh (R : Rules) (i : Inputs) (k : Kept) : Type 0 where
   -- shape, axes, settings, source and weights
   pub inputs : k.inputs ≡ i
   -- all that is kept
-  pub end : (m : Room) → room_ok i.shape m ≡ done tt → fresh_by R i m ≡ leaving m k
+  pub end : (m : Room) → room_ok i.shape m ≡ Ok tt → fresh_by R i m ≡ leaving m k
 
 -- ---- a call for a replacement, and what it is lent
 -- for one of the run's slices: the run's own, or another by mistake
@@ -67,9 +65,9 @@ pub data Lends (k : Kept) (c : Asked) : Type 0 where
   wrongly : ¬ (lengths_of (found k c.slices) ≡ lengths_for k.inputs.shape) → Lends k c
 
 -- an accepted part is present from then on, a refused one is not
-abbrev pub taken_up : Verdict → Inputs → Request → Inputs
-taken_up Fits i q = present i q
-taken_up (Refused r) i q = i
+abbrev pub taken_up : Check → Inputs → Request → Inputs
+taken_up (Ok _) i q = present i q
+taken_up (Err r) i q = i
 
 module _ (R : Rules) where
   abbrev pub end_of : Kept → Asked → RunEnd

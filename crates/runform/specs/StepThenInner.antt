@@ -1,7 +1,7 @@
 -- A fresh run as the scope says it, by the definitions of `step` and `inner_separable`: one step, then the inner product
 -- over the step's own cores. Definitions only.
-use Rattle.std.specs.Prelude.{ℕ, suc, List, [], ◌∷◌, Float}
-use Rattle.answers.specs.Outcome.{Answer, done, bind}
+use Rattle.std.specs.Prelude.{ℕ, suc, List, [], ◌∷◌, Float, Ok}
+use Rattle.answers.specs.Outcome.{Answer, bind}
 use Rattle.shape.specs.declared.Shape.{Shape}
 use Rattle.shape.specs.Cores.{Core, cores_of, points_at}
 use Rattle.cutform.specs.Rounding.{cores_in}
@@ -24,4 +24,4 @@ step_then_inner i =
     let ps = paired s i.weights 0 (cores_in tr) in
     bind (sums ps) (λ e.
     bind (inner ps) (λ x.
-    done (running i (keep_step s 0 tr (blank i).stepped) (record { sums = (keep_sums s 0 e (blank i).summed).sums; figure = x })))))
+    Ok (running i (keep_step s 0 tr (blank i).stepped) (record { sums = (keep_sums s 0 e (blank i).summed).sums; figure = x })))))

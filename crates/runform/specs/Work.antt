@@ -1,7 +1,7 @@
 -- The work from zone z on, on any run: the step from the carry that the run holds left of z, then the sums from the sum that it holds there. Definitions only.
-use Rattle.std.specs.Prelude.{ℕ, ◌-◌, List, map, Float}
+use Rattle.std.specs.Prelude.{ℕ, ◌-◌, List, map, Float, Ok}
 use Rattle.numbers.specs.Arithmetic.{zero64}
-use Rattle.answers.specs.Outcome.{Answer, done, bind}
+use Rattle.answers.specs.Outcome.{Answer, bind}
 use Rattle.lists.specs.Slots.{offset, write}
 use Rattle.lists.specs.Walks.{walk}
 use Rattle.lists.specs.Floats.{at}
@@ -23,18 +23,18 @@ keep_sums s z tr u =
 module _ (R : Rules) where
   -- one axis of the inner product
   unfoldable pub sum_zone : ℕ → List Float → Core × List Float → Answer (List Float × Unit {0})
-  sum_zone k e p = bind (R.weigh k p.0 p.1 e) (λ e'. done (e', tt))
+  sum_zone k e p = bind (R.weigh k p.0 p.1 e) (λ e'. Ok (e', tt))
 
   -- all shifts from z on, then the scaling, then the bonds, from the carry left of z
   unfoldable pub restep : Inputs → Stepped → ℕ → Answer Stepped
-  restep i t z = bind (step_from R i.set i.shape.d z (carry_at i.shape t z) (zones_from i z)) (λ tr. done (keep_step i.shape z tr t))
+  restep i t z = bind (step_from R i.set i.shape.d z (carry_at i.shape t z) (zones_from i z)) (λ tr. Ok (keep_step i.shape z tr t))
 
   -- the sums from z on, over the cores that the run holds, from the sum left of z
   unfoldable pub resum : Inputs → Stepped → Summed → ℕ → Answer Summed
-  resum i t u z = bind (walk sum_zone z (sums_at i.shape t u z) (weighed_from i t z)) (λ tr. done (keep_sums i.shape z tr u))
+  resum i t u z = bind (walk sum_zone z (sums_at i.shape t u z) (weighed_from i t z)) (λ tr. Ok (keep_sums i.shape z tr u))
 
   unfoldable pub sum_from : Kept → ℕ → Answer Kept
-  sum_from k z = bind (resum k.inputs k.stepped k.summed z) (λ u. done (running k.inputs k.stepped u))
+  sum_from k z = bind (resum k.inputs k.stepped k.summed z) (λ u. Ok (running k.inputs k.stepped u))
 
   unfoldable pub work_from : Kept → ℕ → Answer Kept
   work_from k z = bind (restep k.inputs k.stepped z) (λ t. sum_from (running k.inputs t k.summed) z)

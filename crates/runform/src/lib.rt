@@ -30,6 +30,6 @@ pub struct Lengths {
 
 #[derive(Clone, Copy)]
 pub struct Ran {
-    pub verdict: answers::Verdict,
+    pub verdict: Result<(), answers::Refusal>,
     pub run: Run,
 }

@@ -7,9 +7,8 @@ use mathlib.Core.List.{List}
 use lib.ListN.{length, set}
 use lib.Ieee.{Float}
 use Rattle.answers.specs.declared.Refusal.TheVariants.{Length, Reach}
-use Rattle.answers.specs.declared.Verdict.{Verdict}
-use Rattle.answers.specs.declared.Verdict.TheVariants.{Fits}
-use Rattle.answers.specs.Outcome.{done, verdict_of}
+use Rattle.std.specs.Prelude.{Ok}
+use Rattle.answers.specs.Outcome.{Check}
 use Rattle.answers.proofs.Checks.{demand_is, then_is, each_is, verdict_passed}
 use Rattle.lists.proofs.Tests.{eqb_is}
 use Rattle.shape.specs.declared.Shape.{Shape}
@@ -37,10 +36,10 @@ use Rattle.run_work.specs.InPlace.{RanksWithin}
 use Rattle.run_work.specs.Renewed.{RenewAsks}
 use Rattle.runs.specs.Ended.{axis_run}
 
-ranks_pass : (s : Shape) (bonds : List Bond) → shape_ok s (rank_ok s bonds) ≡ done tt → (m : ℕ) → RanksWithin s bonds m
+ranks_pass : (s : Shape) (bonds : List Bond) → shape_ok s (rank_ok s bonds) ≡ Ok tt → (m : ℕ) → RanksWithin s bonds m
 ranks_pass s bonds ok m k a b = rank_within s bonds ok k (omega arith)
 
-scratch_is : (s : Shape) (j n : ℕ) → scratch_lent s j n ≡ done tt → entries_of s ≤ n
+scratch_is : (s : Shape) (j n : ℕ) → scratch_lent s j n ≡ Ok tt → entries_of s ≤ n
 unfolding scratch_lent
 scratch_is s j n e = omega (arith, eqb_is n (scratch_for (entries_of s)) (demand_is _ (Length j) e))
 
@@ -52,11 +51,11 @@ module _ (r : Run) (m : Slices (List Float)) where
   abbrev s : Shape
   s = r.shape
 
-  shifts_pass : (q : Request) → numbers_ok rules run q ≡ done tt → shifts_ok rules (present run.inputs q) q ≡ done tt
+  shifts_pass : (q : Request) → numbers_ok rules run q ≡ Ok tt → shifts_ok rules (present run.inputs q) q ≡ Ok tt
   unfolding numbers_ok
   shifts_pass q e = (then_is (found_numbers run (zone_of q) (new_finite q) (new_ok q)) (shifts_ok rules (present run.inputs q) q) tt e).1
 
-  module _ (j n : ℕ) (q : Request) (v : Verdict) (e : v ≡ verdict_of (replace_ok rules (scratch_lent r.shape j n) run q)) (h : v ≡ Fits) where
+  module _ (j n : ℕ) (q : Request) (v : Check) (e : v ≡ replace_ok rules (scratch_lent r.shape j n) run q) (h : v ≡ Ok tt) where
     say : Accepted rules (scratch_lent r.shape j n) run q
     say = checks_say rules (scratch_lent s j n) run q (verdict_passed _ v e h)
 
@@ -85,7 +84,7 @@ module _ (r : Run) (m : Slices (List Float)) where
         }
 
   -- a new core
-  module _ (z : ℕ) (part : List Float) (n : ℕ) (v : Verdict) (e : v ≡ verdict_of (replace_ok rules (scratch_lent r.shape behind_part n) run (new_core z part))) (h : v ≡ Fits) where
+  module _ (z : ℕ) (part : List Float) (n : ℕ) (v : Check) (e : v ≡ replace_ok rules (scratch_lent r.shape behind_part n) run (new_core z part)) (h : v ≡ Ok tt) where
     pub core_asks : SizesWithin r.shape × ((z < r.shape.d) × (length m.source ≡ entries_of r.shape) × (length part ≡ core_size r.shape z) × (length m.source ≤ n))
     core_asks =
         let q = new_core z part in
@@ -99,7 +98,7 @@ module _ (r : Run) (m : Slices (List Float)) where
         asked behind_part n q v e h r.axes (λ k a b. each_is Reach (in_reach_at rules i) (s.d - z) z S k a (omega arith)) scratch l
 
   -- a new axis record
-  module _ (z : ℕ) (x : Axis) (n : ℕ) (v : Verdict) (e : v ≡ verdict_of (replace_ok rules (scratch_lent r.shape slice_count n) run (new_axis z x))) (h : v ≡ Fits) where
+  module _ (z : ℕ) (x : Axis) (n : ℕ) (v : Check) (e : v ≡ replace_ok rules (scratch_lent r.shape slice_count n) run (new_axis z x)) (h : v ≡ Ok tt) where
     pub axis_asks : SizesWithin r.shape × ((z ≤ r.shape.d) × (length m.source ≡ entries_of r.shape) × (length m.source ≤ n))
     axis_asks = let q = new_axis z x in (sizes slice_count n q v e h, (omega (arith, (say slice_count n q v e h).order.inside), source_long slice_count n q v e h, room slice_count n q v e h))
 
@@ -119,7 +118,7 @@ module _ (s : Shape) (xs : List Axis) (set : Settings) (m : Slices (List Float))
   abbrev i : Inputs
   i = inputs_of s xs set m
 
-  module _ (v : Verdict) (e : v ≡ verdict_of (fresh_ok rules (room_lent s (each_output length m.outputs) n) i)) (h : v ≡ Fits) where
+  module _ (v : Check) (e : v ≡ fresh_ok rules (room_lent s (each_output length m.outputs) n) i) (h : v ≡ Ok tt) where
     lengths : (each_output length m.outputs ≡ room_for s) × (entries_of s ≤ n)
     unfolding room_lent
     lengths =

@@ -8,9 +8,8 @@ use lib.Ieee.{Float}
 use Rattle.numbers.specs.Arithmetic.{zero64}
 use Rattle.answers.specs.declared.Refusal.{Refusal}
 use Rattle.answers.specs.declared.Refusal.TheVariants.{Length, Number, Setting, Reach}
-use Rattle.answers.specs.declared.Verdict.{Verdict}
-use Rattle.answers.specs.declared.Verdict.TheVariants.{Fits, Refused}
-use Rattle.answers.specs.Outcome.{Answer, done, bind, Check, ◌then◌, verdict_of}
+use Rattle.std.specs.Prelude.{Ok, Err}
+use Rattle.answers.specs.Outcome.{Answer, bind, Check, ◌then◌}
 use Rattle.answers.proofs.Outcomes.{bind_cong}
 use Rattle.answers.proofs.Late.{Early, early_demand, early_then, early_each}
 use Rattle.lists.specs.Slots.{offset, laid, write}
@@ -82,19 +81,19 @@ module _ (i : Inputs) (h h' : Stepped) (bonds : h.bonds ≡ h'.bonds)
     sum_any : (t : Stepped) → sum_from rules (running i t u) 0 ≡ sum_from rules (running i t u') 0
     unfolding sum_from resum sums_at
     sum_any t =
-        ap (λ (o : Answer Summed). bind o (λ v. done (running i t v)))
-        (bind_cong (walk (sum_zone rules) 0 start_sums (weighed_from i t 0)) (λ e. done (keep_sums i.shape 0 e u)) (λ e. done (keep_sums i.shape 0 e u')) (λ e _. ap done (sums_any e)))
+        ap (λ (o : Answer Summed). bind o (λ v. Ok (running i t v)))
+        (bind_cong (walk (sum_zone rules) 0 start_sums (weighed_from i t 0)) (λ e. Ok (keep_sums i.shape 0 e u)) (λ e. Ok (keep_sums i.shape 0 e u')) (λ e _. ap Ok (sums_any e)))
 
     work_any : work_from rules (running i h u) 0 ≡ work_from rules (running i h' u') 0
     unfolding work_from restep carry_at
     work_any =
         let T = step_from rules i.set i.shape.d 0 none (zones_from i 0) in
-        ap (λ (o : Answer Stepped). bind o (λ t. sum_from rules (running i t u) 0)) (bind_cong T (λ tr. done (keep_step i.shape 0 tr h)) (λ tr. done (keep_step i.shape 0 tr h')) (λ tr _. ap done (step_any tr)))
+        ap (λ (o : Answer Stepped). bind o (λ t. sum_from rules (running i t u) 0)) (bind_cong T (λ tr. Ok (keep_step i.shape 0 tr h)) (λ tr. Ok (keep_step i.shape 0 tr h')) (λ tr _. ap Ok (step_any tr)))
         ∙ bind_cong (restep rules i h' 0) (λ t. sum_from rules (running i t u) 0) (λ t. sum_from rules (running i t u') 0) (λ t _. sum_any t)
 
 -- ---- the call
-module _ (s : Shape) (xs : List Axis) (set : Settings) (m : Slices (List Float)) (scratch : List Float) (v : Verdict)
-    (e : v ≡ verdict_of (fresh_ok rules (room_lent s (each_output length m.outputs) (length scratch)) (inputs_of s xs set m))) where
+module _ (s : Shape) (xs : List Axis) (set : Settings) (m : Slices (List Float)) (scratch : List Float) (v : Check)
+    (e : v ≡ fresh_ok rules (room_lent s (each_output length m.outputs) (length scratch)) (inputs_of s xs set m)) where
   abbrev i : Inputs
   i = inputs_of s xs set m
 
@@ -113,13 +112,13 @@ module _ (s : Shape) (xs : List Axis) (set : Settings) (m : Slices (List Float))
   called = refl
 
   -- refused by a check, all is as it was
-  pub fresh_stops : (r : Run) → r ≡ blank_run s xs set → (q : Refusal) → v ≡ Refused q
-      → (a : Ran) → a ≡ record { verdict = Refused q; run = r } → record { result = a; slices = m; scratch = scratch } ≡ fresh_call s xs set m scratch
+  pub fresh_stops : (r : Run) → r ≡ blank_run s xs set → (q : Refusal) → v ≡ Err q
+      → (a : Ran) → a ≡ record { verdict = Err q; run = r } → record { result = a; slices = m; scratch = scratch } ≡ fresh_call s xs set m scratch
   fresh_stops r j q h a f =
-      checks_stop (kept_of r0 m) scratch ok work0 v e (early_fresh _ (early_room s _ _) i) q h a (f ∙ ap (λ (x : Run). record { verdict = Refused q; run = x }) j) ∙ sym called
+      checks_stop (kept_of r0 m) scratch ok work0 v e (early_fresh _ (early_room s _ _) i) q h a (f ∙ ap (λ (x : Run). record { verdict = Err q; run = x }) j) ∙ sym called
 
   -- the run r that keeps nothing yet is made anew from zone 0 on
-  module _ (h : v ≡ Fits) (r : Run) (j : r ≡ blank_run s xs set) (work : List Float) (A : RenewAsks r 0 m.weights m.outputs work) (a : Ran) (m' : Outputs (List Float))
+  module _ (h : v ≡ Ok tt) (r : Run) (j : r ≡ blank_run s xs set) (work : List Float) (A : RenewAsks r 0 m.weights m.outputs work) (a : Ran) (m' : Outputs (List Float))
       (R : Renewed r 0 m.weights m.outputs work a m') (S : SourcesFrom s 0 m.source work) (u : List Float) (c : u ≡ zeros (length scratch)) where
     R0 : Renewed r0 0 m.weights m.outputs work a m'
     R0 = subst (λ (t : Run). Renewed t 0 m.weights m.outputs work a m') j R
@@ -137,12 +136,12 @@ module _ (s : Shape) (xs : List Axis) (set : Settings) (m : Slices (List Float))
     pub fresh_ends : record { result = a; slices = record { source = m.source; weights = m.weights; outputs = m' }; scratch = u } ≡ fresh_call s xs set m scratch
     fresh_ends = by_verdict a.verdict refl ∙ checks_pass (kept_of r0 m) scratch ok work0 v e h ∙ sym called
       where
-        by_verdict : (w : Verdict) → a.verdict ≡ w → record { result = a; slices = record { source = m.source; weights = m.weights; outputs = m' }; scratch = u } ≡ run_end (kept_of r0 m) scratch work0
-        by_verdict Fits f =
-            end_same m.source m.weights u (ran_is a Fits a.run f refl) refl
+        by_verdict : (w : Check) → a.verdict ≡ w → record { result = a; slices = record { source = m.source; weights = m.weights; outputs = m' }; scratch = u } ≡ run_end (kept_of r0 m) scratch work0
+        by_verdict (Ok _) f =
+            end_same m.source m.weights u (ran_is a (Ok tt) a.run f refl) refl
             ∙ end_done (kept_of r0 m) scratch u c work0 (kept_of a.run (record { source = m.source; weights = m.weights; outputs = m' }))
             (from_blank ∙ whole_done r0 0 m.weights m.outputs work a m' R0 m.source S f)
-        by_verdict (Refused q) f =
+        by_verdict (Err q) f =
             let L = R0.left q f in
-            end_same m.source m.weights u (ran_is a (Refused q) r0 f L.0) L.1
+            end_same m.source m.weights u (ran_is a (Err q) r0 f L.0) L.1
             ∙ end_refused (kept_of r0 m) scratch u c work0 q (from_blank ∙ whole_refused r0 0 m.weights m.outputs work a m' R0 m.source S q f) (late_work _ 0)

@@ -6,10 +6,9 @@ use mathlib.Core.List.{List, [], ◌∷◌}
 use lib.Ieee.{Float}
 use Rattle.answers.specs.declared.Refusal.{Refusal}
 use Rattle.answers.specs.declared.Refusal.TheVariants.{Zone, Length, Number, Setting, Reach}
-use Rattle.answers.specs.declared.Verdict.{Verdict}
-use Rattle.answers.specs.declared.Verdict.TheVariants.{Fits, Refused}
-use Rattle.answers.specs.Outcome.{Answer, Check, ◌then◌, verdict_of}
-use Rattle.answers.proofs.Outcomes.{done_refused}
+use Rattle.std.specs.Prelude.{Ok, Err}
+use Rattle.answers.specs.Outcome.{Answer, Check, ◌then◌}
+use Rattle.answers.proofs.Outcomes.{ok_err}
 use Rattle.answers.proofs.Late.{Early, early_demand, early_then, early_each}
 use Rattle.shape.proofs.Early.{early_shape}
 use Rattle.stepform.specs.Zones.{rules}
@@ -25,13 +24,13 @@ use Rattle.runs.proofs.Ends.{checks_stop, checks_pass}
 early_shifts : (k : Kept) (q : Request) → Early (shifts_ok rules (present k.inputs q) q)
 early_shifts k (new_core z xs) = early_each Reach _ _ z (λ j. refl)
 early_shifts k (new_axis z a) = early_each Reach _ _ z (λ j. refl)
-early_shifts k (new_weights z ws) = record { first = λ q e. absurd (done_refused e) }
+early_shifts k (new_weights z ws) = record { first = λ q e. absurd (ok_err e) }
 
 -- 5, of any slices
 pub early_lent : (j : ℕ) (ns ms : List ℕ) → Early (lent_from j ns ms)
 unfolding lent_from
-early_lent j [] ms = record { first = λ q e. absurd (done_refused e) }
-early_lent j (n ∷ ns) [] = record { first = λ q e. absurd (done_refused e) }
+early_lent j [] ms = record { first = λ q e. absurd (ok_err e) }
+early_lent j (n ∷ ns) [] = record { first = λ q e. absurd (ok_err e) }
 early_lent j (n ∷ ns) (m ∷ ms) = early_then _ _ (early_demand _ (Length j) refl) (early_lent (suc j) ns ms)
 
 early_replace : (room : Check) → Early room → (k : Kept) (q : Request) → Early (replace_ok rules room k q)
@@ -50,7 +49,7 @@ early_replace room h k q =
     (early_shifts k q))))
 
 -- ---- v is the verdict on the checks
-module _ (k : Kept) (q : Request) (scratch : List Float) (v : Verdict) (e : v ≡ verdict_of (replace_ok rules (scratch_lent k.inputs.shape (scratch_place q) (length scratch)) k q)) where
+module _ (k : Kept) (q : Request) (scratch : List Float) (v : Check) (e : v ≡ replace_ok rules (scratch_lent k.inputs.shape (scratch_place q) (length scratch)) k q) where
   abbrev ok : Check
   ok = replace_ok rules (scratch_lent k.inputs.shape (scratch_place q) (length scratch)) k q
 
@@ -62,10 +61,10 @@ module _ (k : Kept) (q : Request) (scratch : List Float) (v : Verdict) (e : v �
   called = refl
 
   -- all is as it was
-  pub replace_stops : (r : Refusal) → v ≡ Refused r → (a : Ran) → a ≡ record { verdict = Refused r; run = record_of k }
+  pub replace_stops : (r : Refusal) → v ≡ Err r → (a : Ran) → a ≡ record { verdict = Err r; run = record_of k }
       → record { result = a; slices = slices_of k; scratch = scratch } ≡ replace_by rules k q scratch
   unfolding scratch_lent
   replace_stops r h a f = checks_stop k scratch ok work v e (early_replace _ (early_demand _ (Length (scratch_place q)) refl) k q) r h a f ∙ sym called
 
-  pub replace_goes : v ≡ Fits → run_end k scratch work ≡ replace_by rules k q scratch
+  pub replace_goes : v ≡ Ok tt → run_end k scratch work ≡ replace_by rules k q scratch
   replace_goes h = checks_pass k scratch ok work v e h ∙ sym called

@@ -5,9 +5,8 @@ use mathlib.Core.List.{List}
 use lib.ListN.{length, replicate}
 use lib.Ieee.{Float}
 use Rattle.numbers.specs.Arithmetic.{zero64}
-use Rattle.answers.specs.declared.Verdict.{Verdict}
-use Rattle.answers.specs.declared.Verdict.TheVariants.{Fits}
-use Rattle.answers.specs.Outcome.{Answer, done, refused, bind, Check, ◌then◌, verdict_of}
+use Rattle.std.specs.Prelude.{Ok, Err}
+use Rattle.answers.specs.Outcome.{Answer, bind, Check, ◌then◌}
 use Rattle.answers.proofs.Checks.{verdict_passed}
 use Rattle.lists.specs.Floats.{zeros}
 use Rattle.lists.proofs.Tests.{eqb_is}
@@ -26,10 +25,10 @@ use Rattle.runform.proofs.Untouched.{slices_are}
 use Rattle.run_work.specs.Weights.{Lent, weights_end}
 use Rattle.runs.proofs.Replaced.{replace_goes}
 
-module _ (r : Run) (z : ℕ) (m : Slices (List Float)) (part scratch : List Float) (v : Verdict)
-    (e : v ≡ verdict_of (replace_ok rules (scratch_lent r.shape behind_part (length scratch)) (kept_of r m) (new_weights z part))) (h : v ≡ Fits) where
+module _ (r : Run) (z : ℕ) (m : Slices (List Float)) (part scratch : List Float) (v : Check)
+    (e : v ≡ replace_ok rules (scratch_lent r.shape behind_part (length scratch)) (kept_of r m) (new_weights z part)) (h : v ≡ Ok tt) where
   -- what the checks let the work ask
-  pub weights_lent : (shape_ok r.shape (rank_ok r.shape r.bonds) ≡ done tt) × Lent r.shape z part m.weights m.outputs.chain m.outputs.sums
+  pub weights_lent : (shape_ok r.shape (rank_ok r.shape r.bonds) ≡ Ok tt) × Lent r.shape z part m.weights m.outputs.chain m.outputs.sums
   weights_lent =
       let k = kept_of r m in
       let A = checks_say rules (scratch_lent r.shape behind_part (length scratch)) k (new_weights z part) (verdict_passed _ v e h) in
@@ -57,8 +56,8 @@ weights_leave r z m part scratch = go (replace_ok rules (scratch_lent r.shape be
     i : Inputs
     i = present k.inputs (new_weights z part)
 
-    go : (c : Check) (o : Answer Summed) → let x = (run_end k scratch (c then bind o (λ u. done (running i k.stepped u)))).slices in
+    go : (c : Check) (o : Answer Summed) → let x = (run_end k scratch (c then bind o (λ u. Ok (running i k.stepped u)))).slices in
         (x.source ≡ m.source) × (x.outputs.chain ≡ m.outputs.chain) × (x.outputs.carries ≡ m.outputs.carries)
-    go (refused q) o = (refl, refl, refl)
-    go (done tt) (refused q) = (refl, refl, refl)
-    go (done tt) (done u) = (refl, refl, refl)
+    go (Err q) o = (refl, refl, refl)
+    go (Ok _) (Err q) = (refl, refl, refl)
+    go (Ok _) (Ok u) = (refl, refl, refl)

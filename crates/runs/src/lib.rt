@@ -58,7 +58,7 @@ pub fn fresh_run(
         sums.len(),
         scratch.len(),
     );
-    if let answers::Verdict::Refused(q) = ok {
+    if let Err(q) = ok {
         return run_work::refused(q, r);
     }
     run_work::renewal::take_sources(0, s, source, scratch);
@@ -96,14 +96,14 @@ pub fn replace_core(
         part,
         scratch.len(),
     );
-    if let answers::Verdict::Refused(q) = ok {
+    if let Err(q) = ok {
         return run_work::refused(q, r);
     }
     let s = r.shape;
     run_work::renewal::take_core(z, s, source, part, scratch);
     let ran = run_work::renewal::renew(z, r, weights, chain, carries, sums, scratch);
     let made = ran.verdict;
-    if let answers::Verdict::Refused(q) = made {
+    if let Err(q) = made {
         return ran;
     }
     run_work::renewal::put_core(z, s, part, source);
@@ -152,7 +152,7 @@ pub fn replace_axis(
         sums,
         scratch.len(),
     );
-    if let answers::Verdict::Refused(q) = ok {
+    if let Err(q) = ok {
         return run_work::refused(q, r);
     }
     let s = r.shape;
@@ -160,7 +160,7 @@ pub fn replace_axis(
     let anew = with_axis(r, z, x);
     let ran = run_work::renewal::renew(z, anew, weights, chain, carries, sums, scratch);
     let verdict = ran.verdict;
-    if let answers::Verdict::Refused(q) = verdict {
+    if let Err(q) = verdict {
         return run_work::refused(q, r);
     }
     ran
@@ -197,7 +197,7 @@ pub fn replace_weights(
         part,
         scratch.len(),
     );
-    if let answers::Verdict::Refused(q) = ok {
+    if let Err(q) = ok {
         return run_work::refused(q, r);
     }
     let ran = run_work::weights::resummed(r, z, weights, chain, sums, part);

@@ -5,10 +5,8 @@ use native.Mathlib.Omega.{arith}
 use mathlib.Core.Bool.{Bool, true, cond, ◌&&◌}
 use lib.Dec.{leb, eqb}
 use Rattle.answers.specs.declared.Refusal.TheVariants.{Axes, Size, Ranks}
-use Rattle.answers.specs.declared.Verdict.{Verdict}
-use Rattle.answers.specs.declared.Verdict.TheVariants.{Fits}
-use Rattle.answers.specs.Outcome.{done, Check, ◌then◌, demand, demand_each, verdict_of}
-use Rattle.answers.proofs.Outcomes.{fits_done}
+use Rattle.std.specs.Prelude.{Ok}
+use Rattle.answers.specs.Outcome.{Check, ◌then◌, demand, demand_each}
 use Rattle.answers.proofs.Checks.{demand_is, then_is, each_same, each_is}
 use Rattle.lists.proofs.Tests.{ltb_yes, ltb_no, leb_is, eqb_is, both}
 use Rattle.shape.specs.declared.Shape.{Shape}
@@ -29,8 +27,8 @@ pub within_is : (most x : ℕ) → within most x ≡ true → (1 ≤ x) × (x �
 within_is most x e = let w = both (leb 1 x) (leb x most) e in (leb_is 1 x w.0, leb_is x most w.1)
 
 -- a verdict in code that it fits says that the check passes
-pub fits_passes : (c : Check) (v : Verdict) → v ≡ verdict_of c → v ≡ Fits → c ≡ done tt
-fits_passes c v e f = (fits_done c (sym e ∙ f)).1
+pub fits_passes : (c : Check) (v : Check) → v ≡ c → v ≡ Ok tt → c ≡ Ok tt
+fits_passes c v e f = sym e ∙ f
 
 module _ (s : Shape) where
   size_is : (k : ℕ) → size_ok s k ≡ true → ((1 ≤ left_of s k) × (left_of s k ≤ most_rank)) × ((1 ≤ points_of s k) × (points_of s k ≤ most_points)) × ((1 ≤ right_of s k) × (right_of s k ≤ most_rank))
@@ -53,14 +51,14 @@ module _ (s : Shape) where
       (sym (ap (λ (b : Bool). cond b (eqb (right_of s k) (left_of s (suc k))) (eqb (right_of s k) 1)) (ltb_no (suc k) s.d (omega arith))) ∙ e)
 
   -- refusals 1 and 2 have passed
-  pub sized : demand (within most_axes s.d) Axes ≡ done tt → demand_each Size (size_ok s) s.d 0 ≡ done tt → SizesWithin s
+  pub sized : demand (within most_axes s.d) Axes ≡ Ok tt → demand_each Size (size_ok s) s.d 0 ≡ Ok tt → SizesWithin s
   sized a b =
       let w = within_is most_axes s.d (demand_is (within most_axes s.d) Axes a) in
       let z : (k : ℕ) (lt : k < s.d) → _ = λ k lt. size_is k (each_is Size (size_ok s) s.d 0 b k (omega arith) (omega arith)) in
       record { axes = record { least = w.0; most = w.1; points = λ k lt. (z k lt).1 }; left = λ k lt. (z k lt).0; right = λ k lt. (z k lt).2 }
 
   -- refusal 3 has passed: each bond joins, and what else is asked of it holds
-  bond_passes : (kept : ℕ → Bool) → shape_ok s kept ≡ done tt → (k : ℕ) → k < s.d → (bond_ok s k ≡ true) × (kept k ≡ true)
+  bond_passes : (kept : ℕ → Bool) → shape_ok s kept ≡ Ok tt → (k : ℕ) → k < s.d → (bond_ok s k ≡ true) × (kept k ≡ true)
   unfolding shape_ok
   bond_passes kept e k lt =
       let bonds = demand_each Ranks (λ (i : ℕ). bond_ok s i && kept i) s.d 0 in
@@ -70,11 +68,11 @@ module _ (s : Shape) where
       let c = then_is (demand (eqb (left_of s 0) 1) (Ranks 0)) bonds tt b.1 in
       both (bond_ok s k) (kept k) (each_is Ranks (λ (i : ℕ). bond_ok s i && kept i) s.d 0 c.1 k (omega arith) (omega arith))
 
-  pub kept_passes : (kept : ℕ → Bool) → shape_ok s kept ≡ done tt → (k : ℕ) → k < s.d → kept k ≡ true
+  pub kept_passes : (kept : ℕ → Bool) → shape_ok s kept ≡ Ok tt → (k : ℕ) → k < s.d → kept k ≡ true
   kept_passes kept e k lt = (bond_passes kept e k lt).1
 
   -- whatever else is asked of its bonds
-  pub shaped : (kept : ℕ → Bool) → shape_ok s kept ≡ done tt → Shaped s
+  pub shaped : (kept : ℕ → Bool) → shape_ok s kept ≡ Ok tt → Shaped s
   unfolding shape_ok
   shaped kept e =
       let a = then_is _ _ tt e in
@@ -93,14 +91,14 @@ module _ (s : Shape) where
       }
 
   -- from a verdict in code that it fits
-  pub fits_shaped : (kept : ℕ → Bool) (v : Verdict) → v ≡ verdict_of (shape_ok s kept) → v ≡ Fits → Shaped s
+  pub fits_shaped : (kept : ℕ → Bool) (v : Check) → v ≡ shape_ok s kept → v ≡ Ok tt → Shaped s
   fits_shaped kept v e f = shaped kept (fits_passes (shape_ok s kept) v e f)
 
   -- what the check's answer lets a caller do
-  pub fits_sizes : (kept : ℕ → Bool) (v : Verdict) → v ≡ verdict_of (shape_ok s kept) → v ≡ Fits → SizesWithin s
+  pub fits_sizes : (kept : ℕ → Bool) (v : Check) → v ≡ shape_ok s kept → v ≡ Ok tt → SizesWithin s
   fits_sizes kept v e f = (fits_shaped kept v e f).sizes
 
-  pub fits_points : (kept : ℕ → Bool) (v : Verdict) → v ≡ verdict_of (shape_ok s kept) → v ≡ Fits → PointsWithin s
+  pub fits_points : (kept : ℕ → Bool) (v : Check) → v ≡ shape_ok s kept → v ≡ Ok tt → PointsWithin s
   fits_points kept v e f = (fits_sizes kept v e f).axes
 
   -- what else is asked of a bond matters only for the bonds that there are
@@ -110,5 +108,5 @@ module _ (s : Shape) where
       ap (λ (x : Check). demand (within most_axes s.d) Axes then demand_each Size (size_ok s) s.d 0 then demand (eqb (left_of s 0) 1) (Ranks 0) then x)
       (each_same Ranks (λ (k : ℕ). bond_ok s k && p k) (λ (k : ℕ). bond_ok s k && q k) s.d 0 (λ k a b. ap (λ (x : Bool). bond_ok s k && x) (h k (omega arith))))
 
-  pub chain_passes : (kept : ℕ → Bool) → shape_ok s kept ≡ done tt → chain_ok s ≡ done tt
+  pub chain_passes : (kept : ℕ → Bool) → shape_ok s kept ≡ Ok tt → chain_ok s ≡ Ok tt
   chain_passes kept e = sym (shape_same kept (λ (k : ℕ). true) (kept_passes kept e)) ∙ e

@@ -5,8 +5,8 @@ use mathlib.Core.Bool.{Bool, true, false, not, ◌&&◌}
 use lib.Dec.{leb, eqb}
 use Rattle.answers.specs.declared.Refusal.{Refusal}
 use Rattle.answers.specs.declared.Refusal.TheVariants.{Axes, Size, Ranks}
-use Rattle.answers.specs.declared.Verdict.TheVariants.{Fits, Refused}
-use Rattle.answers.specs.Outcome.{refused, Answer, Check, ◌then◌, demand, demand_each, verdict_of}
+use Rattle.std.specs.Prelude.{Ok, Err}
+use Rattle.answers.specs.Outcome.{Answer, Check, ◌then◌, demand, demand_each}
 use Rattle.answers.proofs.Checks.{demand_yes, demand_no, then_skip}
 use Rattle.lists.specs.Lists.{first_not}
 use Rattle.lists.proofs.Tests.{both, not_no, not_yes, leb_is, eqb_yes, eqb_no}
@@ -19,7 +19,7 @@ use Rattle.shape.specs.Shapes.{left_of, size_ok, bond_ok, shape_ok}
 pub within_most : (most x : ℕ) (b : Bool) → b ≡ within most x → not b ≡ false → x ≤ most
 within_most most x b e h = leb_is x most (both (leb 1 x) (leb x most) (sym e ∙ not_no b h)).1
 
-then_stop : {A : Type 0} (c : Check) (o : Answer A) (r : Refusal) → c ≡ refused r → c then o ≡ refused r
+then_stop : {A : Type 0} (c : Check) (o : Answer A) (r : Refusal) → c ≡ Err r → c then o ≡ Err r
 then_stop c o r e = ap (λ (x : Check). x then o) e
 
 module _ (s : Shape) (kept : ℕ → Bool) where
@@ -37,9 +37,9 @@ module _ (s : Shape) (kept : ℕ → Bool) where
 
   -- b: whether d is within its limits; i: the first core with a size that isn't; j: the first whose bond doesn't hold
   module _ (b : Bool) (e : b ≡ within most_axes s.d) where
-    pub axes_refused : not b ≡ true → Refused Axes ≡ verdict_of (shape_ok s kept)
+    pub axes_refused : not b ≡ true → Err Axes ≡ shape_ok s kept
     unfolding shape_ok
-    axes_refused h = ap verdict_of (sym (then_stop (demand (within most_axes s.d) Axes) sizes Axes (demand_no _ Axes (sym e ∙ not_yes b h))))
+    axes_refused h = (sym (then_stop (demand (within most_axes s.d) Axes) sizes Axes (demand_no _ Axes (sym e ∙ not_yes b h))))
 
     module _ (h : not b ≡ false) where
       past_axes : shape_ok s kept ≡ sizes
@@ -47,25 +47,25 @@ module _ (s : Shape) (kept : ℕ → Bool) where
       past_axes = then_skip (demand (within most_axes s.d) Axes) sizes sizes (demand_yes _ Axes (sym e ∙ not_no b h)) refl
 
       module _ (i : ℕ) (f : i ≡ first_not (size_ok s) s.d) where
-        pub size_refused : i < s.d → Refused (Size i) ≡ verdict_of (shape_ok s kept)
-        size_refused l = ap verdict_of (sym (past_axes ∙ then_stop (demand_each Size (size_ok s) s.d 0) ends (Size i) (each_stops (size_ok s) s.d i f Size l)))
+        pub size_refused : i < s.d → Err (Size i) ≡ shape_ok s kept
+        size_refused l = (sym (past_axes ∙ then_stop (demand_each Size (size_ok s) s.d 0) ends (Size i) (each_stops (size_ok s) s.d i f Size l)))
 
         module _ (l : s.d ≤ i) where
           past_sizes : shape_ok s kept ≡ ends
           past_sizes = past_axes ∙ then_skip (demand_each Size (size_ok s) s.d 0) ends ends (each_passes (size_ok s) s.d i f Size l) refl
 
-          pub end_refused : (left_of s 0 ≡ 1 → ⊥) → Refused (Ranks 0) ≡ verdict_of (shape_ok s kept)
-          end_refused n = ap verdict_of (sym (past_sizes ∙ then_stop (demand (eqb (left_of s 0) 1) (Ranks 0)) bonds (Ranks 0) (demand_no _ (Ranks 0) (eqb_no (left_of s 0) 1 n))))
+          pub end_refused : (left_of s 0 ≡ 1 → ⊥) → Err (Ranks 0) ≡ shape_ok s kept
+          end_refused n = (sym (past_sizes ∙ then_stop (demand (eqb (left_of s 0) 1) (Ranks 0)) bonds (Ranks 0) (demand_no _ (Ranks 0) (eqb_no (left_of s 0) 1 n))))
 
           module _ (o : left_of s 0 ≡ 1) (j : ℕ) (g : j ≡ first_not right s.d) where
             past_end : shape_ok s kept ≡ bonds
             past_end = past_sizes ∙ then_skip (demand (eqb (left_of s 0) 1) (Ranks 0)) bonds bonds (demand_yes _ (Ranks 0) (eqb_yes (left_of s 0) 1 o)) refl
 
-            pub bond_refused : j < s.d → Refused (Ranks j) ≡ verdict_of (shape_ok s kept)
-            bond_refused m = ap verdict_of (sym (past_end ∙ each_stops right s.d j g Ranks m))
+            pub bond_refused : j < s.d → Err (Ranks j) ≡ shape_ok s kept
+            bond_refused m = (sym (past_end ∙ each_stops right s.d j g Ranks m))
 
-            pub shape_fits : s.d ≤ j → Fits ≡ verdict_of (shape_ok s kept)
-            shape_fits m = ap verdict_of (sym (past_end ∙ each_passes right s.d j g Ranks m))
+            pub shape_fits : s.d ≤ j → Ok tt ≡ shape_ok s kept
+            shape_fits m = (sym (past_end ∙ each_passes right s.d j g Ranks m))
 
 pub ruleset verdicts = (within_most, axes_refused, size_refused, end_refused, bond_refused, shape_fits)
 

@@ -2,7 +2,6 @@
 #![tactic(auto)]
 
 ghost use Rattle.std.specs.Prelude.{◌≡◌, ℕ, ◌+◌, ◌*◌, ◌≤◌, ◌<◌, min, [], length, replicate};
-ghost use Rattle.answers.specs.Outcome.{verdict_of};
 ghost use Rattle.lists.specs.Lists.{first_not};
 ghost use Rattle.lists.specs.Slots.{offset};
 ghost use Rattle.lists.specs.Floats.{all_finite};
@@ -166,25 +165,25 @@ impl Shape {
     }
 
     // Refusals 1 to 3.
-    pub fn check(self) -> answers::Verdict
-        ensures { result ≡ verdict_of (chain_ok self) }
+    pub fn check(self) -> Result<(), answers::Refusal>
+        ensures { result ≡ chain_ok self }
     {
         let d = self.d;
         if !within(MOST_AXES, d) {
-            return answers::Verdict::Refused(answers::Refusal::Axes);
+            return Err(answers::Refusal::Axes);
         }
         let size = self.first_bad_size();
         if size < d {
-            return answers::Verdict::Refused(answers::Refusal::Size(size));
+            return Err(answers::Refusal::Size(size));
         }
         if self.left[0] != 1 {
-            return answers::Verdict::Refused(answers::Refusal::Ranks(0));
+            return Err(answers::Refusal::Ranks(0));
         }
         let bond = self.first_bad_bond();
         if bond < d {
-            return answers::Verdict::Refused(answers::Refusal::Ranks(bond));
+            return Err(answers::Refusal::Ranks(bond));
         }
-        answers::Verdict::Fits
+        Ok(())
     }
 
     // How many numbers core k has.

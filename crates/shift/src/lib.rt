@@ -156,14 +156,14 @@ pub fn move_core(
     shift: Shift,
     out: &mut [f64],
     block: &mut [f64],
-) -> answers::Verdict
+) -> Result<(), answers::Refusal>
     requires { Lent core.now rl n rr out.old block.old × (reaches shift ≡ true) }
     ensures { move_core k shift (core_with rl n rr core.now) ≡ answered result out.new }
 {
     match shift {
         Shift::Stay => {
             lists::copy(core, out);
-            answers::Verdict::Fits
+            Ok(())
         }
         Shift::By(ratio, boundary) => {
             shift_core(core, rl, n, rr, ratio, boundary, out, block);
@@ -184,7 +184,7 @@ fn multiply(s: &mut [f64], factor: f64)
 }
 
 // Core 0 times 1 + tau*c.
-pub fn scale(core: &mut [f64], tau: f64, c: f64) -> answers::Verdict
+pub fn scale(core: &mut [f64], tau: f64, c: f64) -> Result<(), answers::Refusal>
     ensures { scaled tau c core.old ≡ answered result core.new }
 {
     multiply(core, 1.0 + tau * c);

@@ -8,9 +8,9 @@ use lib.Dec.{eqb}
 use lib.ListN.{length, get_or, length-map}
 use lib.Ieee.{Float}
 use Rattle.answers.specs.declared.Refusal.TheVariants.{Length, Number, Setting}
-use Rattle.answers.specs.declared.Verdict.TheVariants.{Fits}
-use Rattle.answers.specs.Outcome.{Answer, done, bind, demand}
-use Rattle.answers.proofs.Outcomes.{bind_done, done_inj}
+use Rattle.std.specs.Prelude.{Ok}
+use Rattle.answers.specs.Outcome.{Answer, bind, demand}
+use Rattle.answers.proofs.Outcomes.{bind_ok, ok_inj}
 use Rattle.answers.proofs.Checks.{demand_is, then_is}
 use Rattle.lists.specs.Walks.{state_at, every}
 use Rattle.lists.proofs.Walks.{every_length}
@@ -42,51 +42,51 @@ use Rattle.stepform.proofs.Rounds.{zones_length, step_rounds}
 use Rattle.stepform.proofs.Restart.{step_length}
 
 -- ---- one step
-moved_length : (t : Settings) (xs : List Axis) (cs b : List Core) → moved t xs cs ≡ done b → length b ≡ length cs
+moved_length : (t : Settings) (xs : List Axis) (cs b : List Core) → moved t xs cs ≡ Ok b → length b ≡ length cs
 unfolding moved
 moved_length t xs cs b h =
-    let A = bind_done (every (shift_zone rules t) 0 (zones_of xs 0 cs)) (λ a. every (scale_zone rules t) 0 a) b h in
+    let A = bind_ok (every (shift_zone rules t) 0 (zones_of xs 0 cs)) (λ a. every (scale_zone rules t) 0 a) b h in
     every_length (scale_zone rules t) 0 A.0 b A.2 ∙ every_length (shift_zone rules t) 0 (zones_of xs 0 cs) A.0 A.1 ∙ zones_length xs 0 cs
 
 -- the rounding behind a step
-pub step_parts : (t : Settings) (xs : List Axis) (cs : List Core) (cuts : List (Carry × Cut)) → step t xs cs ≡ done cuts
-    → (b : List Core) × (moved t xs cs ≡ done b) × (rounding t.cutting b ≡ done cuts) × (length b ≡ length cs)
+pub step_parts : (t : Settings) (xs : List Axis) (cs : List Core) (cuts : List (Carry × Cut)) → step t xs cs ≡ Ok cuts
+    → (b : List Core) × (moved t xs cs ≡ Ok b) × (rounding t.cutting b ≡ Ok cuts) × (length b ≡ length cs)
 unfolding moved
 step_parts t xs cs cuts h =
     let shifts = every (shift_zone rules t) 0 (zones_of xs 0 cs) in
-    let A = bind_done shifts (λ a. bind (every (scale_zone rules t) 0 a) (λ b. rounding t.cutting b)) cuts (sym (step_rounds t xs cs) ∙ h) in
-    let B = bind_done (every (scale_zone rules t) 0 A.0) (λ b. rounding t.cutting b) cuts A.2 in
-    let M : moved t xs cs ≡ done B.0 = ap (λ (o : Answer _). bind o (λ a. every (scale_zone rules t) 0 a)) A.1 ∙ B.1 in
+    let A = bind_ok shifts (λ a. bind (every (scale_zone rules t) 0 a) (λ b. rounding t.cutting b)) cuts (sym (step_rounds t xs cs) ∙ h) in
+    let B = bind_ok (every (scale_zone rules t) 0 A.0) (λ b. rounding t.cutting b) cuts A.2 in
+    let M : moved t xs cs ≡ Ok B.0 = ap (λ (o : Answer _). bind o (λ a. every (scale_zone rules t) 0 a)) A.1 ∙ B.1 in
     (B.0, M, B.2, moved_length t xs cs B.0 M)
 
 -- ---- steps one after another
-pub step_cuts : (t : Settings) (xs : List Axis) (cs : List Core) (cuts : List (Carry × Cut)) → step t xs cs ≡ done cuts → length cuts ≡ length cs
+pub step_cuts : (t : Settings) (xs : List Axis) (cs : List Core) (cuts : List (Carry × Cut)) → step t xs cs ≡ Ok cuts → length cuts ≡ length cs
 unfolding step
 step_cuts t xs cs cuts h = step_length rules t (length cs) 0 none (zones_of xs 0 cs) cuts h ∙ zones_length xs 0 cs
 
-after_length : (m : ℕ) (t : Settings) (xs : List Axis) (cs b : List Core) → cores_after m t xs cs ≡ done b → length b ≡ length cs
+after_length : (m : ℕ) (t : Settings) (xs : List Axis) (cs b : List Core) → cores_after m t xs cs ≡ Ok b → length b ≡ length cs
 unfolding cores_after
-after_length zero t xs cs b h = ap length (sym (done_inj h))
+after_length zero t xs cs b h = ap length (sym (ok_inj h))
 after_length (suc m) t xs cs b h =
-    let A = bind_done (step t xs cs) (λ tr. cores_after m t xs (cores_in tr)) b h in
+    let A = bind_ok (step t xs cs) (λ tr. cores_after m t xs (cores_in tr)) b h in
     after_length m t xs (cores_in A.0) b A.2 ∙ length-map A.0 (λ (r : Carry × Cut). r.1.core) ∙ step_cuts t xs cs A.0 A.1
 
 -- the last step of m and one: the cores before it, its cuts, and what was said of the bonds before it
 record LastStep (m : ℕ) (t : Settings) (xs : List Axis) (cs : List Core) (a : After) : Type 0 where
   cores : List Core
-  before : cores_after m t xs cs ≡ done cores
+  before : cores_after m t xs cs ≡ Ok cores
   cuts : List (Carry × Cut)
-  made : step t xs cores ≡ done cuts
+  made : step t xs cores ≡ Ok cuts
   said : List Bond
   bonds : a.bonds ≡ further said (after_cuts cuts).bonds
 
-last_step : (m : ℕ) (t : Settings) (xs : List Axis) (a b : After) → steps_from (suc m) t xs a ≡ done b → LastStep m t xs a.cores b
+last_step : (m : ℕ) (t : Settings) (xs : List Axis) (a b : After) → steps_from (suc m) t xs a ≡ Ok b → LastStep m t xs a.cores b
 unfolding steps_from cores_after
 last_step zero t xs a b h =
-    let A = bind_done (step t xs a.cores) _ b h in
-    record { cores = a.cores; before = refl; cuts = A.0; made = A.1; said = a.bonds; bonds = ap (λ (x : After). x.bonds) (sym (done_inj A.2)) }
+    let A = bind_ok (step t xs a.cores) _ b h in
+    record { cores = a.cores; before = refl; cuts = A.0; made = A.1; said = a.bonds; bonds = ap (λ (x : After). x.bonds) (sym (ok_inj A.2)) }
 last_step (suc m) t xs a b h =
-    let A = bind_done (step t xs a.cores) _ b h in
+    let A = bind_ok (step t xs a.cores) _ b h in
     let L = last_step m t xs _ b A.2 in
     record {
       cores = L.cores;
@@ -114,7 +114,7 @@ further_counted cutting cs said bonds most long R = record {
 
 -- a course of no steps is not accepted
 some_steps : (lone : Bool) (final : Float) (steps : ℕ) (cutting : Cutting) (t : Settings) (s : Shape) (count : ℕ) (xs : List Axis) (chain : List Float) (scratch : ℕ)
-    → step_ok lone (course_ok final steps cutting) t s count xs chain scratch ≡ done tt → 1 ≤ steps
+    → step_ok lone (course_ok final steps cutting) t s count xs chain scratch ≡ Ok tt → 1 ≤ steps
 unfolding step_ok settings_ok course_ok
 some_steps lone final steps cutting t s count xs chain scratch h =
     let a = then_is (chain_ok s) _ tt h in
@@ -128,14 +128,14 @@ some_steps lone final steps cutting t s count xs chain scratch h =
 -- ---- the calls
 module _ (s : Shape) (chain scratch : List Float) where
   -- a call that ends by what its last step left
-  by_step : (t : Settings) (xs : List Axis) (cs : List Core) (o : Answer (List (Carry × Cut))) (cuts : List (Carry × Cut)) → length cs ≤ most_axes → o ≡ done cuts → step t xs cs ≡ done cuts
+  by_step : (t : Settings) (xs : List Axis) (cs : List Core) (o : Answer (List (Carry × Cut))) (cuts : List (Carry × Cut)) → length cs ≤ most_axes → o ≡ Ok cuts → step t xs cs ≡ Ok cuts
       → StepCounted t xs cs (ended_by s chain scratch o).result.bonds
   by_step t xs cs o cuts most e h =
       let P = step_parts t xs cs cuts h in
       let n = P.3 in
       record { cores = P.0; moves = P.1; counted = ended_counted s chain scratch t.cutting P.0 o cuts (omega arith) e P.2 }
 
-  pub step_counted : (t : Settings) (xs : List Axis) → (step_call t s xs chain scratch).result.verdict ≡ Fits
+  pub step_counted : (t : Settings) (xs : List Axis) → (step_call t s xs chain scratch).result.verdict ≡ Ok tt
       → StepCounted t xs (cores_of s chain) (step_call t s xs chain scratch).result.bonds
   unfolding step_over step_ok
   step_counted t xs e =
@@ -145,7 +145,7 @@ module _ (s : Shape) (chain scratch : List Float) where
 
   -- of the last of its steps
   pub evolve_counted : (final : Float) (steps : ℕ) (c : Float) (cutting : Cutting) (xs : List Axis)
-      → (evolve_call final steps c cutting s xs chain scratch).result.verdict ≡ Fits
+      → (evolve_call final steps c cutting s xs chain scratch).result.verdict ≡ Ok tt
       → LastCounted (steps - 1) (settings_for final steps c cutting) xs (cores_of s chain) (evolve_call final steps c cutting s xs chain scratch).result.bonds
   unfolding evolve_over step_ok steps_of ended_as
   evolve_counted final steps c cutting xs e =
@@ -172,13 +172,13 @@ Same a b k = ((get_or a k no_bond).sweeps ≡ (get_or b k no_bond).sweeps) × ((
 pub step_once : {t : Settings} {xs : List Axis} {cs : List Core} {a b : List Bond} → StepCounted t xs cs a → StepCounted t xs cs b
     → (k : ℕ) → suc k < length cs → Same a b k
 step_once {t} {xs} {cs} {b = b} P Q k lt =
-    let e : Q.cores ≡ P.cores = done_inj (sym Q.moves ∙ P.moves) in
+    let e : Q.cores ≡ P.cores = ok_inj (sym Q.moves ∙ P.moves) in
     let l = moved_length t xs cs P.cores P.moves in
     round_once P.counted (subst (λ (c : List Core). RoundCounted t.cutting c b) e Q.counted) k (omega arith)
 
 pub last_once : {j : ℕ} {t : Settings} {xs : List Axis} {cs : List Core} {a b : List Bond} → LastCounted j t xs cs a → LastCounted j t xs cs b
     → (k : ℕ) → suc k < length cs → Same a b k
 last_once {j} {t} {xs} {cs} {b = b} P Q k lt =
-    let e : Q.cores ≡ P.cores = done_inj (sym Q.before ∙ P.before) in
+    let e : Q.cores ≡ P.cores = ok_inj (sym Q.before ∙ P.before) in
     let l = after_length j t xs cs P.cores P.before in
     step_once P.last (subst (λ (c : List Core). StepCounted t xs c b) e Q.last) k (omega arith)

@@ -11,9 +11,9 @@ use lib.ListN.{length, replicate, get_or-replicate}
 use lib.Ieee.{Float, lt, of_bits}
 use Rattle.numbers.specs.Arithmetic.{zero64}
 use Rattle.numbers.specs.Finite.{finite}
-use Rattle.answers.specs.declared.Verdict.TheVariants.{Fits}
-use Rattle.answers.specs.Outcome.{Answer, done, bind}
-use Rattle.answers.proofs.Outcomes.{bind_done, done_inj}
+use Rattle.std.specs.Prelude.{Ok}
+use Rattle.answers.specs.Outcome.{Answer, bind}
+use Rattle.answers.proofs.Outcomes.{bind_ok, ok_inj}
 use Rattle.answers.proofs.Checks.{then_is}
 use Rattle.lists.specs.Lists.{pick}
 use Rattle.lists.proofs.Order.{lt_not_self, lt_then_lt, lt_then_eq, lt_or_eq, eq_swap}
@@ -90,7 +90,7 @@ module _ (t : Settings) (xs : List Axis) (k : ℕ) (within : k < most_axes) wher
   value a = dropped_among a.bonds k
 
   -- what a step drops is finite
-  step_fine : (cs : List Core) (cuts : List (Carry × Cut)) → step t xs cs ≡ done cuts → finite (value (after_cuts cuts)) ≡ true
+  step_fine : (cs : List Core) (cuts : List (Carry × Cut)) → step t xs cs ≡ Ok cuts → finite (value (after_cuts cuts)) ≡ true
   step_fine cs cuts h =
       let P = step_parts t xs cs cuts h in
       let n = fit_length no_bond most_axes (bonds_in cuts) in
@@ -107,7 +107,7 @@ module _ (t : Settings) (xs : List Axis) (k : ℕ) (within : k < most_axes) wher
   after a cuts = record { cores = cores_in cuts; bonds = further a.bonds (after_cuts cuts).bonds }
 
   -- a value of a later step, seen from one step before
-  earlier : (i : ℕ) (cs : List Core) (cuts : List (Carry × Cut)) (y : Float) → step t xs cs ≡ done cuts → DroppedIn i t xs (cores_in cuts) k y → DroppedIn (suc i) t xs cs k y
+  earlier : (i : ℕ) (cs : List Core) (cuts : List (Carry × Cut)) (y : Float) → step t xs cs ≡ Ok cuts → DroppedIn i t xs (cores_in cuts) k y → DroppedIn (suc i) t xs cs k y
   unfolding cores_after
   earlier i cs cuts y h D = record {
     cores = D.cores;
@@ -117,7 +117,7 @@ module _ (t : Settings) (xs : List Axis) (k : ℕ) (within : k < most_axes) wher
     value = D.value;
   }
 
-  later : (i : ℕ) (cs : List Core) (cuts : List (Carry × Cut)) (y : Float) → step t xs cs ≡ done cuts → DroppedIn (suc i) t xs cs k y → DroppedIn i t xs (cores_in cuts) k y
+  later : (i : ℕ) (cs : List Core) (cuts : List (Carry × Cut)) (y : Float) → step t xs cs ≡ Ok cuts → DroppedIn (suc i) t xs cs k y → DroppedIn i t xs (cores_in cuts) k y
   unfolding cores_after
   later i cs cuts y h D = record {
     cores = D.cores;
@@ -127,15 +127,15 @@ module _ (t : Settings) (xs : List Axis) (k : ℕ) (within : k < most_axes) wher
     value = D.value;
   }
 
-  own : (cs : List Core) (cuts : List (Carry × Cut)) → step t xs cs ≡ done cuts → DroppedIn 0 t xs cs k (value (after_cuts cuts))
+  own : (cs : List Core) (cuts : List (Carry × Cut)) → step t xs cs ≡ Ok cuts → DroppedIn 0 t xs cs k (value (after_cuts cuts))
   unfolding cores_after
   own cs cuts h = record { cores = cs; before = refl; cuts = cuts; made = h; value = refl }
 
-  own_only : (cs : List Core) (cuts : List (Carry × Cut)) (y : Float) → step t xs cs ≡ done cuts → DroppedIn 0 t xs cs k y → value (after_cuts cuts) ≡ y
+  own_only : (cs : List Core) (cuts : List (Carry × Cut)) (y : Float) → step t xs cs ≡ Ok cuts → DroppedIn 0 t xs cs k y → value (after_cuts cuts) ≡ y
   unfolding cores_after
   own_only cs cuts y h D =
-      let e : cs ≡ D.cores = done_inj D.before in
-      let c : cuts ≡ D.cuts = done_inj (sym h ∙ ap (step t xs) e ∙ D.made) in
+      let e : cs ≡ D.cores = ok_inj D.before in
+      let c : cuts ≡ D.cuts = ok_inj (sym h ∙ ap (step t xs) e ∙ D.made) in
       ap (λ (x : List (Carry × Cut)). value (after_cuts x)) c ∙ D.value
 
   told : (a : After) (cuts : List (Carry × Cut)) → value (after a cuts) ≡ greater (value a) (value (after_cuts cuts))
@@ -147,7 +147,7 @@ module _ (t : Settings) (xs : List Axis) (k : ℕ) (within : k < most_axes) wher
   greater_fine x y f g = pick_finite (lt x y) x y f g
 
   -- no step dropped more: the first one, and those behind it
-  each : (m : ℕ) (a b : After) (cuts : List (Carry × Cut)) → step t xs a.cores ≡ done cuts → finite (value (after_cuts cuts)) ≡ true → finite (value (after a cuts)) ≡ true
+  each : (m : ℕ) (a b : After) (cuts : List (Carry × Cut)) → step t xs a.cores ≡ Ok cuts → finite (value (after_cuts cuts)) ≡ true → finite (value (after a cuts)) ≡ true
       → From m (after a cuts) b → lt (value (after a cuts)) (value (after_cuts cuts)) ≡ false
       → (i : ℕ) (z : Float) → i < suc m → DroppedIn i t xs a.cores k z → lt (value b) z ≡ false
   each m a b cuts h g w R q zero z l D =
@@ -155,10 +155,10 @@ module _ (t : Settings) (xs : List Axis) (k : ℕ) (within : k < most_axes) wher
       (still_not (value (after_cuts cuts)) (value (after a cuts)) (value b) g w R.fine R.before q)
   each m a b cuts h g w R q (suc i) z l D = R.most i z (le_of_suc-le-suc l) (later i a.cores cuts z h D)
 
-  from : (m : ℕ) (a b : After) → finite (value a) ≡ true → steps_from m t xs a ≡ done b → From m a b
+  from : (m : ℕ) (a b : After) → finite (value a) ≡ true → steps_from m t xs a ≡ Ok b → From m a b
   unfolding steps_from
   from zero a b f h =
-      let e : a ≡ b = done_inj h in
+      let e : a ≡ b = ok_inj h in
       let x : value b ≡ value a = ap value (sym e) in
       record {
         before = ap (λ (y : Float). lt y (value a)) x ∙ fails (lt (value a) (value a)) (lt_not_self (value a) f);
@@ -167,7 +167,7 @@ module _ (t : Settings) (xs : List Axis) (k : ℕ) (within : k < most_axes) wher
         fine = ap finite x ∙ f;
       }
   from (suc m) a b f h =
-      let A = bind_done (step t xs a.cores) (λ tr. steps_from m t xs (after a tr)) b h in
+      let A = bind_ok (step t xs a.cores) (λ tr. steps_from m t xs (after a tr)) b h in
       let cuts = A.0 in
       let x = value a in
       let y = value (after_cuts cuts) in
@@ -190,7 +190,7 @@ from_zero (inr b) e = inr b
 
 -- THE CALL: of each bond the greatest value that it dropped in any step
 pub evolve_greatest : (final : Float) (steps : ℕ) (c : Float) (cutting : Cutting) (s : Shape) (xs : List Axis) (chain scratch : List Float)
-    → (evolve_call final steps c cutting s xs chain scratch).result.verdict ≡ Fits → (k : ℕ) → k < most_axes
+    → (evolve_call final steps c cutting s xs chain scratch).result.verdict ≡ Ok tt → (k : ℕ) → k < most_axes
     → Greatest steps (settings_for final steps c cutting) xs (cores_of s chain) k (dropped_among (evolve_call final steps c cutting s xs chain scratch).result.bonds k)
 unfolding evolve_over steps_of ended_as of_bits
 evolve_greatest final steps c cutting s xs chain scratch e k l =

@@ -6,7 +6,7 @@ use lib.Ieee.{Float}
 use Rattle.answers.specs.declared.Part.TheVariants.{Entry}
 use Rattle.answers.specs.Outcome.{making}
 use Rattle.answers.specs.Table.{Late}
-use Rattle.answers.proofs.Late.{late_done, late_making, late_bind}
+use Rattle.answers.proofs.Late.{late_ok, late_making, late_bind}
 use Rattle.numbers.specs.Arithmetic.{plus, times, one64}
 use Rattle.lists.specs.Floats.{stored}
 use Rattle.lists.specs.Walks.{every}
@@ -24,20 +24,20 @@ use Rattle.stepform.specs.Steps.{holding, shift_zone, scale_zone, round_zone, st
 
 -- ---- one core
 late_move : (k : ℕ) (s : Shift) (c : Core) → Late (move_core k s c)
-late_move k Stay c = late_done c.entries
+late_move k Stay c = late_ok c.entries
 late_move k (By ratio boundary) c = late_making Entry k (stored (shifted c ratio boundary))
 
 module _ (t : Settings) where
   late_shift : (k : ℕ) (z : Zone) → Late (shift_zone rules t k z)
   unfolding shift_zone rules
-  late_shift k z = let far = shift_of z.axis t.tau z.core.n in late_bind (move_core k far z.core) _ (late_move k far z.core) (λ l. late_done (holding z.core l))
+  late_shift k z = let far = shift_of z.axis t.tau z.core.n in late_bind (move_core k far z.core) _ (late_move k far z.core) (λ l. late_ok (holding z.core l))
 
   late_scale : (k : ℕ) (c : Core) → Late (scale_zone rules t k c)
   unfolding scale_zone rules scaled
   late_scale zero c =
       let m = stored (map (λ (v : Float). times v (plus one64 (times t.tau t.c))) c.entries) in
-      late_bind (making Entry 0 m) _ (late_making Entry 0 m) (λ l. late_done (holding c l))
-  late_scale (suc k) c = late_done c
+      late_bind (making Entry 0 m) _ (late_making Entry 0 m) (λ l. late_ok (holding c l))
+  late_scale (suc k) c = late_ok c
 
   -- ---- steps
   -- from zone k on
@@ -54,7 +54,7 @@ module _ (t : Settings) where
 
   late_further : (m : ℕ) (xs : List Axis) (a : After) → Late (steps_from m t xs a)
   unfolding steps_from
-  late_further zero xs a = late_done a
+  late_further zero xs a = late_ok a
   late_further (suc m) xs a = late_bind (step t xs a.cores) _ (late_step xs a.cores) (λ tr. late_further m xs _)
 
   pub late_steps : (m : ℕ) (xs : List Axis) (cs : List Core) → Late (steps_of m t xs cs)

@@ -1,12 +1,12 @@
 -- The shift of one core along its axis, and the scaling of core 0 (001: `step`). Definitions only.
-use Rattle.std.specs.Prelude.{ℕ, ◌-◌, Bool, true, ◌||◌, List, map, leb, pos, Float}
+use Rattle.std.specs.Prelude.{ℕ, ◌-◌, Bool, true, ◌||◌, List, map, leb, pos, Float, Ok}
 use Rattle.std.specs.Float.{binary64}
 use Rattle.std.specs.Float.Ieee.{neg, le, eq, of_int}
 use Rattle.numbers.specs.Arithmetic.{plus, minus, times, over, zero64, one64, two64}
 use Rattle.numbers.specs.Root.{root_of}
 use Rattle.numbers.specs.Whole.{whole_of, fraction_of, in_reach}
 use Rattle.answers.specs.declared.Part.TheVariants.{Entry}
-use Rattle.answers.specs.Outcome.{Answer, done, making}
+use Rattle.answers.specs.Outcome.{Answer, making}
 use Rattle.lists.specs.Lists.{pick}
 use Rattle.lists.specs.Floats.{stored}
 use Rattle.shape.specs.Cores.{Core, entry, block}
@@ -46,7 +46,7 @@ shifted c ratio boundary =
 
 -- core k along its axis; one that stays is not made
 abbrev pub move_core : ℕ → Shift → Core → Answer (List Float)
-move_core k Stay c = done c.entries
+move_core k Stay c = Ok c.entries
 move_core k (By ratio boundary) c = making Entry k (stored (shifted c ratio boundary))
 
 -- core 0 multiplied by 1 + tau*c

@@ -1,8 +1,8 @@
 -- A step over zones: all shifts, then the scaling of core 0, then the bonds left to right; and steps one after another
 -- (001: `step`, `evolve`). Definitions only.
-use Rattle.std.specs.Prelude.{ℕ, zero, suc, List, ltb, length, replicate, Float}
+use Rattle.std.specs.Prelude.{ℕ, zero, suc, List, ltb, length, replicate, Float, Ok}
 use Rattle.std.specs.Float.Ieee.{lt}
-use Rattle.answers.specs.Outcome.{Answer, done, bind}
+use Rattle.answers.specs.Outcome.{Answer, bind}
 use Rattle.lists.specs.Lists.{pick, tab}
 use Rattle.lists.specs.Walks.{every, walk}
 use Rattle.shape.specs.Limits.{most_axes}
@@ -21,12 +21,12 @@ holding c l = core_with c.rl c.n c.rr l
 
 module _ (R : Rules) (t : Settings) where
   unfoldable pub shift_zone : ℕ → Zone → Answer Core
-  shift_zone k z = bind (R.shift t k z) (λ l. done (holding z.core l))
+  shift_zone k z = bind (R.shift t k z) (λ l. Ok (holding z.core l))
 
   -- scaling is core 0's alone
   unfoldable pub scale_zone : ℕ → Core → Answer Core
-  scale_zone zero c = bind (R.scale t c.entries) (λ l. done (holding c l))
-  scale_zone (suc k) c = done c
+  scale_zone zero c = bind (R.scale t c.entries) (λ l. Ok (holding c l))
+  scale_zone (suc k) c = Ok c
 
   -- zone k of d
   unfoldable pub round_zone : ℕ → ℕ → Carry → Core → Answer (Carry × Cut)
@@ -58,7 +58,7 @@ further said bonds = tab most_axes (λ (k : ℕ). further_bond (bond_among said 
 
 -- m steps, each from the chain that the last one left
 unfoldable pub steps_from : ℕ → Settings → List Axis → After → Answer After
-steps_from zero t xs a = done a
+steps_from zero t xs a = Ok a
 steps_from (suc m) t xs a =
     bind (step t xs a.cores) (λ tr. steps_from m t xs (record { cores = cores_in tr; bonds = further a.bonds (after_cuts tr).bonds }))
 

@@ -7,9 +7,8 @@ use mathlib.Core.List.{List}
 use lib.ListN.{length}
 use lib.Ieee.{Float}
 use Rattle.answers.specs.declared.Refusal.{Refusal}
-use Rattle.answers.specs.declared.Verdict.{Verdict}
-use Rattle.answers.specs.declared.Verdict.TheVariants.{Fits, Refused}
-use Rattle.answers.specs.Outcome.{answered}
+use Rattle.std.specs.Prelude.{Ok, Err}
+use Rattle.answers.specs.Outcome.{answered, Check}
 use Rattle.lists.specs.Lists.{tab}
 use Rattle.shape.specs.declared.Shape.{Shape}
 use Rattle.shape.specs.Sizes.{Inside}
@@ -27,7 +26,7 @@ use Rattle.checks.specs.Over.{Stands, Rooms, stand_from}
 use Rattle.steps.specs.Held.{step_held, step_of, Came, Placed, Ready}
 use Rattle.steps.proofs.Steps.{with, moves, held_stops, came_of}
 
-pub not_fits : (v : Verdict) (q : Refusal) → v ≡ Refused q → v ≡ Fits → ⊥
+pub not_fits : (v : Check) (q : Refusal) → v ≡ Err q → v ≡ Ok tt → ⊥
 not_fits v q e f = let z : ◌≡◌ {A = ℕ} 0 1 = cc in omega arith
 
 -- memory stands at a zone as long as the chain's room stays
@@ -53,11 +52,11 @@ at_again s z k t h v A e = record {
 }
 
 -- a step whose moves are refused, with the verdict v
-pub step_stops : (set : Settings) (s t : Shape) (z : ℕ) (xs : List Axis) (h : Stepped) (u : List Float) (r : Verdict)
+pub step_stops : (set : Settings) (s t : Shape) (z : ℕ) (xs : List Axis) (h : Stepped) (u : List Float) (r : Check)
     → moves set s t z xs h.chain ≡ answered r (stand_from s t z u)
-    → (q : Refusal) → r ≡ Refused q → (v : Verdict) → v ≡ Refused q → (x : Shape × Stepped)
-    → (step_held set s z xs t h ≡ answered v x) × (z ≡ 0 → v ≡ Fits → Inside s x.0)
-step_stops set s t z xs h u r m q e v f x = (held_stops set s t z xs h u r m q e x ∙ ap (λ (y : Verdict). answered y x) (sym f), λ _ g. absurd (not_fits v q f g))
+    → (q : Refusal) → r ≡ Err q → (v : Check) → v ≡ Err q → (x : Shape × Stepped)
+    → (step_held set s z xs t h ≡ answered v x) × (z ≡ 0 → v ≡ Ok tt → Inside s x.0)
+step_stops set s t z xs h u r m q e v f x = (held_stops set s t z xs h u r m q e x ∙ ap (λ (y : Check). answered y x) (sym f), λ _ g. absurd (not_fits v q f g))
 
 -- ---- a whole chain, before any rank is held
 module _ (set : Settings) (s t : Shape) (xs : List Axis) (work carries room block : List Float) (R : Ready set s xs carries room block) (P : Placed s t work) where
@@ -72,7 +71,7 @@ module _ (set : Settings) (s t : Shape) (xs : List Axis) (work carries room bloc
     one_asks = subst (λ (x : Walked). ((Stands s x.shape work) × (Rooms room block)) × (((0 ≤ s.d) × ((k : ℕ) → 0 ≤ k → k < s.d → axis_reaches set s xs k ≡ true)) × AtZone s 0 0 x.shape (held_by x work carries))) (sym e)
         ((record { inside = P.inside; within = chain.sizes; long = P.long }, R.rooms), ((omega arith, λ k a b. R.reach k b), at_first))
 
-    pub one_came : (r : Walked) (work' carries' : List Float) → step_held set s 0 xs w.shape (held_by w work carries) ≡ answered r.verdict (r.shape, held_by r work' carries') → (◌≡◌ {A = ℕ} 0 0 → r.verdict ≡ Fits → Inside s r.shape)
+    pub one_came : (r : Walked) (work' carries' : List Float) → step_held set s 0 xs w.shape (held_by w work carries) ≡ answered r.verdict (r.shape, held_by r work' carries') → (◌≡◌ {A = ℕ} 0 0 → r.verdict ≡ Ok tt → Inside s r.shape)
         → Came (step_of set xs (tab s.d (standing s t work))) s t r.verdict r.shape r.bonds work'
     one_came r work' carries' f g =
         came_of set s t xs (held_by (unrounded t) work carries) P.inside P.long P.lefts P.rights refl r.verdict r.shape (held_by r work' carries')

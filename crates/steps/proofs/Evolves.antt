@@ -8,10 +8,9 @@ use lib.ListN.{length, replicate}
 use lib.Seq.{ext_get_or}
 use lib.Ieee.{Float}
 use Rattle.answers.specs.declared.Refusal.{Refusal}
-use Rattle.answers.specs.declared.Verdict.{Verdict}
-use Rattle.answers.specs.declared.Verdict.TheVariants.{Fits, Refused}
-use Rattle.answers.specs.Outcome.{Answer, done, refused, bind, verdict_of}
-use Rattle.answers.proofs.Outcomes.{done_inj, refused_inj, done_refused, bind_done, fits_done}
+use Rattle.std.specs.Prelude.{Ok, Err}
+use Rattle.answers.specs.Outcome.{Answer, bind, verdict_of, Check}
+use Rattle.answers.proofs.Outcomes.{ok_inj, err_inj, ok_err, bind_ok, passed_ok}
 use Rattle.lists.specs.Lists.{tab}
 use Rattle.lists.proofs.Tables.{length_tab, get_or_tab_lem}
 use Rattle.lists.proofs.Tests.{below_or_not}
@@ -30,14 +29,14 @@ use Rattle.stepform.specs.Steps.{step, further, steps_from, steps_of}
 use Rattle.steps.specs.Held.{Ends, Came, step_of, Placed, Ready}
 use Rattle.steps.proofs.Reshapes.{Ranked, reshaped_out, reshaped_at, reshaped_again}
 
-refused_by : {A : Type 0} (T : Answer A) (v : Verdict) (q : Refusal) → v ≡ verdict_of T → v ≡ Refused q → T ≡ refused q
-refused_by (done a) v q e h = let z : ◌≡◌ {A = ℕ} 0 1 = cc in let n : ⊥ = omega arith in absurd n
-refused_by (refused r) v q e h = let p : r ≡ q = cc in ap refused p
+refused_by : {A : Type 0} (T : Answer A) (v : Check) (q : Refusal) → v ≡ verdict_of T → v ≡ Err q → T ≡ Err q
+refused_by (Ok a) v q e h = let z : ◌≡◌ {A = ℕ} 0 1 = cc in let n : ⊥ = omega arith in absurd n
+refused_by (Err r) v q e h = let p : r ≡ q = cc in ap Err p
 
 -- what is refused with a last touch was refused before it
-refused_first : {A B : Type 0} (T : Answer A) (k : A → B) (q : Refusal) → bind T (λ a. done (k a)) ≡ refused q → T ≡ refused q
-refused_first (done a) k q e = absurd (done_refused e)
-refused_first (refused r) k q e = ap refused (refused_inj e)
+refused_first : {A B : Type 0} (T : Answer A) (k : A → B) (q : Refusal) → bind T (λ a. Ok (k a)) ≡ Err q → T ≡ Err q
+refused_first (Ok a) k q e = absurd (ok_err e)
+refused_first (Err r) k q e = ap Err (err_inj e)
 
 -- the ranks of a chain's own cores are its own
 reshaped_own : (s : Shape) (w : List Float) → s.d ≤ length s.left → s.d ≤ length s.right → reshaped 0 s (tab s.d (standing s s w)) ≡ s
@@ -82,17 +81,17 @@ module _ (set : Settings) (s : Shape) (xs : List Axis) (T : Answer After) where
     shape = sym (reshaped_own s w (omega (arith, I.sizes.axes.most, l)) (omega (arith, I.sizes.axes.most, r)));
   }
 
-  module _ (m : ℕ) (t : Shape) (said : List Bond) (w : List Float) (G : Going m t said w) (v : Verdict) (u : Shape) (bonds : List Bond) (w' : List Float)
+  module _ (m : ℕ) (t : Shape) (said : List Bond) (w : List Float) (G : Going m t said w) (v : Check) (u : Shape) (bonds : List Bond) (w' : List Float)
       (C : Came (step_of set xs (stood t w)) s t v u bonds w') where
     -- one step more is made
-    pub going_more : 0 < m → v ≡ Fits → (said' : List Bond) → said' ≡ further said bonds → Going (m - 1) u said' w'
+    pub going_more : 0 < m → v ≡ Ok tt → (said' : List Bond) → said' ≡ further said bonds → Going (m - 1) u said' w'
     unfolding steps_from
     going_more l f said' e =
         let o = step set xs (stood t w) in
-        let D = fits_done (step_of set xs (stood t w)) (sym C.verdict ∙ f) in
-        let B = bind_done o (λ tr. done (after_cuts tr)) D.0 D.1 in
+        let D = passed_ok (step_of set xs (stood t w)) (sym C.verdict ∙ f) in
+        let B = bind_ok o (λ tr. Ok (after_cuts tr)) D.0 D.1 in
         let E = C.ends D.0 D.1 in
-        let a = done_inj B.2 in
+        let a = ok_inj B.2 in
         let n : m ≡ suc (m - 1) = omega arith in
         let cores : cores_in B.0 ≡ stood u w' = ap (λ (x : After). x.cores) a ∙ E.cores in
         let told : further said (after_cuts B.0).bonds ≡ said' = ap (λ (x : After). further said x.bonds) a ∙ ap (further said) (sym E.said) ∙ sym e in
@@ -116,27 +115,27 @@ module _ (set : Settings) (s : Shape) (xs : List Axis) (T : Answer After) where
         }
 
     -- a step on the way is refused, and so are all
-    pub going_stops : 0 < m → (q : Refusal) → v ≡ Refused q → Came T s s v u bonds w'
+    pub going_stops : 0 < m → (q : Refusal) → v ≡ Err q → Came T s s v u bonds w'
     unfolding steps_from
     going_stops l q f =
         let n : m ≡ suc (m - 1) = omega arith in
         let o = step set xs (stood t w) in
         let r = refused_first o after_cuts q (refused_by (step_of set xs (stood t w)) v q C.verdict f) in
-        let R : T ≡ refused q =
+        let R : T ≡ Err q =
         G.rest ∙ ap (λ (i : ℕ). steps_from i set xs (record { cores = stood t w; bonds = said })) n
         ∙ ap (λ (y : Answer (List (Carry × Cut))). bind y (λ x. steps_from (m - 1) set xs (record { cores = cores_in x; bonds = further said (after_cuts x).bonds }))) r in
-        record { verdict = f ∙ ap verdict_of (sym R); ends = λ a e. absurd (done_refused (sym e ∙ R)) }
+        record { verdict = f ∙ ap verdict_of (sym R); ends = λ a e. absurd (ok_err (sym e ∙ R)) }
 
   -- all are made
-  pub going_ends : (m : ℕ) (t : Shape) (said : List Bond) (w : List Float) → Going m t said w → m ≤ 0 → Came T s s Fits t said w
+  pub going_ends : (m : ℕ) (t : Shape) (said : List Bond) (w : List Float) → Going m t said w → m ≤ 0 → Came T s s (Ok tt) t said w
   unfolding steps_from
   going_ends m t said w G l =
       let z : m ≡ 0 = omega arith in
       let end : After = record { cores = stood t w; bonds = said } in
-      let R : T ≡ done end = G.rest ∙ ap (λ (i : ℕ). steps_from i set xs end) z in
+      let R : T ≡ Ok end = G.rest ∙ ap (λ (i : ℕ). steps_from i set xs end) z in
       record {
         verdict = ap verdict_of (sym R);
-        ends = λ a e. subst (Ends s s t said w) (done_inj (sym R ∙ e)) (record { shape = G.shape; inside = G.inside; cores = refl; said = refl });
+        ends = λ a e. subst (Ends s s t said w) (ok_inj (sym R ∙ e)) (record { shape = G.shape; inside = G.inside; cores = refl; said = refl });
       }
 
   pub going_placed : (m : ℕ) (t : Shape) (said : List Bond) (w : List Float) → Going m t said w → entries_of s ≤ length w → Placed s t w

@@ -1,4 +1,5 @@
 -- Records by value stand for those that were lent: what is beyond the axes is never asked for, so checks and steps over them are the same. Assumes nothing.
+use Rattle.std.specs.Prelude.{Ok}
 use mathlib.Core.Path.{◌≡◌, refl, ap, ◌∙◌}
 use Prim.Native.Nat.{ℕ, zero, suc, ◌+◌, ◌≤◌, ◌<◌}
 use native.Mathlib.Omega.{arith}
@@ -8,7 +9,7 @@ use lib.Dec.{eqb}
 use lib.ListN.{length, length-map}
 use lib.Ieee.{Float}
 use Rattle.answers.specs.declared.Refusal.TheVariants.{Length, Number, Setting, Reach}
-use Rattle.answers.specs.Outcome.{done, bind, Check, ◌then◌, demand}
+use Rattle.answers.specs.Outcome.{bind, Check, ◌then◌, demand}
 use Rattle.answers.proofs.Outcomes.{bind_cong}
 use Rattle.answers.proofs.Checks.{then_is, then_on, each_same}
 use Rattle.lists.specs.Lists.{listed}
@@ -33,7 +34,7 @@ use Rattle.stepform.proofs.Restart.{step_length}
 use Rattle.stepform.proofs.Rounds.{zones_length}
 
 -- a step leaves as many cores as it found
-pub stepped_count : (t : Settings) (xs : List Axis) (cs : List Core) (tr : List (Carry × Cut)) → step t xs cs ≡ done tr → length (cores_in tr) ≡ length cs
+pub stepped_count : (t : Settings) (xs : List Axis) (cs : List Core) (tr : List (Carry × Cut)) → step t xs cs ≡ Ok tr → length (cores_in tr) ≡ length cs
 unfolding step
 stepped_count t xs cs tr e = length-map tr (λ (r : Carry × Cut). r.1.core) ∙ step_length rules t (length cs) 0 none (zones_of xs 0 cs) tr e ∙ zones_length xs 0 cs
 
@@ -98,12 +99,12 @@ zones_listed xs f zero k = refl
 zones_listed xs f (suc m) k = ap (λ (l : List Zone). zone (f k) (axis_at xs k) ∷ l) (zones_listed xs f m (suc k))
 
 -- ---- the calls
-cores_few : (s : Shape) (chain : List Float) → chain_ok s ≡ done tt → length (cores_of s chain) ≤ most_axes
+cores_few : (s : Shape) (chain : List Float) → chain_ok s ≡ Ok tt → length (cores_of s chain) ≤ most_axes
 unfolding cores_of
 cores_few s chain e = omega (arith, length_tab s.d (core_at s chain), (shaped s (λ (k : ℕ). true) e).most)
 
 -- a shape that passed all checks
-ok_chain : (lone mild : Bool) (t : Settings) (s : Shape) (n : ℕ) (xs : List Axis) (chain : List Float) (m : ℕ) → step_ok lone mild t s n xs chain m ≡ done tt → chain_ok s ≡ done tt
+ok_chain : (lone mild : Bool) (t : Settings) (s : Shape) (n : ℕ) (xs : List Axis) (chain : List Float) (m : ℕ) → step_ok lone mild t s n xs chain m ≡ Ok tt → chain_ok s ≡ Ok tt
 unfolding step_ok
 ok_chain lone mild t s n xs chain m e = (then_is _ _ tt e).0
 

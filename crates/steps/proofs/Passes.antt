@@ -9,10 +9,9 @@ use lib.ListN.{length, take}
 use lib.Seq.{take-take}
 use lib.Ieee.{Float}
 use Rattle.answers.specs.declared.Refusal.{Refusal}
-use Rattle.answers.specs.declared.Verdict.{Verdict}
-use Rattle.answers.specs.declared.Verdict.TheVariants.{Fits, Refused}
-use Rattle.answers.specs.Outcome.{Answer, bind, answered}
-use Rattle.answers.proofs.Outcomes.{answered_fits}
+use Rattle.std.specs.Prelude.{Ok, Err}
+use Rattle.answers.specs.Outcome.{Answer, bind, answered, Check}
+use Rattle.answers.proofs.Outcomes.{answered_ok}
 use Rattle.lists.specs.Lists.{listed}
 use Rattle.lists.specs.Slots.{offset}
 use Rattle.lists.specs.Walks.{every}
@@ -47,14 +46,14 @@ pub onward_both : (s : Shape) (z : ℕ) (w v u : List Float) → Onward s z w v 
 onward_both s z w v u P Q = record { front = Q.front ∙ P.front; behind = Q.behind ∙ P.behind }
 
 -- ---- one phase after another: r is the verdict of the first, a what it leaves
-module _ {A B : Type 0} (o : Answer A) (f : A → Answer B) (r : Verdict) (a : A) (e : o ≡ answered r a) where
-  phase_stops : (q : Refusal) → r ≡ Refused q → (b : B) → bind o f ≡ answered (Refused q) b
+module _ {A B : Type 0} (o : Answer A) (f : A → Answer B) (r : Check) (a : A) (e : o ≡ answered r a) where
+  phase_stops : (q : Refusal) → r ≡ Err q → (b : B) → bind o f ≡ answered (Err q) b
   unfolding answered
-  phase_stops q h b = ap (λ (x : Answer A). bind x f) (e ∙ ap (λ (v : Verdict). answered v a) h)
+  phase_stops q h b = ap (λ (x : Answer A). bind x f) (e ∙ ap (λ (v : Check). answered v a) h)
 
-  phase_goes : r ≡ Fits → (p : Answer B) → f a ≡ p → bind o f ≡ p
+  phase_goes : r ≡ Ok tt → (p : Answer B) → f a ≡ p → bind o f ≡ p
   unfolding answered
-  phase_goes h p g = ap (λ (x : Answer A). bind x f) (e ∙ ap (λ (v : Verdict). answered v a) h) ∙ g
+  phase_goes h p g = ap (λ (x : Answer A). bind x f) (e ∙ ap (λ (v : Check). answered v a) h) ∙ g
 
 -- ---- the shifts from zone z on: k is the next zone, w what stood there at first and v what stands there now
 module _ (s t : Shape) (set : Settings) (xs : List Axis) (z : ℕ) (w : List Float) where
@@ -72,12 +71,12 @@ module _ (s t : Shape) (set : Settings) (xs : List Axis) (z : ℕ) (w : List Flo
   shifting_none h = record { low = le_refl z; most = h; long = refl; onward = record { front = refl; behind = refl }; rest = left_none (shift_zone rules set) s.d z (zone_in s t xs w) (standing s t w) }
 
   module _ (k : ℕ) (v : List Float) (S : Shifting k v) where
-    shifting_done : s.d ≤ k → shifts ≡ answered Fits (stand_from s t z v)
-    shifting_done l = left_done (shift_zone rules set) s.d z shifts k (zone_in s t xs v) (standing s t v) S.rest S.low l S.most ∙ sym (answered_fits (stand_from s t z v))
+    shifting_done : s.d ≤ k → shifts ≡ answered (Ok tt) (stand_from s t z v)
+    shifting_done l = left_done (shift_zone rules set) s.d z shifts k (zone_in s t xs v) (standing s t v) S.rest S.low l S.most ∙ sym (answered_ok (stand_from s t z v))
 
     -- what is behind the shifts takes what they left
     pub moving_done : s.d ≤ k → {B : Type 0} (f : List Core → Answer B) (p : Answer B) → f (stand_from s t z v) ≡ p → bind shifts f ≡ p
-    moving_done l f p g = phase_goes shifts f Fits (stand_from s t z v) (shifting_done l) refl p g
+    moving_done l f p g = phase_goes shifts f (Ok tt) (stand_from s t z v) (shifting_done l) refl p g
 
     pub onward_on : (u : List Float) → Elsewhere s k v u → Onward s z w u
     onward_on u E =
@@ -88,18 +87,18 @@ module _ (s t : Shape) (set : Settings) (xs : List Axis) (z : ℕ) (w : List Flo
         }
 
     -- zone k, whose record is x, has made u of v
-    module _ (l : k < s.d) (x : Axis) (a : x ≡ axis_at xs k) (u : List Float) (r : Verdict) (e : shift_zone rules set k (zone (standing s t v k) x) ≡ answered r (standing s t u k)) where
+    module _ (l : k < s.d) (x : Axis) (a : x ≡ axis_at xs k) (u : List Float) (r : Check) (e : shift_zone rules set k (zone (standing s t v k) x) ≡ answered r (standing s t u k)) where
       here : shift_zone rules set k (zone_in s t xs v k) ≡ answered r (standing s t u k)
       here = ap (λ (y : Axis). shift_zone rules set k (zone (standing s t v k) y)) (sym a) ∙ e
 
-      shifting_stop : (q : Refusal) → r ≡ Refused q → (b : List Float) → shifts ≡ answered (Refused q) (stand_from s t z b)
+      shifting_stop : (q : Refusal) → r ≡ Err q → (b : List Float) → shifts ≡ answered (Err q) (stand_from s t z b)
       unfolding answered
-      shifting_stop q h b = left_stop (shift_zone rules set) s.d z shifts k (zone_in s t xs v) (standing s t v) S.rest l q (here ∙ ap (λ (o : Verdict). answered o (standing s t u k)) h)
+      shifting_stop q h b = left_stop (shift_zone rules set) s.d z shifts k (zone_in s t xs v) (standing s t v) S.rest l q (here ∙ ap (λ (o : Check). answered o (standing s t u k)) h)
 
-      pub moving_stop : (q : Refusal) → r ≡ Refused q → {B : Type 0} (f : List Core → Answer B) (b : B) → bind shifts f ≡ answered (Refused q) b
-      moving_stop q h f b = phase_stops shifts f (Refused q) (stand_from s t z v) (shifting_stop q h v) q refl b
+      pub moving_stop : (q : Refusal) → r ≡ Err q → {B : Type 0} (f : List Core → Answer B) (b : B) → bind shifts f ≡ answered (Err q) b
+      moving_stop q h f b = phase_stops shifts f (Err q) (stand_from s t z v) (shifting_stop q h v) q refl b
 
-      pub shifting_more : r ≡ Fits → length u ≡ length v → Elsewhere s k v u → Shifting (k + 1) u
+      pub shifting_more : r ≡ Ok tt → length u ≡ length v → Elsewhere s k v u → Shifting (k + 1) u
       shifting_more h same E =
           let still : (j : ℕ) → j < s.d → ¬ (j ≡ k) → standing s t u j ≡ standing s t v j = λ j p n. stand_same s t v u j (E.others j p n) in
           record {
@@ -108,7 +107,7 @@ module _ (s t : Shape) (set : Settings) (xs : List Axis) (z : ℕ) (w : List Flo
             long = same ∙ S.long;
             onward = onward_on u E;
             rest = left_more (shift_zone rules set) s.d z shifts k (zone_in s t xs v) (standing s t v) S.rest l S.low (zone_in s t xs u) (standing s t u)
-                (here ∙ ap (λ (o : Verdict). answered o (standing s t u k)) h ∙ answered_fits (standing s t u k))
+                (here ∙ ap (λ (o : Check). answered o (standing s t u k)) h ∙ answered_ok (standing s t u k))
                 (λ j p q. ap (λ (c : Core). zone c (axis_at xs j)) (still j q (λ n. omega arith)))
                 (λ j p. still j (omega arith) (λ n. omega arith));
           }

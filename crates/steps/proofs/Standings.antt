@@ -8,9 +8,8 @@ use mathlib.Core.List.{List, ◌++◌}
 use lib.ListN.{length, take, drop, get_or}
 use lib.Seq.{take_at, take-take}
 use lib.Ieee.{Float}
-use Rattle.answers.specs.declared.Verdict.{Verdict}
-use Rattle.answers.specs.declared.Verdict.TheVariants.{Fits, Refused}
-use Rattle.answers.specs.Outcome.{Answer, done, bind, answered}
+use Rattle.std.specs.Prelude.{Ok, Err}
+use Rattle.answers.specs.Outcome.{Answer, bind, answered, Check}
 use Rattle.lists.specs.Slots.{offset, slot}
 use Rattle.lists.proofs.Slots.{offset_suc, offset_mono}
 use Rattle.shape.specs.declared.Shape.{Shape}
@@ -30,10 +29,10 @@ use Rattle.checks.specs.Over.{Elsewhere, Stands, Rooms}
 use Rattle.steps.proofs.Fronts.{part_length, anew_other, anew_before, anew_behind, drop_further}
 
 -- a core made of what a call answers
-bind_held : (r : Verdict) (l : List Float) (f : List Float → Core) → bind (answered r l) (λ x. done (f x)) ≡ answered r (f l)
+bind_held : (r : Check) (l : List Float) (f : List Float → Core) → bind (answered r l) (λ x. Ok (f x)) ≡ answered r (f l)
 unfolding answered
-bind_held Fits l f = refl
-bind_held (Refused q) l f = refl
+bind_held (Ok _) l f = refl
+bind_held (Err q) l f = refl
 
 -- core k has `size` numbers and starts at `at`
 module _ (s t : Shape) (w : List Float) (S : Stands s t w) (k : ℕ) (l : k < s.d) (size at : ℕ) (z : size ≡ core_size t k) (a : at ≡ offset (core_size s) k) where
@@ -88,27 +87,27 @@ module _ (s t : Shape) (w : List Float) (S : Stands s t w) (k : ℕ) (l : k < s.
           others = λ j m n. ap (slot (core_size s) j) b ∙ anew_other (core_size s) k at size (take size (drop at v)) w a fits c last j n;
         }
 
-    made : (r : Verdict) → answered r (core_with (left_of t k) (points_of t k) (right_of t k) (take size (drop at v))) ≡ answered r (standing s t v k)
+    made : (r : Check) → answered r (core_with (left_of t k) (points_of t k) (right_of t k) (take size (drop at v))) ≡ answered r (standing s t v k)
     made r = ap (answered r) (sym (stand_is v))
 
     -- `core` is what it held
-    pub stand_shifted : (set : Settings) (y : Axis) (far : Shift) (core : List Float) (r : Verdict) → far ≡ shift_of y set.tau (points_of t k) → core ≡ take size (drop at w)
+    pub stand_shifted : (set : Settings) (y : Axis) (far : Shift) (core : List Float) (r : Check) → far ≡ shift_of y set.tau (points_of t k) → core ≡ take size (drop at w)
         → move_core k far (core_with (left_of t k) (points_of t k) (right_of t k) core) ≡ answered r (take size (drop at v)) → shift_zone rules set k (zone (standing s t w k) y) ≡ answered r (standing s t v k)
     unfolding shift_zone rules
     stand_shifted set y far core r f c e =
         let here : Core = core_with (left_of t k) (points_of t k) (right_of t k) core in
         let held : standing s t w k ≡ here = stand_is w ∙ ap (core_with (left_of t k) (points_of t k) (right_of t k)) (sym c) in
-        ap (λ (u : Core). bind (move_core k (shift_of y set.tau u.n) u) (λ x. done (holding u x))) held
-        ∙ ap (λ (u : Shift). bind (move_core k u here) (λ x. done (holding here x))) (sym f)
-        ∙ ap (λ (o : Answer (List Float)). bind o (λ x. done (holding here x))) e
+        ap (λ (u : Core). bind (move_core k (shift_of y set.tau u.n) u) (λ x. Ok (holding u x))) held
+        ∙ ap (λ (u : Shift). bind (move_core k u here) (λ x. Ok (holding here x))) (sym f)
+        ∙ ap (λ (o : Answer (List Float)). bind o (λ x. Ok (holding here x))) e
         ∙ bind_held r (take size (drop at v)) (holding here)
         ∙ made r
 
-    pub stand_scaled : (set : Settings) (r : Verdict) → scaled set.tau set.c (take size (drop at w)) ≡ answered r (take size (drop at v)) → scale_zone rules set 0 (standing s t w k) ≡ answered r (standing s t v k)
+    pub stand_scaled : (set : Settings) (r : Check) → scaled set.tau set.c (take size (drop at w)) ≡ answered r (take size (drop at v)) → scale_zone rules set 0 (standing s t w k) ≡ answered r (standing s t v k)
     unfolding scale_zone rules
     stand_scaled set r e =
         let here : Core = core_with (left_of t k) (points_of t k) (right_of t k) (take size (drop at w)) in
-        ap (λ (u : Core). bind (scaled set.tau set.c u.entries) (λ x. done (holding u x))) (stand_is w)
-        ∙ ap (λ (o : Answer (List Float)). bind o (λ x. done (holding here x))) e
+        ap (λ (u : Core). bind (scaled set.tau set.c u.entries) (λ x. Ok (holding u x))) (stand_is w)
+        ∙ ap (λ (o : Answer (List Float)). bind o (λ x. Ok (holding here x))) e
         ∙ bind_held r (take size (drop at v)) (holding here)
         ∙ made r

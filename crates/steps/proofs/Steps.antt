@@ -11,10 +11,9 @@ use lib.Ieee.{Float}
 use Rattle.numbers.specs.Arithmetic.{plus, times, zero64, one64}
 use Rattle.answers.specs.declared.Part.TheVariants.{Entry}
 use Rattle.answers.specs.declared.Refusal.{Refusal}
-use Rattle.answers.specs.declared.Verdict.{Verdict}
-use Rattle.answers.specs.declared.Verdict.TheVariants.{Fits, Refused}
-use Rattle.answers.specs.Outcome.{Answer, done, refused, bind, making, answered, verdict_of}
-use Rattle.answers.proofs.Outcomes.{bind_assoc, bind_cong, bind_done, done_inj, refused_inj, done_refused}
+use Rattle.std.specs.Prelude.{Ok, Err}
+use Rattle.answers.specs.Outcome.{Answer, bind, making, answered, verdict_of, Check}
+use Rattle.answers.proofs.Outcomes.{bind_assoc, bind_cong, bind_ok, ok_inj, err_inj, ok_err}
 use Rattle.lists.specs.Lists.{listed, tab}
 use Rattle.lists.specs.Slots.{offset, slot, laid, write}
 use Rattle.lists.specs.Walks.{every, walk}
@@ -70,71 +69,71 @@ module _ (set : Settings) (s t : Shape) (z : ℕ) (xs : List Axis) where
         ap (λ (x : List Float). with (keep_step s z tr h) x) e
 
     -- r is the verdict on the moves, which leave v
-    module _ (r : Verdict) (m : moves h.chain ≡ answered r (stand_from s t z v)) where
-      opened : step_held set s z xs t h ≡ bind (bind (answered r (stand_from s t z v)) (λ b. walk (round_zone rules set s.d) z (carry_left s t h z) b)) (λ tr. done (reshaped z t (cores_in tr), keep_step s z tr h))
+    module _ (r : Check) (m : moves h.chain ≡ answered r (stand_from s t z v)) where
+      opened : step_held set s z xs t h ≡ bind (bind (answered r (stand_from s t z v)) (λ b. walk (round_zone rules set s.d) z (carry_left s t h z) b)) (λ tr. Ok (reshaped z t (cores_in tr), keep_step s z tr h))
       unfolding step_held step_from
       opened =
           let E = every (shift_zone rules set) z (listed (s.d - z) z (zone_in s t xs h.chain)) in
           let F : List Core → Answer (List (Carry × Cut)) = λ b. walk (round_zone rules set s.d) z (carry_left s t h z) b in
-          ap (λ (o : Answer (List (Carry × Cut))). bind o (λ tr. done (reshaped z t (cores_in tr), keep_step s z tr h)))
+          ap (λ (o : Answer (List (Carry × Cut))). bind o (λ tr. Ok (reshaped z t (cores_in tr), keep_step s z tr h)))
           (sym (bind_assoc E (λ a. every (scale_zone rules set) z a) F) ∙ ap (λ (o : Answer (List Core)). bind o F) m)
 
-      pub held_stops : (q : Refusal) → r ≡ Refused q → (x : Shape × Stepped) → step_held set s z xs t h ≡ answered (Refused q) x
+      pub held_stops : (q : Refusal) → r ≡ Err q → (x : Shape × Stepped) → step_held set s z xs t h ≡ answered (Err q) x
       unfolding answered
-      held_stops q e x = opened ∙ ap (λ (y : Verdict). bind (bind (answered y (stand_from s t z v)) (λ b. walk (round_zone rules set s.d) z (carry_left s t h z) b)) (λ tr. done (reshaped z t (cores_in tr), keep_step s z tr h))) e
+      held_stops q e x = opened ∙ ap (λ (y : Check). bind (bind (answered y (stand_from s t z v)) (λ b. walk (round_zone rules set s.d) z (carry_left s t h z) b)) (λ tr. Ok (reshaped z t (cores_in tr), keep_step s z tr h))) e
 
-      pub held_goes : r ≡ Fits → Onward s z h.chain v → (o : Answer (Shape × Stepped)) → round_from set.cutting s z t (with h v) ≡ o → step_held set s z xs t h ≡ o
+      pub held_goes : r ≡ Ok tt → Onward s z h.chain v → (o : Answer (Shape × Stepped)) → round_from set.cutting s z t (with h v) ≡ o → step_held set s z xs t h ≡ o
       unfolding answered round_from round_zone rules
       held_goes e O o g =
           let W : Carry → Answer (List (Carry × Cut)) = λ c. walk (λ (k : ℕ). round_core set.cutting (ltb (suc k) s.d) k) z c (stand_from s t z v) in
           opened
-          ∙ ap (λ (y : Verdict). bind (bind (answered y (stand_from s t z v)) (λ b. walk (round_zone rules set s.d) z (carry_left s t h z) b)) (λ tr. done (reshaped z t (cores_in tr), keep_step s z tr h))) e
-          ∙ ap (λ (c : Carry). bind (W c) (λ tr. done (reshaped z t (cores_in tr), keep_step s z tr h))) (sym (carry_same z))
-          ∙ bind_cong (W (carry_left s t (with h v) z)) _ _ (λ tr _. ap (λ (x : Stepped). done (reshaped z t (cores_in tr), x)) (sym (keep_same O tr)))
+          ∙ ap (λ (y : Check). bind (bind (answered y (stand_from s t z v)) (λ b. walk (round_zone rules set s.d) z (carry_left s t h z) b)) (λ tr. Ok (reshaped z t (cores_in tr), keep_step s z tr h))) e
+          ∙ ap (λ (c : Carry). bind (W c) (λ tr. Ok (reshaped z t (cores_in tr), keep_step s z tr h))) (sym (carry_same z))
+          ∙ bind_cong (W (carry_left s t (with h v) z)) _ _ (λ tr _. ap (λ (x : Stepped). Ok (reshaped z t (cores_in tr), x)) (sym (keep_same O tr)))
           ∙ g
 
 -- ---- what came of it, by the code's answer
 module _ {A B : Type 0} (k : A → B) where
-  pub verdict_of_lem : (T : Answer A) (v : Verdict) (b : B) → bind T (λ a. done (k a)) ≡ answered v b → v ≡ verdict_of T
+  pub verdict_of_lem : (T : Answer A) (v : Check) (b : B) → bind T (λ a. Ok (k a)) ≡ answered v b → v ≡ verdict_of T
   unfolding answered
-  verdict_of_lem (done a) Fits b e = refl
-  verdict_of_lem (done a) (Refused q) b e = absurd (done_refused e)
-  verdict_of_lem (refused r) Fits b e = absurd (done_refused (sym e))
-  verdict_of_lem (refused r) (Refused q) b e = ap Refused (refused_inj (sym e))
+  verdict_of_lem (Ok a) (Ok _) b e = refl
+  verdict_of_lem (Ok a) (Err q) b e = absurd (ok_err e)
+  verdict_of_lem (Err r) (Ok _) b e = absurd (ok_err (sym e))
+  verdict_of_lem (Err r) (Err q) b e = ap Err (err_inj (sym e))
 
-  verdict_after : (T : Answer A) → verdict_of (bind T (λ a. done (k a))) ≡ verdict_of T
-  verdict_after (done a) = refl
-  verdict_after (refused r) = refl
+  verdict_after : (T : Answer A) → verdict_of (bind T (λ a. Ok (k a))) ≡ verdict_of T
+  verdict_after (Ok a) = refl
+  verdict_after (Err r) = refl
 
-  pub value_of : (T : Answer A) (v : Verdict) (b : B) → bind T (λ a. done (k a)) ≡ answered v b → (a : A) → T ≡ done a → (k a ≡ b) × (v ≡ Fits)
+  pub value_of : (T : Answer A) (v : Check) (b : B) → bind T (λ a. Ok (k a)) ≡ answered v b → (a : A) → T ≡ Ok a → (k a ≡ b) × (v ≡ Ok tt)
   unfolding answered
-  value_of T Fits b e a g = (done_inj (sym (ap (λ (o : Answer A). bind o (λ a. done (k a))) g) ∙ e), refl)
-  value_of T (Refused q) b e a g = absurd (done_refused (sym (ap (λ (o : Answer A). bind o (λ a. done (k a))) g) ∙ e))
+  value_of T (Ok _) b e a g = (ok_inj (sym (ap (λ (o : Answer A). bind o (λ a. Ok (k a))) g) ∙ e), refl)
+  value_of T (Err q) b e a g = absurd (ok_err (sym (ap (λ (o : Answer A). bind o (λ a. Ok (k a))) g) ∙ e))
 
 -- the moves leave each core its points and all its numbers
 module _ (set : Settings) (t : Shape) where
-  moved_length : (k : ℕ) (far : Shift) (c : Core) (l : List Float) → length c.entries ≡ volume c → move_core k far c ≡ done l → length l ≡ volume c
+  moved_length : (k : ℕ) (far : Shift) (c : Core) (l : List Float) → length c.entries ≡ volume c → move_core k far c ≡ Ok l → length l ≡ volume c
   unfolding shifted
-  moved_length k Stay c l f e = ap length (sym (done_inj e)) ∙ f
+  moved_length k Stay c l f e = ap length (sym (ok_inj e)) ∙ f
   moved_length k (By ratio boundary) c l f e = ap length (sym (making_stored Entry k (shifted c ratio boundary) l e).0) ∙ block_length c.rl c.n c.rr _
 
-  shift_found : (k : ℕ) (z : Zone) (c : Core) → Found t k z.core → shift_zone rules set k z ≡ done c → Found t k c
+  shift_found : (k : ℕ) (z : Zone) (c : Core) → Found t k z.core → shift_zone rules set k z ≡ Ok c → Found t k c
   unfolding shift_zone rules
   shift_found k z c f e =
       let far = shift_of z.axis set.tau z.core.n in
-      let A = bind_done (move_core k far z.core) (λ l. done (holding z.core l)) c e in
-      let p = done_inj A.2 in
+      let A = bind_ok (move_core k far z.core) (λ l. Ok (holding z.core l)) c e in
+      let p = ok_inj A.2 in
       (ap (λ (x : Core). x.n) (sym p) ∙ f.0, ap (λ (x : Core). length x.entries) (sym p) ∙ moved_length k far z.core A.0 f.1 A.1 ∙ ap volume p)
 
-  scale_found : (k : ℕ) (c d : Core) → Found t k c → scale_zone rules set k c ≡ done d → Found t k d
+  scale_found : (k : ℕ) (c d : Core) → Found t k c → scale_zone rules set k c ≡ Ok d → Found t k d
   unfolding scale_zone rules scaled
   scale_found zero c d f e =
       let m = map (λ (v : Float). times v (plus one64 (times set.tau set.c))) c.entries in
-      let A = bind_done (making Entry 0 (stored m)) (λ l. done (holding c l)) d e in
-      let p = done_inj A.2 in
+      let A = bind_ok (making Entry 0 (stored m)) (λ l. Ok (holding c l)) d e in
+      let p = ok_inj A.2 in
       let q = (making_stored Entry 0 m A.0 A.1).0 in
       (ap (λ (x : Core). x.n) (sym p) ∙ f.0, ap (λ (x : Core). length x.entries) (sym p) ∙ ap length (sym q) ∙ length-map c.entries _ ∙ f.1 ∙ ap volume p)
-  scale_found (suc k) c d f e = let p = done_inj e in (ap (λ (x : Core). x.n) (sym p) ∙ f.0, ap (λ (x : Core). length x.entries) (sym p) ∙ f.1 ∙ ap volume p)
+  scale_found (suc k) c d f e = let p = ok_inj e in (ap (λ (x : Core). x.n) (sym p) ∙ f.0, ap (λ (x : Core). length x.entries) (sym p) ∙ f.1 ∙ ap volume p)
 
 module _ (set : Settings) (s t : Shape) (xs : List Axis) (h : Stepped) (I : Inside s t) (long : entries_of s ≤ length h.chain) (lefts : length t.left ≡ most_axes) (rights : length t.right ≡ most_axes) where
   abbrev zones : List Zone
@@ -151,34 +150,34 @@ module _ (set : Settings) (s t : Shape) (xs : List Axis) (h : Stepped) (I : Insi
   stand_found j l = (refl, length-take-le (core_size t j) (slot (core_size s) j h.chain) (omega (arith, inside_size s t I j l, slot_length (core_size s) j h.chain (omega (arith, offset_mono (core_size s) (suc j) s.d l, long)))))
 
   -- the cores that the rounding found
-  ready : (tr : List (Carry × Cut)) → step_from rules set s.d 0 none zones ≡ done tr
-      → (b : List Core) × (length b ≡ s.d) × (All (Found t) 0 b) × (walk (λ (k : ℕ). round_core set.cutting (ltb (suc k) s.d) k) 0 none b ≡ done tr)
+  ready : (tr : List (Carry × Cut)) → step_from rules set s.d 0 none zones ≡ Ok tr
+      → (b : List Core) × (length b ≡ s.d) × (All (Found t) 0 b) × (walk (λ (k : ℕ). round_core set.cutting (ltb (suc k) s.d) k) 0 none b ≡ Ok tr)
   unfolding step_from round_zone rules
   ready tr e =
-      let A = bind_done (every (shift_zone rules set) 0 zones) _ tr e in
-      let B = bind_done (every (scale_zone rules set) 0 A.0) _ tr A.2 in
+      let A = bind_ok (every (shift_zone rules set) 0 zones) _ tr e in
+      let B = bind_ok (every (scale_zone rules set) 0 A.0) _ tr A.2 in
       let Z = listed_all (λ (k : ℕ) (z : Zone). Found t k z.core) (s.d - 0) 0 (zone_in s t xs h.chain) (λ j p q. stand_found j (omega arith)) in
       let F = every_all (shift_zone rules set) (λ (k : ℕ) (z : Zone). Found t k z.core) (Found t) (shift_found set t) 0 zones A.0 Z A.1 in
       let G = every_all (scale_zone rules set) (Found t) (Found t) (scale_found set t) 0 A.0 B.0 F B.1 in
       let n = every_length (scale_zone rules set) 0 A.0 B.0 B.1 ∙ every_length (shift_zone rules set) 0 zones A.0 A.1 ∙ listed_length (s.d - 0) 0 (zone_in s t xs h.chain) ∙ sub-zero s.d in
       (B.0, n, G, B.2)
 
-  module _ (blank : h.bonds ≡ replicate most_axes no_bond) (v : Verdict) (u : Shape) (h' : Stepped) (e : step_held set s 0 xs t h ≡ answered v (u, h')) where
+  module _ (blank : h.bonds ≡ replicate most_axes no_bond) (v : Check) (u : Shape) (h' : Stepped) (e : step_held set s 0 xs t h ≡ answered v (u, h')) where
     abbrev T : Answer (List (Carry × Cut))
     T = step_from rules set s.d 0 none zones
 
     abbrev kept : List (Carry × Cut) → Shape × Stepped
     kept tr = (reshaped 0 t (cores_in tr), keep_step s 0 tr h)
 
-    plain : bind T (λ tr. done (kept tr)) ≡ answered v (u, h')
+    plain : bind T (λ tr. Ok (kept tr)) ≡ answered v (u, h')
     unfolding step_held carry_left
     plain = e
 
-    pub came_of : (v ≡ Fits → Inside s u) → Came (step_of set xs (tab s.d (standing s t h.chain))) s t v u h'.bonds h'.chain
+    pub came_of : (v ≡ Ok tt → Inside s u) → Came (step_of set xs (tab s.d (standing s t h.chain))) s t v u h'.bonds h'.chain
     came_of inside = record {
       verdict = verdict_of_lem kept T v (u, h') plain ∙ ap verdict_of (sym step_is) ∙ sym (verdict_after after_cuts (step set xs (tab s.d (standing s t h.chain))));
       ends = λ a b.
-          let D = bind_done (step set xs (tab s.d (standing s t h.chain))) (λ x. done (after_cuts x)) a b in
+          let D = bind_ok (step set xs (tab s.d (standing s t h.chain))) (λ x. Ok (after_cuts x)) a b in
           let tr = D.0 in
           let f = sym step_is ∙ D.1 in
           let k = value_of kept T v (u, h') plain tr f in
@@ -187,7 +186,7 @@ module _ (set : Settings) (s t : Shape) (xs : List Axis) (h : Stepped) (I : Insi
           let R = ready tr f in
           let J = inside k.1 in
           let stand = cores_stand set.cutting s t h I lefts rights R.0 R.1 R.2 tr R.3 (subst (Inside s) shape J) in
-          subst (Ends s t u h'.bonds h'.chain) (done_inj D.2) (record {
+          subst (Ends s t u h'.bonds h'.chain) (ok_inj D.2) (record {
             shape = shape;
             inside = J;
             cores = stand ∙ ap (λ (x : Shape). tab s.d (standing s x (keep_step s 0 tr h).chain)) (sym shape) ∙ ap (λ (x : Stepped). tab s.d (standing s u x.chain)) (sym held);

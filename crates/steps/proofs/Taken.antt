@@ -1,4 +1,5 @@
 -- The chain taken into scratch, where its steps are made. Assumes nothing.
+use Rattle.std.specs.Prelude.{Ok}
 use mathlib.Core.Path.{◌≡◌, sym, ap, ◌∙◌, subst}
 use Prim.Native.Nat.{ℕ}
 use native.Mathlib.Omega.{arith}
@@ -7,8 +8,7 @@ use mathlib.Core.List.{List, ◌++◌}
 use lib.ListN.{length, take, drop, length-append}
 use lib.Seq.{take_at, take-take, take-length}
 use lib.Ieee.{Float}
-use Rattle.answers.specs.declared.Verdict.{Verdict}
-use Rattle.answers.specs.Outcome.{Answer, done}
+use Rattle.answers.specs.Outcome.{Answer, Check}
 use Rattle.lists.specs.Lists.{tab}
 use Rattle.lists.specs.Slots.{offset, slot}
 use Rattle.lists.proofs.Tables.{listed_same}
@@ -42,9 +42,9 @@ taken_over s l x r e n =
     take_all l m n = ap (λ (i : ℕ). take i l) (sym n) ∙ take-length l
 
 -- ---- the steps over the chain in scratch
-pub placed_own : (s : Shape) (l x r : List Float) → chain_ok s ≡ done tt → x ≡ l → length l ≡ entries_of s → length s.left ≡ most_axes → length s.right ≡ most_axes → Placed s s (x ++ r)
+pub placed_own : (s : Shape) (l x r : List Float) → chain_ok s ≡ Ok tt → x ≡ l → length l ≡ entries_of s → length s.left ≡ most_axes → length s.right ≡ most_axes → Placed s s (x ++ r)
 placed_own s l x r ok e n a b = record { inside = inside_itself s (shaped s (λ (k : ℕ). true) ok); lefts = a; rights = b; long = omega (arith, length-append x r, ap length e) }
 
-pub came_own : (T : List Core → Answer After) (s : Shape) (l x r : List Float) → x ≡ l → length l ≡ entries_of s → (v : Verdict) (u : Shape) (bonds : List Bond) (w : List Float)
+pub came_own : (T : List Core → Answer After) (s : Shape) (l x r : List Float) → x ≡ l → length l ≡ entries_of s → (v : Check) (u : Shape) (bonds : List Bond) (w : List Float)
     → Came (T (tab s.d (standing s s (x ++ r)))) s s v u bonds w → Came (T (cores_of s l)) s s v u bonds w
 came_own T s l x r e n v u bonds w C = subst (λ (cs : List Core). Came (T cs) s s v u bonds w) (taken_over s l x r e n) C

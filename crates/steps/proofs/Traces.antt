@@ -1,4 +1,5 @@
 -- What a rounding of a whole chain in place leaves: every core stands in the room of its source, and what is said of the bonds at the front of their array. Assumes nothing.
+use Rattle.std.specs.Prelude.{Ok}
 use mathlib.Core.Path.{◌≡◌, refl, sym, ap, ◌∙◌}
 use Prim.Native.Nat.{ℕ, zero, suc, ◌+◌, ◌-◌, ◌*◌, ◌≤◌, ◌<◌}
 use native.Mathlib.Nat.{zero-add}
@@ -10,8 +11,7 @@ use lib.ListN.{length, take, drop, get_or, replicate, length-map, get_or-map}
 use lib.Seq.{take_at}
 use lib.Ieee.{Float}
 use Rattle.numbers.specs.Arithmetic.{zero64}
-use Rattle.answers.specs.Outcome.{done}
-use Rattle.answers.proofs.Outcomes.{bind_done, done_inj}
+use Rattle.answers.proofs.Outcomes.{bind_ok, ok_inj}
 use Rattle.lists.specs.Lists.{tab, flat}
 use Rattle.lists.specs.Slots.{offset, slot, fit, laid, write}
 use Rattle.lists.specs.Walks.{walk}
@@ -62,15 +62,15 @@ module _ {A : Type 0} (size : ℕ → ℕ) (o : A) where
 abbrev blank : Carry × Cut
 blank = (none, record { core = core_with 0 0 0 []; bonds = [] })
 
-bonds_cut : (more : Bool) (k : ℕ) (cutting : Cutting) (c : Core) (r : Carry × Cut) → cut_if more k cutting c ≡ done r → length r.1.bonds ≡ cond more 1 0
-bonds_cut true k cutting c r h = let A = bind_done (cut_bond k cutting c) _ r h in ap (λ (x : Carry × Cut). length x.1.bonds) (sym (done_inj A.2))
-bonds_cut false k cutting c r h = ap (λ (x : Carry × Cut). length x.1.bonds) (sym (done_inj h))
+bonds_cut : (more : Bool) (k : ℕ) (cutting : Cutting) (c : Core) (r : Carry × Cut) → cut_if more k cutting c ≡ Ok r → length r.1.bonds ≡ cond more 1 0
+bonds_cut true k cutting c r h = let A = bind_ok (cut_bond k cutting c) _ r h in ap (λ (x : Carry × Cut). length x.1.bonds) (sym (ok_inj A.2))
+bonds_cut false k cutting c r h = ap (λ (x : Carry × Cut). length x.1.bonds) (sym (ok_inj h))
 
-bonds_one : (cutting : Cutting) (more : Bool) (k : ℕ) (s : Carry) (c : Core) (r : Carry × Cut) → round_core cutting more k s c ≡ done r
+bonds_one : (cutting : Cutting) (more : Bool) (k : ℕ) (s : Carry) (c : Core) (r : Carry × Cut) → round_core cutting more k s c ≡ Ok r
     → length r.1.bonds ≡ cond more 1 0
 unfolding round_core
 bonds_one cutting more k s c r h =
-    let A = bind_done (taken_in k s c) (λ d. cut_if more k cutting d) r h in
+    let A = bind_ok (taken_in k s c) (λ d. cut_if more k cutting d) r h in
     bonds_cut more k cutting A.0 r A.2
 
 -- ---- a whole chain
@@ -79,7 +79,7 @@ abbrev pub Found : Shape → ℕ → Core → Type 0
 Found t k c = (c.n ≡ points_of t k) × (length c.entries ≡ volume c)
 
 module _ (cutting : Cutting) (s t : Shape) (h : Stepped) (I : Inside s t) (lefts : length t.left ≡ most_axes) (rights : length t.right ≡ most_axes) (cs : List Core) (count : length cs ≡ s.d) (F : All (Found t) 0 cs)
-    (tr : List (Carry × Cut)) (e : walk (λ (k : ℕ). round_core cutting (ltb (suc k) s.d) k) 0 none cs ≡ done tr) where
+    (tr : List (Carry × Cut)) (e : walk (λ (k : ℕ). round_core cutting (ltb (suc k) s.d) k) 0 none cs ≡ Ok tr) where
   record Left (k : ℕ) (r : Carry × Cut) : Type 0 where
     points : r.1.core.n ≡ points_of t k
     full : length r.1.core.entries ≡ volume r.1.core
@@ -88,7 +88,7 @@ module _ (cutting : Cutting) (s t : Shape) (h : Stepped) (I : Inside s t) (lefts
   pub trace_count : length tr ≡ s.d
   trace_count = walk_length (λ (k : ℕ). round_core cutting (ltb (suc k) s.d) k) 0 none cs tr e ∙ count
 
-  makes : (k : ℕ) (c : Carry) (x : Core) (r : Carry × Cut) → Found t k x → round_core cutting (ltb (suc k) s.d) k c x ≡ done r → Left k r
+  makes : (k : ℕ) (c : Carry) (x : Core) (r : Carry × Cut) → Found t k x → round_core cutting (ltb (suc k) s.d) k c x ≡ Ok r → Left k r
   unfolding bond_size
   makes k c x r f g =
       let C = round_of cutting k c x r (ltb (suc k) s.d) f.1 g in

@@ -1,7 +1,6 @@
 -- A step of the zones from one on as memory has it, and what came of steps over a whole chain. Definitions for code only.
-use Rattle.std.specs.Prelude.{◌≡◌, ℕ, ◌-◌, ◌≤◌, ◌<◌, true, List, length, Float}
-use Rattle.answers.specs.declared.Verdict.{Verdict}
-use Rattle.answers.specs.Outcome.{Answer, done, bind, verdict_of}
+use Rattle.std.specs.Prelude.{◌≡◌, ℕ, ◌-◌, ◌≤◌, ◌<◌, true, List, length, Float, Ok}
+use Rattle.answers.specs.Outcome.{Answer, bind, verdict_of, Check}
 use Rattle.lists.specs.Lists.{listed, tab}
 use Rattle.shape.specs.declared.Shape.{Shape}
 use Rattle.shape.specs.Limits.{most_axes, most_carries}
@@ -22,7 +21,7 @@ use Rattle.checks.specs.Over.{zone_in, Rooms}
 unfoldable pub step_held : Settings → Shape → ℕ → List Axis → Shape → Stepped → Answer (Shape × Stepped)
 step_held set s z xs t h =
     bind (step_from rules set s.d z (carry_left s t h z) (listed (s.d - z) z (zone_in s t xs h.chain)))
-    (λ tr. done (reshaped z t (cores_in tr), keep_step s z tr h))
+    (λ tr. Ok (reshaped z t (cores_in tr), keep_step s z tr h))
 
 -- a is what was left of the chain: u is its shape at the end, w what stands in the room of s
 pub record Ends (s t u : Shape) (bonds : List Bond) (w : List Float) (a : After) : Type 0 where
@@ -32,13 +31,13 @@ pub record Ends (s t u : Shape) (bonds : List Bond) (w : List Float) (a : After)
   pub said : bonds ≡ a.bonds
 
 -- v is the verdict on T, which began with a chain of shape t
-pub record Came (T : Answer After) (s t : Shape) (v : Verdict) (u : Shape) (bonds : List Bond) (w : List Float) : Type 0 where
+pub record Came (T : Answer After) (s t : Shape) (v : Check) (u : Shape) (bonds : List Bond) (w : List Float) : Type 0 where
   pub verdict : v ≡ verdict_of T
-  pub ends : (a : After) → T ≡ done a → Ends s t u bonds w a
+  pub ends : (a : After) → T ≡ Ok a → Ends s t u bonds w a
 
 -- one step, by what it leaves
 abbrev pub step_of : Settings → List Axis → List Core → Answer After
-step_of set xs cs = bind (step set xs cs) (λ tr. done (after_cuts tr))
+step_of set xs cs = bind (step set xs cs) (λ tr. Ok (after_cuts tr))
 
 -- ---- what work in place asks
 -- a chain of shape t stands in the room of s
@@ -50,7 +49,7 @@ pub record Placed (s t : Shape) (w : List Float) : Type 0 where
 
 -- s is a chain's shape, every shift reaches, and there is room
 pub record Ready (set : Settings) (s : Shape) (xs : List Axis) (carries room block : List Float) : Type 0 where
-  pub ok : chain_ok s ≡ done tt
+  pub ok : chain_ok s ≡ Ok tt
   pub reach : (k : ℕ) → k < s.d → axis_reaches set s xs k ≡ true
   pub carried : most_carries ≤ length carries
   pub rooms : Rooms room block

@@ -4,9 +4,8 @@
 pub mod moves;
 pub mod shifts;
 
-ghost use Rattle.std.specs.Prelude.{◌≡◌, true, ℕ, ◌≤◌, ◌<◌, length};
-ghost use Rattle.answers.specs.declared.Verdict.TheVariants.{Fits, Refused};
-ghost use Rattle.answers.specs.Outcome.{answered, done};
+ghost use Rattle.std.specs.Prelude.{◌≡◌, true, ℕ, ◌≤◌, ◌<◌, length, Ok, Err};
+ghost use Rattle.answers.specs.Outcome.{answered};
 ghost use Rattle.lists.specs.Lists.{tab};
 ghost use Rattle.shape.specs.Shapes.{chain_ok, entries_of};
 ghost use Rattle.shape.specs.Sizes.{Inside};
@@ -18,11 +17,11 @@ ghost use Rattle.checks.specs.Over.{Stands, Rooms};
 ghost use Rattle.steps.specs.Held.{step_held, step_of, Came, Placed, Ready};
 
 fn refused_walk(q: answers::Refusal, t: shape::Shape) -> cuts::Walked
-    ensures { result.verdict ≡ Refused q }
+    ensures { result.verdict ≡ Err q }
 {
     let none = bond::no_bond();
     cuts::Walked {
-        verdict: answers::Verdict::Refused(q),
+        verdict: Err(q),
         shape: t,
         bonds: [none; shape::MOST_AXES],
     }
@@ -44,11 +43,11 @@ pub fn step_from(
     requires z_le_d { (z ≤ s.d) × ((k : ℕ) → z ≤ k → k < s.d → axis_reaches set s xs k ≡ true) }
     requires at_zone { AtZone s z z w.shape (held_by w work.old carries.old) }
     ensures { (step_held set s z xs w.shape (held_by w work.old carries.old)
-        ≡ answered result.verdict (result.shape, held_by result work.new carries.new)) × (z ≡ 0 → result.verdict ≡ Fits → Inside s result.shape) }
+        ≡ answered result.verdict (result.shape, held_by result work.new carries.new)) × (z ≡ 0 → result.verdict ≡ Ok tt → Inside s result.shape) }
 {
     let t = w.shape;
     let moved = shifts::move_from(z, s, t, set, xs, work, room, block);
-    if let answers::Verdict::Refused(q) = moved {
+    if let Err(q) = moved {
         return refused_walk(q, t);
     }
     let cutting = set.cutting;
@@ -143,7 +142,7 @@ fn steps_in(
     while 0 < left {
         let w = one_step(s, t, set, xs, work, carries, room, block);
         let verdict = w.verdict;
-        if let answers::Verdict::Refused(q) = verdict {
+        if let Err(q) = verdict {
             return w;
         }
         let next = w.shape;
@@ -154,7 +153,7 @@ fn steps_in(
         left -= 1;
     }
     cuts::Walked {
-        verdict: answers::Verdict::Fits,
+        verdict: Ok(()),
         shape: t,
         bonds: said,
     }
@@ -169,7 +168,7 @@ pub fn stepped(
     chain: &[f64],
     scratch: &mut [f64],
 ) -> cuts::Walked
-    requires s_value { (chain_ok s ≡ done tt) × ((k : ℕ) → k < s.d → axis_reaches set s xs k ≡ true) }
+    requires s_value { (chain_ok s ≡ Ok tt) × ((k : ℕ) → k < s.d → axis_reaches set s xs k ≡ true) }
     requires chain_len { (length chain.now ≡ entries_of s) × (entries_of s ≤ length scratch.old) }
     ensures { Came (steps_of m set xs (cores_of s chain.now)) s s result.verdict result.shape result.bonds scratch.new }
 {
@@ -189,7 +188,7 @@ pub fn stepped_once(
     chain: &[f64],
     scratch: &mut [f64],
 ) -> cuts::Walked
-    requires s_value { (chain_ok s ≡ done tt) × ((k : ℕ) → k < s.d → axis_reaches set s xs k ≡ true) }
+    requires s_value { (chain_ok s ≡ Ok tt) × ((k : ℕ) → k < s.d → axis_reaches set s xs k ≡ true) }
     requires chain_len { (length chain.now ≡ entries_of s) × (entries_of s ≤ length scratch.old) }
     ensures { Came (step_of set xs (cores_of s chain.now)) s s result.verdict result.shape result.bonds scratch.new }
 {

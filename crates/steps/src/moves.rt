@@ -31,7 +31,7 @@ fn move_back(
     size: usize,
     work: &mut [f64],
     block: &mut [f64],
-) -> answers::Verdict
+) -> Result<(), answers::Refusal>
     requires size_in_bounds { (size ≤ length room.now) × (at + size ≤ length work.old) }
     requires lent { Lent (take size room.now) rl n rr (take size (drop at work.old)) block.old × (reaches far ≡ true) }
     ensures room_value { move_core k far (core_with rl n rr (take size room.now)) ≡ answered result (take size (drop at work.new)) }
@@ -51,7 +51,7 @@ pub fn shift_zone(
     work: &mut [f64],
     room: &mut [f64],
     block: &mut [f64],
-) -> answers::Verdict
+) -> Result<(), answers::Refusal>
     requires stands { (Stands s t work.old) × (Rooms room.old block.old) }
     requires k_lt_d { (k < s.d) × (reaches (shift_of x set.tau (points_of s k)) ≡ true) }
     ensures x_value { shift_zone rules set k (zone (standing s t work.old k) x) ≡ answered result (standing s t work.new k) }
@@ -68,7 +68,12 @@ pub fn shift_zone(
 }
 
 // The numbers from `at` on, scaled in place.
-fn scale_part(at: usize, size: usize, set: stepform::Settings, work: &mut [f64]) -> answers::Verdict
+fn scale_part(
+    at: usize,
+    size: usize,
+    set: stepform::Settings,
+    work: &mut [f64],
+) -> Result<(), answers::Refusal>
     requires { at + size ≤ length work.old }
     ensures work_value { scaled set.tau set.c (take size (drop at work.old)) ≡ answered result (take size (drop at work.new)) }
     ensures work_after { work.new ≡ take at work.old ++ (take size (drop at work.new) ++ drop size (drop at work.old)) }
@@ -84,13 +89,13 @@ pub fn scale_from(
     t: shape::Shape,
     set: stepform::Settings,
     work: &mut [f64],
-) -> answers::Verdict
+) -> Result<(), answers::Refusal>
     requires { Stands s t work.old }
     ensures work_value { every (scale_zone rules set) z (stand_from s t z work.old) ≡ answered result (stand_from s t z work.new) }
     ensures onward { Onward s z work.old work.new }
 {
     if z != 0 {
-        return answers::Verdict::Fits;
+        return Ok(());
     }
     let size = t.core_size(0);
     let at = s.offset(0);

@@ -18,7 +18,7 @@ pub fn move_from(
     work: &mut [f64],
     room: &mut [f64],
     block: &mut [f64],
-) -> answers::Verdict
+) -> Result<(), answers::Refusal>
     requires stands { (Stands s t work.old) × (Rooms room.old block.old) }
     requires z_le_d { (z ≤ s.d) × ((k : ℕ) → z ≤ k → k < s.d → axis_reaches set s xs k ≡ true) }
     ensures a_value { bind (every (shift_zone rules set) z (listed (s.d - z) z (zone_in s t xs work.old)))
@@ -30,8 +30,8 @@ pub fn move_from(
     while k < s.d {
         let x = axes::axis_in(xs, k);
         let moved = crate::moves::shift_zone(k, s, t, set, x, work, room, block);
-        if let answers::Verdict::Refused(r) = moved {
-            return answers::Verdict::Refused(r);
+        if let Err(r) = moved {
+            return Err(r);
         }
         k += 1;
     }

@@ -4,7 +4,7 @@ use mathlib.Core.List.{List, [], ◌∷◌, map}
 use Prim.Native.Nat.{ℕ}
 use lib.ListN.{take, replicate}
 use lib.Ieee.{Float, binary64, add, mul, of_bits, to_bits}
-use Rattle.answers.specs.declared.Verdict.TheVariants.{Fits}
+use Rattle.std.specs.Prelude.{Ok}
 use Rattle.answers.specs.Outcome.{demand, demand_each}
 use Rattle.lists.specs.Lists.{pick, listed}
 use Rattle.lists.specs.Floats.{sum_on, sum_rows, all_finite, stored}
@@ -36,7 +36,7 @@ abbrev end : StartEnded
 end = start_call given (of (two ∷ one ∷ two ∷ [])) (of (0 ∷ 0 ∷ 0 ∷ []))
 
 pub record ByHand : Type 0 where
-  pub fits : end.result.verdict ≡ Fits
+  pub fits : end.result.verdict ≡ (Ok tt)
   pub left : take 2 end.result.shape.left ≡ 1 ∷ 1 ∷ []
   pub right : take 2 end.result.shape.right ≡ 1 ∷ 1 ∷ []
   pub numbers : map (to_bits binary64) end.chain ≡ two ∷ one ∷ two ∷ []

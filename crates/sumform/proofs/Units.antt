@@ -10,9 +10,9 @@ use lib.IntN.{pos}
 use lib.Ieee.{Float, nan, inf, fin, binary64, fits, of_bits}
 use lib.Ieee.Fits.{mul-fits}
 use Rattle.answers.specs.declared.Part.TheVariants.{Sum}
-use Rattle.answers.specs.declared.Verdict.TheVariants.{Fits as Accepted}
-use Rattle.answers.specs.Outcome.{Answer, done, refused, ◌then◌}
-use Rattle.answers.proofs.Outcomes.{bind_done, done_inj, making_is}
+use Rattle.std.specs.Prelude.{Ok, Err}
+use Rattle.answers.specs.Outcome.{Answer, ◌then◌}
+use Rattle.answers.proofs.Outcomes.{bind_ok, ok_inj, making_is}
 use Rattle.answers.proofs.Checks.{then_is}
 use Rattle.numbers.specs.Arithmetic.{plus, times, zero64}
 use Rattle.numbers.specs.Finite.{finite}
@@ -108,7 +108,7 @@ module _ (c : Core) (f eta : List Float) where
         ∙ ap₂ plus (rows_exact j m F.0) (row_one j m)
 
     -- what is stored at this axis is the row times the matrix at i
-    axis_exact : (e : List Float) → stored (contract c f eta) ≡ done e → e ≡ row_times eta c i
+    axis_exact : (e : List Float) → stored (contract c f eta) ≡ Ok e → e ≡ row_times eta c i
     unfolding contract row_times sum_rows sum_to
     axis_exact e h =
         let S = stored_is (contract c f eta) e h in
@@ -121,32 +121,32 @@ module _ (c : Core) (f eta : List Float) where
 -- ---- all axes
 module _ (c : ℕ → Core) (w : ℕ → List Float) (i : ℕ → ℕ) where
   walk_exact : (m k : ℕ) (v : List Float) → ((j : ℕ) → k ≤ j → j < k + m → OneAt (c j).n (i j) (w j)) → (tr : List (List Float × Unit {0}))
-      → walk sum_axis k v (listed m k (λ (j : ℕ). (c j, w j))) ≡ done tr → state_at v tr (length tr) ≡ row_after v (listed m k (λ (j : ℕ). (c j, i j)))
+      → walk sum_axis k v (listed m k (λ (j : ℕ). (c j, w j))) ≡ Ok tr → state_at v tr (length tr) ≡ row_after v (listed m k (λ (j : ℕ). (c j, i j)))
   unfolding walk listed row_after sum_axis contract_at
-  walk_exact zero k v u tr h = ap (λ (t : List (List Float × Unit {0})). state_at v t (length t)) (sym (done_inj h))
+  walk_exact zero k v u tr h = ap (λ (t : List (List Float × Unit {0})). state_at v t (length t)) (sym (ok_inj h))
   walk_exact (suc m) k v u tr h =
       let W = walk_cons sum_axis k v (c k, w k) (listed m (suc k) (λ (j : ℕ). (c j, w j))) tr h in
-      let B = bind_done (contract_at k (c k) (w k) v) (λ e. done (e, tt)) W.0 W.1 in
+      let B = bind_ok (contract_at k (c k) (w k) v) (λ e. Ok (e, tt)) W.0 W.1 in
       let s = making_is Sum k (stored (contract (c k) (w k) v)) B.0 B.1 in
-      let row : W.0.0 ≡ row_times v (c k) (i k) = ap (λ (x : List Float × Unit {0}). x.0) (sym (done_inj B.2)) ∙ axis_exact (c k) (w k) v (i k) (u k (omega arith) (omega arith)) B.0 s in
+      let row : W.0.0 ≡ row_times v (c k) (i k) = ap (λ (x : List Float × Unit {0}). x.0) (sym (ok_inj B.2)) ∙ axis_exact (c k) (w k) v (i k) (u k (omega arith) (omega arith)) B.0 s in
       ap (λ (t : List (List Float × Unit {0})). state_at v t (length t)) (sym W.2.2)
       ∙ walk_exact m (suc k) W.0.0 (λ j a b. u j (omega arith) (omega arith)) W.2.0 W.2.1
       ∙ ap (λ (x : List Float). row_after x (listed m (suc k) (λ (j : ℕ). (c j, i j)))) row
 
 -- the figure that was accepted is that of the sums
-figure_of : (o : Answer Float) → (figure_by o).verdict ≡ Accepted → o ≡ done (figure_by o).value
-figure_of (done x) e = refl
-figure_of (refused r) e = let z : ◌≡◌ {A = ℕ} 0 1 = cc in absurd (omega arith)
+figure_of : (o : Answer Float) → (figure_by o).verdict ≡ (Ok tt) → o ≡ Ok (figure_by o).value
+figure_of (Ok x) e = refl
+figure_of (Err r) e = let z : ◌≡◌ {A = ℕ} 0 1 = cc in absurd (omega arith)
 
 -- UNIT WEIGHTS GIVE THE ENTRY
 pub unit_entry : (s : Shape) (chain weights : List Float) (i : ℕ → ℕ) → ((k : ℕ) → k < s.d → OneAt (points_of s k) (i k) (points_at s weights k))
-    → (inner_call s chain weights).verdict ≡ Accepted → (inner_call s chain weights).value ≡ entry_at s chain i
+    → (inner_call s chain weights).verdict ≡ (Ok tt) → (inner_call s chain weights).value ≡ entry_at s chain i
 unfolding inner_call inner sums weighed entry_at tt_entry core_at
 unit_entry s chain weights i one e =
     let o = inner_ok s chain weights then inner (weighed s chain weights) in
     let I = (then_is (inner_ok s chain weights) (inner (weighed s chain weights)) (inner_call s chain weights).value (figure_of o e)).1 in
-    let B = bind_done (sums (weighed s chain weights)) (λ tr. done (at (state_at start_sums tr (length tr)) 0)) (inner_call s chain weights).value I in
-    sym (done_inj B.2) ∙ ap (λ (v : List Float). at v 0) (walk_exact (core_at s chain) (points_at s weights) i s.d 0 start_sums (λ k a b. one k (omega arith)) B.0 B.1)
+    let B = bind_ok (sums (weighed s chain weights)) (λ tr. Ok (at (state_at start_sums tr (length tr)) 0)) (inner_call s chain weights).value I in
+    sym (ok_inj B.2) ∙ ap (λ (v : List Float). at v 0) (walk_exact (core_at s chain) (points_at s weights) i s.d 0 start_sums (λ k a b. one k (omega arith)) B.0 B.1)
 
 -- ---- a zero's sign
 tab_keeps : (n : ℕ) (g : ℕ → Float) → ((j : ℕ) → NotMinusZero (g j)) → (j : ℕ) → NotMinusZero (at (tab n g) j)
@@ -161,14 +161,14 @@ start_keeps zero = refl
 start_keeps (suc a) = refl
 
 walk_keeps : (ps : List (Core × List Float)) (k : ℕ) (v : List Float) → ((a : ℕ) → NotMinusZero (at v a)) → (tr : List (List Float × Unit {0}))
-    → walk sum_axis k v ps ≡ done tr → (a : ℕ) → NotMinusZero (at (state_at v tr (length tr)) a)
+    → walk sum_axis k v ps ≡ Ok tr → (a : ℕ) → NotMinusZero (at (state_at v tr (length tr)) a)
 unfolding walk sum_axis contract_at contract sum_rows
-walk_keeps [] k v q tr h a = subst (λ (t : List (List Float × Unit {0})). NotMinusZero (at (state_at v t (length t)) a)) (done_inj h) (q a)
+walk_keeps [] k v q tr h a = subst (λ (t : List (List Float × Unit {0})). NotMinusZero (at (state_at v t (length t)) a)) (ok_inj h) (q a)
 walk_keeps (p ∷ ps) k v q tr h a =
     let W = walk_cons sum_axis k v p ps tr h in
-    let B = bind_done (contract_at k p.0 p.1 v) (λ e. done (e, tt)) W.0 W.1 in
+    let B = bind_ok (contract_at k p.0 p.1 v) (λ e. Ok (e, tt)) W.0 W.1 in
     let s = stored_is (contract p.0 p.1 v) B.0 (making_is Sum k (stored (contract p.0 p.1 v)) B.0 B.1) in
-    let e : contract p.0 p.1 v ≡ W.0.0 = s.0 ∙ ap (λ (x : List Float × Unit {0}). x.0) (done_inj B.2) in
+    let e : contract p.0 p.1 v ≡ W.0.0 = s.0 ∙ ap (λ (x : List Float × Unit {0}). x.0) (ok_inj B.2) in
     let next = subst (λ (x : List Float). (b : ℕ) → NotMinusZero (at x b)) e (tab_keeps p.0.rr (λ (j : ℕ). rows p.0 p.1 v j p.0.rl) (λ j. rows_keep p.0 p.1 v j p.0.rl)) in
     subst (λ (t : List (List Float × Unit {0})). NotMinusZero (at (state_at v t (length t)) a)) W.2.2 (walk_keeps ps (suc k) W.0.0 next W.2.0 W.2.1 a)
 
@@ -178,11 +178,11 @@ unfolding inner_call inner sums
 figure_not_minus_zero s chain weights = go (inner_ok s chain weights then inner (weighed s chain weights)) refl
   where
     go : (o : Answer Float) → (inner_ok s chain weights then inner (weighed s chain weights)) ≡ o → NotMinusZero (figure_by o).value
-    go (done x) e =
+    go (Ok x) e =
         let I = (then_is (inner_ok s chain weights) (inner (weighed s chain weights)) x e).1 in
-        let B = bind_done (sums (weighed s chain weights)) (λ tr. done (at (state_at start_sums tr (length tr)) 0)) x I in
-        subst NotMinusZero (done_inj B.2) (walk_keeps (weighed s chain weights) 0 start_sums start_keeps B.0 B.1 0)
-    go (refused r) e = zero_keeps
+        let B = bind_ok (sums (weighed s chain weights)) (λ tr. Ok (at (state_at start_sums tr (length tr)) 0)) x I in
+        subst NotMinusZero (ok_inj B.2) (walk_keeps (weighed s chain weights) 0 start_sums start_keeps B.0 B.1 0)
+    go (Err r) e = zero_keeps
 
 -- nor is an entry
 rows_after_keep : (ps : List (Core × ℕ)) (v : List Float) → ((a : ℕ) → NotMinusZero (at v a)) → (a : ℕ) → NotMinusZero (at (row_after v ps) a)
@@ -211,7 +211,7 @@ lone_entry c i left right held =
 
 -- and so is the figure
 pub lone_figure : (s : Shape) (chain weights : List Float) (i : ℕ) → s.d ≡ 1 → OneAt (points_of s 0) i (points_at s weights 0) → Fits (entry (core_at s chain 0) 0 i 0)
-    → (inner_call s chain weights).verdict ≡ Accepted → (inner_call s chain weights).value ≡ unsigned (entry (core_at s chain 0) 0 i 0)
+    → (inner_call s chain weights).verdict ≡ (Ok tt) → (inner_call s chain weights).value ≡ unsigned (entry (core_at s chain 0) 0 i 0)
 unfolding inner_call inner_ok entry_at core_at listed
 lone_figure s chain weights i alone one held e =
     let o = inner_ok s chain weights then inner (weighed s chain weights) in

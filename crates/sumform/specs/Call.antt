@@ -1,9 +1,8 @@
 -- The call `inner_separable`. Definitions only.
-use Rattle.std.specs.Prelude.{ℕ, ◌&&◌, List, eqb, length, Float}
+use Rattle.std.specs.Prelude.{ℕ, ◌&&◌, List, eqb, length, Float, Ok, Err}
 use Rattle.numbers.specs.Arithmetic.{zero64}
 use Rattle.answers.specs.declared.Refusal.TheVariants.{Length, Number}
-use Rattle.answers.specs.declared.Verdict.TheVariants.{Fits, Refused}
-use Rattle.answers.specs.Outcome.{Answer, done, refused, Check, ◌then◌, demand, demand_each}
+use Rattle.answers.specs.Outcome.{Answer, Check, ◌then◌, demand, demand_each}
 use Rattle.lists.specs.Lists.{tab}
 use Rattle.lists.specs.Floats.{all_finite}
 use Rattle.shape.specs.declared.Shape.{Shape}
@@ -27,8 +26,8 @@ unfoldable pub weighed : Shape → List Float → List Float → List (Core × L
 weighed s chain weights = tab s.d (λ (k : ℕ). (core_at s chain k, points_at s weights k))
 
 abbrev pub figure_by : Answer Float → Figure
-figure_by (done x) = record { verdict = Fits; value = x }
-figure_by (refused r) = record { verdict = Refused r; value = zero64 }
+figure_by (Ok x) = record { verdict = Ok tt; value = x }
+figure_by (Err r) = record { verdict = Err r; value = zero64 }
 
 unfoldable pub inner_call : Shape → List Float → List Float → Figure
 inner_call s chain weights = figure_by (inner_ok s chain weights then inner (weighed s chain weights))

@@ -1,8 +1,7 @@
 -- The separable start reads d and the sizes n alone; slices are the vectors, the chain. Definitions only.
-use Rattle.std.specs.Prelude.{ℕ, List, eqb, length, replicate, Float}
+use Rattle.std.specs.Prelude.{ℕ, List, eqb, length, replicate, Float, Ok, Err}
 use Rattle.answers.specs.declared.Refusal.TheVariants.{Axes, Size, Length, Number}
-use Rattle.answers.specs.declared.Verdict.TheVariants.{Fits, Refused}
-use Rattle.answers.specs.Outcome.{done, refused, Check, ◌then◌, demand, demand_each}
+use Rattle.answers.specs.Outcome.{Check, ◌then◌, demand, demand_each}
 use Rattle.lists.specs.Floats.{all_finite}
 use Rattle.shape.specs.declared.Shape.{Shape}
 use Rattle.shape.specs.Limits.{most_axes, most_points, within}
@@ -32,8 +31,8 @@ pub record StartEnded : Type 0 where
 
 -- core k is (1, n, 1) and holds vector k, so the chain's numbers are the vectors'
 abbrev pub start_by : Shape → List Float → List Float → Check → StartEnded
-start_by s vectors chain (done u) = record { result = record { verdict = Fits; shape = rank_one s }; chain = vectors }
-start_by s vectors chain (refused r) = record { result = record { verdict = Refused r; shape = s }; chain = chain }
+start_by s vectors chain (Ok u) = record { result = record { verdict = Ok tt; shape = rank_one s }; chain = vectors }
+start_by s vectors chain (Err r) = record { result = record { verdict = Err r; shape = s }; chain = chain }
 
 unfoldable pub start_call : Shape → List Float → List Float → StartEnded
 start_call s vectors chain = start_by s vectors chain (start_ok s vectors (length chain))

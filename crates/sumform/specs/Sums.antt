@@ -1,7 +1,7 @@
 -- The partial sums from zone z on, as memory has them: each axis' sums in a slot of their own, from the sums held left of z. Definitions only.
-use Rattle.std.specs.Prelude.{ℕ, zero, suc, ◌-◌, List, map, take, Float}
+use Rattle.std.specs.Prelude.{ℕ, zero, suc, ◌-◌, List, map, take, Float, Ok}
 use Rattle.numbers.specs.Arithmetic.{zero64}
-use Rattle.answers.specs.Outcome.{Answer, done, bind}
+use Rattle.answers.specs.Outcome.{Answer, bind}
 use Rattle.lists.specs.Lists.{listed}
 use Rattle.lists.specs.Slots.{slot, write}
 use Rattle.lists.specs.Walks.{walk}
@@ -27,4 +27,4 @@ weighed_in s t work weights k = (standing s t work k, points_at s weights k)
 unfoldable pub sums_from : Shape → Shape → List Float → List Float → ℕ → List Float → Answer (List Float)
 sums_from s t work weights z sums =
     bind (walk sum_axis z (sums_left s (left_of t z) sums z) (listed (s.d - z) z (weighed_in s t work weights)))
-    (λ tr. done (write (sum_size s) zero64 s.d z (map (λ (r : List Float × Unit {0}). r.0) tr) sums))
+    (λ tr. Ok (write (sum_size s) zero64 s.d z (map (λ (r : List Float × Unit {0}). r.0) tr) sums))

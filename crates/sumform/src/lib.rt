@@ -4,13 +4,13 @@
 // The shape of the chain that a separable start makes.
 #[derive(Clone, Copy)]
 pub struct Started {
-    pub verdict: answers::Verdict,
+    pub verdict: Result<(), answers::Refusal>,
     pub shape: shape::Shape,
 }
 
 // The figure, +0 where it is refused.
 #[derive(Clone, Copy)]
 pub struct Figure {
-    pub verdict: answers::Verdict,
+    pub verdict: Result<(), answers::Refusal>,
     pub value: f64,
 }

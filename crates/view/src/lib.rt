@@ -6,13 +6,6 @@ ghost use Rattle.std.specs.Prelude.{◌≡◌, ◌<◌};
 ghost use Rattle.shape.specs.Sizes.{SizesWithin};
 ghost use Rattle.view.specs.View.{nowhere, core_spot, spot_of, view_of, seen_at, seen};
 
-// What stands at three indices: a number of the core, or nothing, where they lie outside of it or of the chain.
-#[derive(Clone, Copy)]
-pub enum Seen {
-    Number(f64),
-    Outside,
-}
-
 // Where a core stands in its chain, and its sizes.
 #[derive(Clone, Copy)]
 pub struct Spot {
@@ -62,7 +55,7 @@ pub fn spot_of(s: shape::Shape, k: usize) -> Spot
     ensures { result ≡ spot_of s k }
 {
     let v = s.check();
-    if let answers::Verdict::Refused(r) = v {
+    if let Err(r) = v {
         return nowhere();
     }
     if s.d <= k {
@@ -71,7 +64,7 @@ pub fn spot_of(s: shape::Shape, k: usize) -> Spot
     core_spot(s, k)
 }
 
-// Entry (il, im, ir) of the core (rl, n, rr) that starts at `start`.
+// Entry (il, im, ir) of the core (rl, n, rr) that starts at `start`, or none, where the indices lie outside of it or of the chain.
 pub fn entry_at(
     chain: &[f64],
     start: usize,
@@ -81,27 +74,27 @@ pub fn entry_at(
     il: usize,
     im: usize,
     ir: usize,
-) -> Seen
+) -> Option<f64>
     ensures { result ≡ seen_at chain.now start rl n rr il im ir }
 {
     if rl <= il {
-        return Seen::Outside;
+        return None;
     }
     if n <= im {
-        return Seen::Outside;
+        return None;
     }
     if rr <= ir {
-        return Seen::Outside;
+        return None;
     }
     if chain.len() <= start {
-        return Seen::Outside;
+        return None;
     }
     let room = chain.len() - start;
     let place = shape::place_within(n, rr, il, im, ir, room);
     if room <= place {
-        return Seen::Outside;
+        return None;
     }
-    Seen::Number(chain[start + place])
+    Some(chain[start + place])
 }
 
 // The view of core k.
@@ -120,7 +113,7 @@ pub fn view_of<'a>(chain: &'a [f64], s: shape::Shape, k: usize) -> CoreView<'a>
 
 impl<'a> CoreView<'a> {
     // Entry (il, im, ir) of the core.
-    pub fn get(self, il: usize, im: usize, ir: usize) -> Seen
+    pub fn get(self, il: usize, im: usize, ir: usize) -> Option<f64>
         ensures { result ≡ seen self.entry il im ir }
     {
         entry_at(self.chain, self.start, self.rl, self.n, self.rr, il, im, ir)
@@ -128,7 +121,14 @@ impl<'a> CoreView<'a> {
 }
 
 // Entry (il, im, ir) of core k, through its view. Whoever calls this needs to know of no view.
-pub fn entry_of(chain: &[f64], s: shape::Shape, k: usize, il: usize, im: usize, ir: usize) -> Seen
+pub fn entry_of(
+    chain: &[f64],
+    s: shape::Shape,
+    k: usize,
+    il: usize,
+    im: usize,
+    ir: usize,
+) -> Option<f64>
     ensures { result ≡ seen (view_of chain.entry s k) il im ir }
 {
     view_of(chain, s, k).get(il, im, ir)

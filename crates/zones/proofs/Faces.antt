@@ -4,7 +4,7 @@ use Prim.Native.Nat.{ℕ}
 use mathlib.Core.List.{List, map}
 use lib.ListN.{length}
 use lib.Ieee.{Float}
-use Rattle.answers.specs.declared.Verdict.{Verdict}
+use Rattle.answers.specs.Outcome.{Check}
 use Rattle.shape.specs.declared.Shape.{Shape}
 use Rattle.lists.proofs.Tables.{length_tab}
 use Rattle.stepform.specs.declared.Axis.{Axis}
@@ -91,7 +91,7 @@ splits_as F x y u v p l r w o e f a g =
 pub reads_as : (e : Exit Read Float) (r : Read) (l : List Float) (o : CFormed) → (r ≡ e.result) × (l ≡ e.out) → o ≡ read_out r → ReadsAs e o l
 reads_as e r l o f g = record { result = g ∙ ap read_out f.0; numbers = f.1 }
 
-pub writes_as : (F : Shape → Exit Verdict ℕ) (x y : Shape) (r : Verdict) (l : List ℕ) (o : CRefusal) → x ≡ y → (r ≡ (F x).result) × (l ≡ (F x).out) → o ≡ refusal_of r → WritesAs (F y) o l
+pub writes_as : (F : Shape → Exit Check ℕ) (x y : Shape) (r : Check) (l : List ℕ) (o : CRefusal) → x ≡ y → (r ≡ (F x).result) × (l ≡ (F x).out) → o ≡ refusal_of r → WritesAs (F y) o l
 writes_as F x y r l o e f g = record {
   result = passed (λ (z : Shape). (F z).result) refusal_of x y r o e f.0 g;
   bytes = f.1 ∙ ap (λ (z : Shape). (F z).out) e;

@@ -1,6 +1,6 @@
 -- A call's answer as C has it, and what the call left in its slices. Definitions only.
 use Rattle.std.specs.Prelude.{◌≡◌, ℕ, List, Float}
-use Rattle.answers.specs.declared.Verdict.{Verdict}
+use Rattle.answers.specs.Outcome.{Check}
 use Rattle.cutform.specs.Call.{Ended}
 use Rattle.sumform.specs.Start.{StartEnded}
 use Rattle.pairform.specs.Call.{PairEnded}
@@ -40,7 +40,7 @@ pub record ReadsAs (e : Exit Read Float) (o : CFormed) (l : List Float) : Type 0
   pub numbers : l ≡ e.out
 
 -- of writing one: the bytes are l
-pub record WritesAs (e : Exit Verdict ℕ) (o : CRefusal) (l : List ℕ) : Type 0 where
+pub record WritesAs (e : Exit Check ℕ) (o : CRefusal) (l : List ℕ) : Type 0 where
   pub result : o ≡ refusal_of e.result
   pub bytes : l ≡ e.out
 

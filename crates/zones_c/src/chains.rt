@@ -1,6 +1,5 @@
 // A chain's shape, its entries, its separable start, its inner product and its rounding.
 ghost use Rattle.std.specs.Prelude.{◌≡◌};
-ghost use Rattle.answers.specs.Outcome.{verdict_of};
 ghost use Rattle.shape.specs.Shapes.{chain_ok};
 ghost use Rattle.view.specs.View.{view_of, seen};
 ghost use Rattle.sumform.specs.Start.{start_call};
@@ -15,7 +14,7 @@ use records::told;
 
 #[unsafe(no_mangle)]
 pub extern "C" fn uyavsker_shape_check(s: CShape) -> told::CRefusal
-    ensures { result ≡ refusal_of (verdict_of (chain_ok (shape_in s))) }
+    ensures { result ≡ refusal_of ((chain_ok (shape_in s))) }
 {
     zones::chains::uyavsker_shape_check(s)
 }

@@ -4,8 +4,8 @@ use Rattle.bond.proofs.Staged.{rest_first, rest_second, rest_whole}
 use borrow.Author.Rules.{rules}
 use Rattle.bond.proofs.finish.Goals as goal
 
-pub returns-in-Spilt : goal.returns-in-Spilt
-returns-in-Spilt c = rw c.cut_refused.ensures (rest_first _ _ _ _ _ _ c.keep-kept.ensures _ _ c.in-Spilt.is)
+pub returns-in-Err : goal.returns-in-Err
+returns-in-Err c = rw c.cut_refused.ensures (rest_first _ _ _ _ _ _ c.keep-kept.ensures _ _ c.in-Err.is)
 
 pub factor-made-requires : goal.factor-made-requires
 factor-made-requires c = (
@@ -21,12 +21,12 @@ factor-made-requires c = (
   c.requires.6,
 )
 
-pub returns-in-Spilt-made : goal.returns-in-Spilt-made
-returns-in-Spilt-made c = rw c.cut_refused-in-Spilt-made.ensures
+pub returns-in-Err-made : goal.returns-in-Err-made
+returns-in-Err-made c = rw c.cut_refused-in-Err-made.ensures
     (rest_second _ _ _ _ _ _
     c.keep-kept.ensures
     c.in_default.is _ _ c.factor-made.ensures _ _
-    c.in-Spilt-made.is)
+    c.in-Err-made.is)
 
 pub returns : goal.returns
 returns c = rw c.cut_made.ensures

@@ -2,8 +2,8 @@
 use Rattle.bond.proofs.Staged.{swept_stop, swept_end}
 use Rattle.bond.proofs.swept_gram.Goals as goal
 
-pub returns-in-Spilt : goal.returns-in-Spilt
-returns-in-Spilt c = rw c.sweeps_are.ensures (swept_stop _ _ _ _ c.gram.ensures c.stored-made.ensures _ _ c.in-Spilt.is)
+pub returns-in-Err : goal.returns-in-Err
+returns-in-Err c = rw c.sweeps_are.ensures (swept_stop _ _ _ _ c.gram.ensures c.stored-made.ensures _ _ c.in-Err.is)
 
 pub returns : goal.returns
 returns c = swept_end _ _ _ _

@@ -2,16 +2,16 @@
 use Rattle.chainfile.proofs.Accepts.{contents_refused, found_sized, lengths_refused, found_long, numbers_refused, all_passed}
 use Rattle.chainfile.proofs.read_ok.Goals as goal
 
-pub returns-in-Refused : goal.returns-in-Refused
-returns-in-Refused c = contents_refused _ _ _ c.read_contents-found.ensures _ _ c.in-Refused.is c.refused_read.ensures
+pub returns-in-Err : goal.returns-in-Err
+returns-in-Err c = contents_refused _ _ _ c.read_contents-found.ensures _ _ c.in-Err.is c.refused_read.ensures
 
 pub lengths_ok-lent-requires : goal.lengths_ok-lent-requires
 lengths_ok-lent-requires c = found_sized _ 0 _ c.read_contents-found.ensures c.read_contents-found.result c.in_default.is
 
-pub returns-in-Refused-lent : goal.returns-in-Refused-lent
-returns-in-Refused-lent c = lengths_refused _ _ _ c.read_contents-found.ensures _
+pub returns-in-Err-lent : goal.returns-in-Err-lent
+returns-in-Err-lent c = lengths_refused _ _ _ c.read_contents-found.ensures _
     c.in_default.is _ c.lengths_ok-lent.ensures _
-    c.in-Refused-lent.is c.refused_read-in-Refused-lent.ensures
+    c.in-Err-lent.is c.refused_read-in-Err-lent.ensures
 
 pub numbers_ok-ok-requires : goal.numbers_ok-ok-requires
 numbers_ok-ok-requires c = record {
@@ -21,11 +21,11 @@ numbers_ok-ok-requires c = record {
       c.in_default-lent.is;
 }
 
-pub returns-in-Refused-ok : goal.returns-in-Refused-ok
-returns-in-Refused-ok c = numbers_refused _ _ _ c.read_contents-found.ensures _
+pub returns-in-Err-ok : goal.returns-in-Err-ok
+returns-in-Err-ok c = numbers_refused _ _ _ c.read_contents-found.ensures _
     c.in_default.is _
     c.lengths_ok-lent.ensures c.in_default-lent.is _
-    c.numbers_ok-ok.ensures _ c.in-Refused-ok.is c.refused_read-in-Refused-ok.ensures
+    c.numbers_ok-ok.ensures _ c.in-Err-ok.is c.refused_read-in-Err-ok.ensures
 
 pub returns : goal.returns
 returns c = all_passed _ _ _ c.read_contents-found.ensures _

@@ -2,8 +2,8 @@
 use Rattle.chainfile.proofs.Makes.{write_stops, write_asks, write_made}
 use Rattle.chainfile.proofs.write_chain.Goals as goal
 
-pub returns-in-Refused : goal.returns-in-Refused
-returns-in-Refused c = write_stops _ _ c.args.out.now _ c.write_ok-ok.ensures _ c.in-Refused.is
+pub returns-in-Err : goal.returns-in-Err
+returns-in-Err c = write_stops _ _ c.args.out.now _ c.write_ok-ok.ensures _ c.in-Err.is
 
 pub put_file-requires : goal.put_file-requires
 put_file-requires c = let q = write_asks _ _ c.args.out.now _ c.write_ok-ok.ensures c.in_default.is in record { sizes_within = q.0; chain_len = q.1 }

@@ -16,9 +16,9 @@ pub enum_known-shaped : goal.enum_known-shaped
 unfolding write_ok
 enum_known-shaped c = search ways
 
-pub returns-in-Refused : goal.returns-in-Refused
+pub returns-in-Err : goal.returns-in-Err
 unfolding write_ok
-returns-in-Refused c = search ways
+returns-in-Err c = search ways
 
 pub enum_told-1 : goal.enum_told-1
 unfolding write_ok
@@ -32,9 +32,9 @@ pub enum_known-lent : goal.enum_known-lent
 unfolding write_ok
 enum_known-lent c = search ways
 
-pub returns-in-Refused-lent : goal.returns-in-Refused-lent
+pub returns-in-Err-lent : goal.returns-in-Err-lent
 unfolding write_ok
-returns-in-Refused-lent c = search ways
+returns-in-Err-lent c = search ways
 
 pub enum_told-in_default-lent : goal.enum_told-in_default-lent
 unfolding write_ok

@@ -15,9 +15,9 @@ pub enum_known-shaped : goal.enum_known-shaped
 unfolding round_ok
 enum_known-shaped c = search rules
 
-pub returns-in-Refused : goal.returns-in-Refused
+pub returns-in-Err : goal.returns-in-Err
 unfolding round_ok
-returns-in-Refused c = search (rules, then_stops)
+returns-in-Err c = search (rules, then_stops)
 
 pub enum_told-1 : goal.enum_told-1
 unfolding round_ok
@@ -31,9 +31,9 @@ pub enum_known-lent : goal.enum_known-lent
 unfolding round_ok
 enum_known-lent c = search rules
 
-pub returns-in-Refused-lent : goal.returns-in-Refused-lent
+pub returns-in-Err-lent : goal.returns-in-Err-lent
 unfolding round_ok
-returns-in-Refused-lent c = search (rules, then_stops, then_passes)
+returns-in-Err-lent c = search (rules, then_stops, then_passes)
 
 pub enum_told-in_default-lent : goal.enum_told-in_default-lent
 unfolding round_ok
@@ -47,9 +47,9 @@ pub enum_known-finite : goal.enum_known-finite
 unfolding round_ok
 enum_known-finite c = search rules
 
-pub returns-in-Refused-finite : goal.returns-in-Refused-finite
+pub returns-in-Err-finite : goal.returns-in-Err-finite
 unfolding round_ok
-returns-in-Refused-finite c = search (rules, then_stops, then_passes)
+returns-in-Err-finite c = search (rules, then_stops, then_passes)
 
 pub enum_told-in_default-finite : goal.enum_told-in_default-finite
 unfolding round_ok

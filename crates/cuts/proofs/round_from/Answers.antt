@@ -16,10 +16,10 @@ zone_cut-cut-requires c = record {
   k_lt_d = (c.loop-k-test.true, omega (arith, c.requires.z_le_d.1, c.loop-k.invariant.2), record { bonds = _; left = c.loop-k.invariant.4 c.loop-k-test.true; zone = at_any _ _ _ _ _ c.loop-k.invariant.5 });
 }
 
-pub returns-in-Refused : goal.returns-in-Refused
-returns-in-Refused c = let zone = c.zone_cut-cut.ensures (record { bonds = _; left = c.loop-k.invariant.4 c.loop-k-test.true; zone = at_any _ _ _ _ _ c.loop-k.invariant.5 }) in
+pub returns-in-Err : goal.returns-in-Err
+returns-in-Err c = let zone = c.zone_cut-cut.ensures (record { bonds = _; left = c.loop-k.invariant.4 c.loop-k-test.true; zone = at_any _ _ _ _ _ c.loop-k.invariant.5 }) in
     let turn = zone_turned_lem _ _ _ _ _ _ _ _ _ zone c.loop-k-test.true (omega (arith, c.loop-k.invariant.5.bonds, c.requires.sizes_within.axes.most, c.loop-k-test.true)) _ (c.loop-k.invariant.4 c.loop-k-test.true) _ refl _ refl in
-    (loop_stop _ _ _ c.args.z _ _ _ c.loop-k.invariant.6 c.loop-k-test.true _ _ _ turn _ c.in-Refused.is _, λ o f. refused_fits _ _ refl f)
+    (loop_stop _ _ _ c.args.z _ _ _ c.loop-k.invariant.6 c.loop-k-test.true _ _ _ turn _ c.in-Err.is _, λ o f. refused_fits _ _ refl f)
 
 pub with_core-shape-requires : goal.with_core-shape-requires
 with_core-shape-requires c = omega (arith, c.requires.sizes_within.axes.most, c.loop-k-test.true)

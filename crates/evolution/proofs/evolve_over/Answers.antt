@@ -3,11 +3,11 @@ use Rattle.evolution.proofs.Calls.{evolve_stops, evolve_goes}
 use Rattle.evolution.proofs.Ends.{over_passed}
 use Rattle.evolution.proofs.evolve_over.Goals as goal
 
-pub returns-in-Refused : goal.returns-in-Refused
-returns-in-Refused c = evolve_stops _ _ _ _ _ _ _ _ _ _ _ _ c.course_finite-lone.ensures
+pub returns-in-Err : goal.returns-in-Err
+returns-in-Err c = evolve_stops _ _ _ _ _ _ _ _ _ _ _ _ c.course_finite-lone.ensures
     c.course_mild-mild.ensures
     c.course_settings-set.ensures _ c.step_ok-ok.ensures _
-    c.in-Refused.is _ c.refused_rounding.ensures
+    c.in-Err.is _ c.refused_rounding.ensures
 
 pub work-requires : goal.work-requires
 work-requires c =

@@ -3,10 +3,10 @@ use Rattle.evolution.proofs.Calls.{step_stops, step_goes}
 use Rattle.evolution.proofs.Ends.{over_passed}
 use Rattle.evolution.proofs.step_over.Goals as goal
 
-pub returns-in-Refused : goal.returns-in-Refused
-returns-in-Refused c = step_stops _ _ _ _ _ _ _ _ c.lone_finite-lone.ensures
+pub returns-in-Err : goal.returns-in-Err
+returns-in-Err c = step_stops _ _ _ _ _ _ _ _ c.lone_finite-lone.ensures
     c.lone_ok-mild.ensures _ c.step_ok-ok.ensures _
-    c.in-Refused.is _ c.refused_rounding.ensures
+    c.in-Err.is _ c.refused_rounding.ensures
 
 pub work_once-requires : goal.work_once-requires
 work_once-requires c =

@@ -2,8 +2,8 @@
 use Rattle.listing.proofs.Grows.{refused_put, accepted_put}
 use Rattle.listing.proofs.put_read.Goals as goal
 
-pub returns-in-Refused : goal.returns-in-Refused
-returns-in-Refused c = refused_put _ _ _ _ _ c.in-Refused.is c.put_refusal.ensures
+pub returns-in-Err : goal.returns-in-Err
+returns-in-Err c = refused_put _ _ _ _ _ c.in-Err.is c.put_refusal.ensures
 
 pub put_chain-requires : goal.put_chain-requires
 put_chain-requires c = record {

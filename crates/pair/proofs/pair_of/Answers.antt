@@ -7,9 +7,9 @@ use Rattle.pair.proofs.pair_of.Goals as goal
 pub columns-made-requires : goal.columns-made-requires
 columns-made-requires c = (c.requires.1, c.requires.2, c.requires.3, c.requires.0.rows, c.requires.0.columns)
 
-pub returns-in-Refused : goal.returns-in-Refused
-returns-in-Refused c = rw c.refused_pair.ensures
-    (pair_stop _ _ _ _ _ c.columns-made.ensures _ c.stored_in-told.ensures _ _ c.in-Refused.is)
+pub returns-in-Err : goal.returns-in-Err
+returns-in-Err c = rw c.refused_pair.ensures
+    (pair_stop _ _ _ _ _ c.columns-made.ensures _ c.stored_in-told.ensures _ _ c.in-Err.is)
 
 pub split-requires : goal.split-requires
 split-requires c = (

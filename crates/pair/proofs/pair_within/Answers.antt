@@ -28,8 +28,8 @@ pub pair_of-made-requires : goal.pair_of-made-requires
 pair_of-made-requires c = let ok = ready c.args.l c.args.r _ c.args.left.now c.args.right.now _ _ _ c.requires in
     (ok.lines, ok.left_long, ok.right_long, span_length _ _ ok.room, search rules, search rules)
 
-pub returns-in-Refused : goal.returns-in-Refused
-returns-in-Refused c = ended_refused _ _ _ _ _ _ c.pair_of-made.ensures _ c.in-Refused.is _ c.refused_pair.ensures
+pub returns-in-Err : goal.returns-in-Err
+returns-in-Err c = ended_refused _ _ _ _ _ _ c.pair_of-made.ensures _ c.in-Err.is _ c.refused_pair.ensures
 
 pub overflow_mul-m-2 : goal.overflow_mul-m-2
 overflow_mul-m-2 c = let ok = ready c.args.l c.args.r _ c.args.left.now c.args.right.now _ _ _ c.requires in

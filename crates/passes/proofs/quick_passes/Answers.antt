@@ -1,7 +1,7 @@
 use Rattle.lists.proofs.Turns.{turns}
 use mathlib.Core.Path.{refl, sym}
 use mathlib.Core.Bool.{true≢false}
-use Rattle.answers.specs.declared.Stage.TheVariants.{Whole}
+use Rattle.std.specs.Prelude.{Ok}
 use Rattle.passes.proofs.Rotated.{passes_start, passes_quiet, passes_more, passes_done}
 use Rattle.passes.proofs.Spun.{now_held, pass_staged, held_beside}
 use Rattle.passes.proofs.quick_passes.Goals as goal
@@ -53,7 +53,7 @@ loop-count-preserved c = let fine = c.both_finite.ensures c.if-not-both_finite.f
       search turns,
       search turns,
       now_held _ _ c.loop-count.a c.loop-count.v c.loop-count.ss _ _ _ c.pass-quiet.ensures.1 fine.0 fine.1,
-      passes_more _ _ _ _ _ _ _ c.loop-count.invariant.5 c.loop-count-test.true c.if-quiet.false Whole _ staged refl,
+      passes_more _ _ _ _ _ _ _ c.loop-count.invariant.5 c.loop-count-test.true c.if-quiet.false (Ok tt) _ staged refl,
     )
 
 pub shape_of-a : goal.shape_of-a

@@ -14,9 +14,9 @@ pub enum_known-shaped : goal.enum_known-shaped
 unfolding inner_ok
 enum_known-shaped c = search (rules, then_stops, then_passes, fits_sizes, chain_long, weights_long)
 
-pub returns-in-Refused : goal.returns-in-Refused
+pub returns-in-Err : goal.returns-in-Err
 unfolding inner_ok
-returns-in-Refused c = search (rules, then_stops, then_passes, fits_sizes, chain_long, weights_long)
+returns-in-Err c = search (rules, then_stops, then_passes, fits_sizes, chain_long, weights_long)
 
 pub enum_told-1 : goal.enum_told-1
 unfolding inner_ok
@@ -30,9 +30,9 @@ pub enum_known-lent : goal.enum_known-lent
 unfolding inner_ok
 enum_known-lent c = search (rules, then_stops, then_passes, fits_sizes, chain_long, weights_long)
 
-pub returns-in-Refused-lent : goal.returns-in-Refused-lent
+pub returns-in-Err-lent : goal.returns-in-Err-lent
 unfolding inner_ok
-returns-in-Refused-lent c = search (rules, then_stops, then_passes, fits_sizes, chain_long, weights_long)
+returns-in-Err-lent c = search (rules, then_stops, then_passes, fits_sizes, chain_long, weights_long)
 
 pub enum_told-in_default-lent : goal.enum_told-in_default-lent
 unfolding inner_ok

@@ -12,8 +12,8 @@ enum_known-ok c = search (rules, inner-checked)
 pub refused_figure-requires : goal.refused_figure-requires
 refused_figure-requires c = search (rules, inner-checked)
 
-pub returns-in-Refused : goal.returns-in-Refused
-returns-in-Refused c = search (rules, inner-checked)
+pub returns-in-Err : goal.returns-in-Err
+returns-in-Err c = search (rules, inner-checked)
 
 pub enum_told-1 : goal.enum_told-1
 enum_told-1 c = search (rules, inner-checked)

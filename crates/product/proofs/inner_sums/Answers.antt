@@ -1,10 +1,10 @@
+use Rattle.std.specs.Prelude.{Err}
 use native.Mathlib.Omega.{arith}
 use Prim.Native.Nat.{◌*◌, ◌^◌, ◌<◌}
 use lib.ListN.{length}
 use mathlib.Core.Path.{refl, ap, ◌∙◌}
 use borrow.Author.Rules.{rules}
 use Rattle.answers.specs.declared.Refusal.{Refusal}
-use Rattle.answers.specs.Outcome.{refused}
 use Rattle.sumform.specs.Call.{figure_by}
 use Rattle.shape.proofs.Offsets.{offsets}
 use Rattle.shape.proofs.Slotwise.{slotwise}
@@ -80,11 +80,11 @@ enum_known-stage c = search (rules, offsets, slotwise)
 pub refused_figure-requires : goal.refused_figure-requires
 refused_figure-requires c = search (rules, offsets, slotwise)
 
-pub returns-in-Spilt : goal.returns-in-Spilt
-returns-in-Spilt c = c.refused_figure.ensures ∙ ap (λ (r : Refusal). figure_by (refused r)) c.stored_at.ensures
+pub returns-in-Err : goal.returns-in-Err
+returns-in-Err c = c.refused_figure.ensures ∙ ap (λ (r : Refusal). figure_by (Err r)) c.stored_at.ensures
     ∙ axis_stops c.args.s c.args.chain.now c.args.weights.now c.requires.s_value c.requires.s_in_bounds.0 c.requires.s_in_bounds.1 c.loop-k.eta c.loop-k.rank c.loop-k.at c.loop-k.points c.loop-k.k
     c.loop-k.invariant c.loop-k-test.true c.core_size.result c.core_size.ensures c.sum_axis-stage.result _
-    c.sum_axis-stage.auto.eta c.sum_axis-stage.ensures _ c.in-Spilt.is
+    c.sum_axis-stage.auto.eta c.sum_axis-stage.ensures _ c.in-Err.is
 
 pub enum_told-1 : goal.enum_told-1
 enum_told-1 c = search (rules, offsets, slotwise)

@@ -8,8 +8,8 @@ leave-requires c = record {
   inside = c.requires.inside;
 }
 
-pub returns-in-Refused : goal.returns-in-Refused
-returns-in-Refused c = finish_stops _ _ _ _ _ _ c.leave.ensures.chain_after c.leave.ensures.scratch_after _ _ c.in-Refused.is c.refused_rounding.ensures
+pub returns-in-Err : goal.returns-in-Err
+returns-in-Err c = finish_stops _ _ _ _ _ _ c.leave.ensures.chain_after c.leave.ensures.scratch_after _ _ c.in-Err.is c.refused_rounding.ensures
 
 pub returns : goal.returns
 returns c = finish_goes _ _ _ _ _ _ c.leave.ensures.chain_after c.leave.ensures.scratch_after _ c.in_default.is c.rounded_of.ensures

@@ -7,10 +7,10 @@ use Rattle.runs.proofs.Accepts.{fresh_asks, fresh_asked}
 use Rattle.runs.proofs.Fresh.{fresh_stops, fresh_ends}
 use Rattle.runs.proofs.fresh_run.Goals as goal
 
-pub returns-in-Refused : goal.returns-in-Refused
-returns-in-Refused c = fresh_stops c.args.s c.args.xs c.args.set (slices c.args.source.now c.args.weights.now c.args.chain.now c.args.carries.now c.args.sums.now)
+pub returns-in-Err : goal.returns-in-Err
+returns-in-Err c = fresh_stops c.args.s c.args.xs c.args.set (slices c.args.source.now c.args.weights.now c.args.chain.now c.args.carries.now c.args.sums.now)
     c.args.scratch.now _ c.fresh_ok-ok.ensures _ c.blank_run-r.ensures _
-    c.in-Refused.is _ c.refused.ensures
+    c.in-Err.is _ c.refused.ensures
 
 pub take_sources-requires : goal.take_sources-requires
 take_sources-requires c = let q = fresh_asks c.args.s c.args.xs c.args.set (slices c.args.source.now c.args.weights.now c.args.chain.now c.args.carries.now c.args.sums.now)

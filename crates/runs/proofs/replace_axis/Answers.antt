@@ -9,9 +9,9 @@ use Rattle.runs.proofs.Accepts.{axis_asks, axis_few, axis_asked}
 use Rattle.runs.proofs.Renewals.{axis_refused, axis_ends}
 use Rattle.runs.proofs.replace_axis.Goals as goal
 
-pub returns-in-Refused : goal.returns-in-Refused
-returns-in-Refused c = replace_stops (kept_of c.args.r (slices c.args.source.now c.args.weights.now c.args.chain.now c.args.carries.now c.args.sums.now))
-    (new_axis c.args.z c.args.x) c.args.scratch.now _ c.axis_ok-ok.ensures _ c.in-Refused.is _
+pub returns-in-Err : goal.returns-in-Err
+returns-in-Err c = replace_stops (kept_of c.args.r (slices c.args.source.now c.args.weights.now c.args.chain.now c.args.carries.now c.args.sums.now))
+    (new_axis c.args.z c.args.x) c.args.scratch.now _ c.axis_ok-ok.ensures _ c.in-Err.is _
     c.refused.ensures
 
 pub take_sources-requires : goal.take_sources-requires
@@ -28,16 +28,16 @@ renew-ran-requires c = axis_asked c.args.r (slices c.args.source.now c.args.weig
     c.in_default.is _
     c.with_axis-anew.ensures _ c.take_sources.auto.work
 
-pub shape_of-scratch-in-Refused-verdict : goal.shape_of-scratch-in-Refused-verdict
-shape_of-scratch-in-Refused-verdict c = c.renew-ran.auto.scratch ∙ c.take_sources.auto.work
+pub shape_of-scratch-in-Err-verdict : goal.shape_of-scratch-in-Err-verdict
+shape_of-scratch-in-Err-verdict c = c.renew-ran.auto.scratch ∙ c.take_sources.auto.work
 
-pub returns-in-Refused-verdict : goal.returns-in-Refused-verdict
-returns-in-Refused-verdict c = axis_refused c.args.r c.args.z c.args.x (slices c.args.source.now c.args.weights.now c.args.chain.now c.args.carries.now c.args.sums.now)
+pub returns-in-Err-verdict : goal.returns-in-Err-verdict
+returns-in-Err-verdict c = axis_refused c.args.r c.args.z c.args.x (slices c.args.source.now c.args.weights.now c.args.chain.now c.args.carries.now c.args.sums.now)
     c.args.scratch.now _
     c.axis_ok-ok.ensures
     c.in_default.is _
     c.with_axis-anew.ensures _ _ _ c.renew-ran.ensures.0 c.take_sources.ensures _
-    (c.renew-ran.ensures.1 ∙ ap zeros c.take_sources.auto.work) _ c.in-Refused-verdict.is _ c.refused-in-Refused-verdict.ensures
+    (c.renew-ran.ensures.1 ∙ ap zeros c.take_sources.auto.work) _ c.in-Err-verdict.is _ c.refused-in-Err-verdict.ensures
 
 pub returns : goal.returns
 returns c = axis_ends c.args.r c.args.z c.args.x (slices c.args.source.now c.args.weights.now c.args.chain.now c.args.carries.now c.args.sums.now)

@@ -9,9 +9,9 @@ use Rattle.runs.proofs.Accepts.{core_asks, core_asked}
 use Rattle.runs.proofs.Renewals.{core_refused, core_ends}
 use Rattle.runs.proofs.replace_core.Goals as goal
 
-pub returns-in-Refused : goal.returns-in-Refused
-returns-in-Refused c = replace_stops (kept_of c.args.r (slices c.args.source.now c.args.weights.now c.args.chain.now c.args.carries.now c.args.sums.now))
-    (new_core c.args.z c.args.part.now) c.args.scratch.now _ c.core_ok-ok.ensures _ c.in-Refused.is _
+pub returns-in-Err : goal.returns-in-Err
+returns-in-Err c = replace_stops (kept_of c.args.r (slices c.args.source.now c.args.weights.now c.args.chain.now c.args.carries.now c.args.sums.now))
+    (new_core c.args.z c.args.part.now) c.args.scratch.now _ c.core_ok-ok.ensures _ c.in-Err.is _
     c.refused.ensures
 
 pub take_core-requires : goal.take_core-requires
@@ -24,12 +24,12 @@ renew-ran-requires c = core_asked c.args.r (slices c.args.source.now c.args.weig
     c.in_default.is _
     c.take_core.auto.work
 
-pub returns-in-Refused-made : goal.returns-in-Refused-made
-returns-in-Refused-made c = core_refused c.args.r c.args.z (slices c.args.source.now c.args.weights.now c.args.chain.now c.args.carries.now c.args.sums.now)
+pub returns-in-Err-made : goal.returns-in-Err-made
+returns-in-Err-made c = core_refused c.args.r c.args.z (slices c.args.source.now c.args.weights.now c.args.chain.now c.args.carries.now c.args.sums.now)
     c.args.part.now c.args.scratch.now _
     c.core_ok-ok.ensures
     c.in_default.is _ _ _ c.renew-ran.ensures.0 c.take_core.ensures _
-    (c.renew-ran.ensures.1 ∙ ap zeros c.take_core.auto.work) _ c.in-Refused-made.is
+    (c.renew-ran.ensures.1 ∙ ap zeros c.take_core.auto.work) _ c.in-Err-made.is
 
 pub put_core-requires : goal.put_core-requires
 put_core-requires c = let p = core_asks c.args.r (slices c.args.source.now c.args.weights.now c.args.chain.now c.args.carries.now c.args.sums.now) c.args.z c.args.part.now _ _

@@ -7,10 +7,10 @@ use Rattle.runs.proofs.Replaced.{replace_stops}
 use Rattle.runs.proofs.Reweighed.{weights_lent, weights_worked}
 use Rattle.runs.proofs.replace_weights.Goals as goal
 
-pub returns-in-Refused : goal.returns-in-Refused
-returns-in-Refused c = replace_stops (kept_of c.args.r (slices c.args.source.now c.args.weights.now c.args.chain.now c.args.carries.now c.args.sums.now))
+pub returns-in-Err : goal.returns-in-Err
+returns-in-Err c = replace_stops (kept_of c.args.r (slices c.args.source.now c.args.weights.now c.args.chain.now c.args.carries.now c.args.sums.now))
     (new_weights c.args.z c.args.part.now) c.args.scratch.now _ c.weights_ok-ok.ensures _
-    c.in-Refused.is _ c.refused.ensures
+    c.in-Err.is _ c.refused.ensures
 
 pub resummed-ran-requires : goal.resummed-ran-requires
 resummed-ran-requires c = let q = weights_lent c.args.r c.args.z (slices c.args.source.now c.args.weights.now c.args.chain.now c.args.carries.now c.args.sums.now)

@@ -4,8 +4,8 @@ use Rattle.steps.proofs.Steps.{held_goes}
 use native.Mathlib.Omega.{arith}
 use Rattle.steps.proofs.step_from.Goals as goal
 
-pub returns-in-Refused : goal.returns-in-Refused
-returns-in-Refused c = step_stops _ _ _ _ _ _ _ _ c.move_from-moved.ensures.a_value _ c.in-Refused.is _ c.refused_walk.ensures _
+pub returns-in-Err : goal.returns-in-Err
+returns-in-Err c = step_stops _ _ _ _ _ _ _ _ c.move_from-moved.ensures.a_value _ c.in-Err.is _ c.refused_walk.ensures _
 
 pub round_from-requires : goal.round_from-requires
 round_from-requires c = record {

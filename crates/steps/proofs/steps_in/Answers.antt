@@ -12,8 +12,8 @@ one_step-w-requires c = record {
   placed = going_placed _ _ _ _ _ _ _ _ c.loop-left.invariant.0 (omega (arith, c.requires.placed.long, c.loop-left.invariant.1));
 }
 
-pub returns-in-Refused : goal.returns-in-Refused
-returns-in-Refused c = going_stops _ _ _ _ _ _ _ _ c.loop-left.invariant.0 _ _ _ _ c.one_step-w.ensures c.loop-left-test.true _ c.in-Refused.is
+pub returns-in-Err : goal.returns-in-Err
+returns-in-Err c = going_stops _ _ _ _ _ _ _ _ c.loop-left.invariant.0 _ _ _ _ c.one_step-w.ensures c.loop-left-test.true _ c.in-Err.is
 
 pub loop-left-preserved : goal.loop-left-preserved
 loop-left-preserved c = (

@@ -4,8 +4,8 @@ use Rattle.shape.proofs.Shaped.{fits_sizes}
 use Rattle.view.proofs.Views.{spots}
 use Rattle.view.proofs.spot_of.Goals as goal
 
-pub returns-in-Refused : goal.returns-in-Refused
-returns-in-Refused c = search (rules, spots)
+pub returns-in-Err : goal.returns-in-Err
+returns-in-Err c = search (rules, spots)
 
 pub returns-then-s-k : goal.returns-then-s-k
 returns-then-s-k c = search (rules, spots)

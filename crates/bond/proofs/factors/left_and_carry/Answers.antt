@@ -6,9 +6,9 @@ use Rattle.bond.proofs.factors.left_and_carry.Goals as goal
 pub overflow_mul-rl : goal.overflow_mul-rl
 overflow_mul-rl c = record { fits = omega (arith, rows_most _ _ _ c.requires.0 c.requires.1) }
 
-pub returns-in-Spilt : goal.returns-in-Spilt
-returns-in-Spilt c = factors_stop _ _ _ _ _ _ _ _ _ _ c.gather.ensures
-    _ _ c.left_factor-made.ensures _ _ c.in-Spilt.is
+pub returns-in-Err : goal.returns-in-Err
+returns-in-Err c = factors_stop _ _ _ _ _ _ _ _ _ _ c.gather.ensures
+    _ _ c.left_factor-made.ensures _ _ c.in-Err.is
 
 pub returns : goal.returns
 returns c = factors_end _ _ _ _ _ _ _ _ _ _

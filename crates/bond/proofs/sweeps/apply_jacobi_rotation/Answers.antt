@@ -3,8 +3,8 @@ use borrow.Author.Rules.{rules}
 use Rattle.bond.proofs.Rotations.{turned_stop, turned_end}
 use Rattle.bond.proofs.sweeps.apply_jacobi_rotation.Goals as goal
 
-pub returns-in-Spilt : goal.returns-in-Spilt
-returns-in-Spilt c = search (rules, turned_stop)
+pub returns-in-Err : goal.returns-in-Err
+returns-in-Err c = search (rules, turned_stop)
 
 pub returns : goal.returns
 returns c = turned_end _ _ _ _ _ _ _ _ _ c.turn_gram.ensures

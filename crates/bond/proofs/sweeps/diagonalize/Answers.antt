@@ -43,22 +43,22 @@ jacobi_sweep-made-requires c = search turns
 pub enum_known-made : goal.enum_known-made
 enum_known-made c = search turns
 
-pub sweeps_are-requires-in-Spilt : goal.sweeps_are-requires-in-Spilt
-sweeps_are-requires-in-Spilt c = search turns
+pub sweeps_are-requires-in-Err : goal.sweeps_are-requires-in-Err
+sweeps_are-requires-in-Err c = search turns
 
-pub shape_of-g-in-Spilt : goal.shape_of-g-in-Spilt
-shape_of-g-in-Spilt c = search turns
+pub shape_of-g-in-Err : goal.shape_of-g-in-Err
+shape_of-g-in-Err c = search turns
 
-pub shape_of-v-in-Spilt : goal.shape_of-v-in-Spilt
-shape_of-v-in-Spilt c = search turns
+pub shape_of-v-in-Err : goal.shape_of-v-in-Err
+shape_of-v-in-Err c = search turns
 
-pub returns-in-Spilt : goal.returns-in-Spilt
-returns-in-Spilt c = rw c.sweeps_are-in-Spilt.ensures
+pub returns-in-Err : goal.returns-in-Err
+returns-in-Err c = rw c.sweeps_are-in-Err.ensures
     (sweeps_stop _ _ _ _ _ _ _
     c.loop-count.invariant.4
     c.loop-count-test.true
     c.if-settles.false _ _
-    c.jacobi_sweep-made.ensures _ _ c.in-Spilt.is)
+    c.jacobi_sweep-made.ensures _ _ c.in-Err.is)
 
 pub enum_told-1 : goal.enum_told-1
 enum_told-1 c = search turns

@@ -12,14 +12,14 @@ sweep_row-made-requires c = search (turns, stagings)
 pub enum_known-made : goal.enum_known-made
 enum_known-made c = search (turns, stagings)
 
-pub shape_of-g-in-Spilt : goal.shape_of-g-in-Spilt
-shape_of-g-in-Spilt c = search (turns, stagings)
+pub shape_of-g-in-Err : goal.shape_of-g-in-Err
+shape_of-g-in-Err c = search (turns, stagings)
 
-pub shape_of-v-in-Spilt : goal.shape_of-v-in-Spilt
-shape_of-v-in-Spilt c = search (turns, stagings)
+pub shape_of-v-in-Err : goal.shape_of-v-in-Err
+shape_of-v-in-Err c = search (turns, stagings)
 
-pub returns-in-Spilt : goal.returns-in-Spilt
-returns-in-Spilt c = search (turns, stagings)
+pub returns-in-Err : goal.returns-in-Err
+returns-in-Err c = search (turns, stagings)
 
 pub enum_told-1 : goal.enum_told-1
 enum_told-1 c = search (turns, stagings)

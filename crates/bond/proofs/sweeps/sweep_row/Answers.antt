@@ -19,17 +19,17 @@ pub enum_known-made : goal.enum_known-made
 unfolding sweep_row
 enum_known-made c = search (turns, stagings)
 
-pub shape_of-g-in-Spilt : goal.shape_of-g-in-Spilt
+pub shape_of-g-in-Err : goal.shape_of-g-in-Err
 unfolding sweep_row
-shape_of-g-in-Spilt c = search (turns, stagings)
+shape_of-g-in-Err c = search (turns, stagings)
 
-pub shape_of-v-in-Spilt : goal.shape_of-v-in-Spilt
+pub shape_of-v-in-Err : goal.shape_of-v-in-Err
 unfolding sweep_row
-shape_of-v-in-Spilt c = search (turns, stagings)
+shape_of-v-in-Err c = search (turns, stagings)
 
-pub returns-in-Spilt : goal.returns-in-Spilt
+pub returns-in-Err : goal.returns-in-Err
 unfolding sweep_row
-returns-in-Spilt c = search (turns, stagings)
+returns-in-Err c = search (turns, stagings)
 
 pub enum_told-1 : goal.enum_told-1
 unfolding sweep_row

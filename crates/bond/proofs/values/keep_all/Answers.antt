@@ -3,8 +3,8 @@ use Rattle.bond.proofs.Chosen.{chosen_stop, chosen_end, stored_finite}
 use borrow.Author.Rules.{rules}
 use Rattle.bond.proofs.values.keep_all.Goals as goal
 
-pub returns-in-Spilt : goal.returns-in-Spilt
-returns-in-Spilt c = rw c.kept_are.ensures (search (rules, chosen_stop))
+pub returns-in-Err : goal.returns-in-Err
+returns-in-Err c = rw c.kept_are.ensures (search (rules, chosen_stop))
 
 pub order-requires : goal.order-requires
 order-requires c = (search rules, search rules, stored_finite _ _ c.stored-made.ensures c.in_default.is)

@@ -19,9 +19,9 @@ entry_ok-ok-requires c = search ways
 pub enum_known-ok : goal.enum_known-ok
 enum_known-ok c = search ways
 
-pub returns-in-Refused : goal.returns-in-Refused
-returns-in-Refused c = entries_stop _ _ _ _ c.loop-k.invariant c.loop-k-test.true c.entry_ok-ok.result
-    c.entry_ok-ok.ensures _ c.in-Refused.is
+pub returns-in-Err : goal.returns-in-Err
+returns-in-Err c = entries_stop _ _ _ _ c.loop-k.invariant c.loop-k-test.true c.entry_ok-ok.result
+    c.entry_ok-ok.ensures _ c.in-Err.is
 
 pub enum_told-1 : goal.enum_told-1
 enum_told-1 c = search ways

@@ -15,8 +15,8 @@ enum_known-ok c = search ways
 pub refused_read-requires : goal.refused_read-requires
 refused_read-requires c = search ways
 
-pub returns-in-Refused : goal.returns-in-Refused
-returns-in-Refused c = search ways
+pub returns-in-Err : goal.returns-in-Err
+returns-in-Err c = search ways
 
 pub enum_told-1 : goal.enum_told-1
 enum_told-1 c = search ways

@@ -26,11 +26,11 @@ table_ok-ok-requires c = table_asks _ _ c.if-bytes-d.false _ c.shape_in-s.ensure
 pub enum_known-ok : goal.enum_known-ok
 enum_known-ok c = search ways
 
-pub refused_read-requires-in-Refused : goal.refused_read-requires-in-Refused
-refused_read-requires-in-Refused c = search ways
+pub refused_read-requires-in-Err : goal.refused_read-requires-in-Err
+refused_read-requires-in-Err c = search ways
 
-pub returns-in-Refused : goal.returns-in-Refused
-returns-in-Refused c = search ways
+pub returns-in-Err : goal.returns-in-Err
+returns-in-Err c = search ways
 
 pub enum_told-1 : goal.enum_told-1
 enum_told-1 c = search ways

@@ -14,9 +14,9 @@ pub enum_known-entries : goal.enum_known-entries
 unfolding table_ok
 enum_known-entries c = search ways
 
-pub returns-in-Refused : goal.returns-in-Refused
+pub returns-in-Err : goal.returns-in-Err
 unfolding table_ok
-returns-in-Refused c = search ways
+returns-in-Err c = search ways
 
 pub enum_told-1 : goal.enum_told-1
 unfolding table_ok

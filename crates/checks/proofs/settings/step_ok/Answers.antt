@@ -16,9 +16,9 @@ pub enum_known-shaped : goal.enum_known-shaped
 unfolding step_ok
 enum_known-shaped c = search ways
 
-pub returns-in-Refused : goal.returns-in-Refused
+pub returns-in-Err : goal.returns-in-Err
 unfolding step_ok
-returns-in-Refused c = search ways
+returns-in-Err c = search ways
 
 pub enum_told-1 : goal.enum_told-1
 unfolding step_ok
@@ -35,9 +35,9 @@ pub enum_known-lent : goal.enum_known-lent
 unfolding step_ok
 enum_known-lent c = search ways
 
-pub returns-in-Refused-lent : goal.returns-in-Refused-lent
+pub returns-in-Err-lent : goal.returns-in-Err-lent
 unfolding step_ok
-returns-in-Refused-lent c = search ways
+returns-in-Err-lent c = search ways
 
 pub enum_told-in_default-lent : goal.enum_told-in_default-lent
 unfolding step_ok
@@ -59,9 +59,9 @@ pub enum_known-finite : goal.enum_known-finite
 unfolding step_ok
 enum_known-finite c = search ways
 
-pub returns-in-Refused-finite : goal.returns-in-Refused-finite
+pub returns-in-Err-finite : goal.returns-in-Err-finite
 unfolding step_ok
-returns-in-Refused-finite c = search ways
+returns-in-Err-finite c = search ways
 
 pub enum_told-in_default-finite : goal.enum_told-in_default-finite
 unfolding step_ok

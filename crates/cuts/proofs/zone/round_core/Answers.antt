@@ -3,7 +3,7 @@ use Rattle.cuts.proofs.Zoned.{fewer_rows, zone_stops, zone_goes, part_long, part
 use mathlib.Core.Path.{◌≡◌, ap}
 use native.Mathlib.Omega.{arith}
 use Rattle.bond.specs.declared.BondCut.{BondCut}
-use Rattle.answers.specs.declared.Verdict.TheVariants.{Fits}
+use Rattle.std.specs.Prelude.{Ok}
 use Rattle.cuts.proofs.zone.round_core.Goals as goal
 
 pub taken-ready-requires : goal.taken-ready-requires
@@ -20,9 +20,9 @@ taken-ready-requires c = let f = fewer_rows c.args.r c.args.rl c.args.n c.args.r
           (arith, c.requires.taken l, m),
     )
 
-pub returns-in-Refused : goal.returns-in-Refused
-returns-in-Refused c = (
-  zone_stops _ _ _ _ _ _ _ c.taken-ready.ensures _ _ _ c.in-Refused.is _
+pub returns-in-Err : goal.returns-in-Err
+returns-in-Err c = (
+  zone_stops _ _ _ _ _ _ _ c.taken-ready.ensures _ _ _ c.in-Err.is _
       (ap (λ (r : BondCut). r.verdict) c.refused_cut.ensures) _,
   part_same c.args.mid c.args.to c.args.carries.now c.requires.right
       c.requires.held,
@@ -43,7 +43,7 @@ cut_if-requires c = let f = fewer_rows c.args.r c.args.rl c.args.n c.args.rr c.r
     )
 
 pub returns : goal.returns
-returns c = let h : c.taken-ready.result ≡ Fits = c.in_default.is in
+returns c = let h : c.taken-ready.result ≡ (Ok tt) = c.in_default.is in
     let m = part_long c.args.mid c.args.to c.args.carries.now c.requires.right c.requires.held in (
       zone_goes _ _ _ _ _ _ _ c.taken-ready.ensures _ _ h _ _ _ _ _ _ _ _ c.cut_if.ensures c.taken-ready.auto.slot m
           (part_read c.args.mid c.args.to c.args.carries.now c.requires.right c.requires.held c.cut_if.new.carry c.cut_if.auto.carry),

@@ -27,8 +27,8 @@ valued-d-requires c = (
   span_length _ _ (mul-le-mul c.requires.0.columns c.requires.0.rows),
 )
 
-pub returns-in-Refused : goal.returns-in-Refused
-returns-in-Refused c = rw c.refused_pair.ensures (split_stop _ _ _ _ _ _ c.valued-d.ensures _ c.stored_in-told.ensures _ _ c.in-Refused.is)
+pub returns-in-Err : goal.returns-in-Err
+returns-in-Err c = rw c.refused_pair.ensures (split_stop _ _ _ _ _ _ c.valued-d.ensures _ c.stored_in-told.ensures _ _ c.in-Err.is)
 
 pub slice_bounds-cut-end : goal.slice_bounds-cut-end
 slice_bounds-cut-end c = lent_end _ c.valued-d.new.v _ _ c.v-2-1.given (mul-le-mul c.requires.0.columns c.requires.0.columns)

@@ -10,12 +10,12 @@ orthogonalize-w-requires c = (
   c.requires.4,
 )
 
-pub returns-in-Spilt : goal.returns-in-Spilt
-returns-in-Spilt c = rw c.passes_are.ensures
+pub returns-in-Err : goal.returns-in-Err
+returns-in-Err c = rw c.passes_are.ensures
     (valued_stop _ _ _ _ _ _
     c.eye.ensures _ _
     c.orthogonalize-w.ensures.0 _ _
-    c.in-Spilt.is)
+    c.in-Err.is)
 
 pub returns : goal.returns
 returns c = rw c.passes_are-2.ensures

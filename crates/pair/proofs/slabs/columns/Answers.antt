@@ -13,8 +13,8 @@ overflow_mul-e c = record { fits = omega (arith, mul-le-mul c.requires.3 c.requi
 pub slice_bounds-slab-end : goal.slice_bounds-slab-end
 slice_bounds-slab-end c = omega (arith, mul-le-mul c.requires.3 c.requires.4, c.room-2-1.given)
 
-pub returns-in-Spilt : goal.returns-in-Spilt
-returns-in-Spilt c = columns_stop _ _ _ _ _ _ (front_is _ _ _ _ _ _ _ c.rows_of.ensures) _ c.stored-made.ensures _ _ c.in-Spilt.is
+pub returns-in-Err : goal.returns-in-Err
+returns-in-Err c = columns_stop _ _ _ _ _ _ (front_is _ _ _ _ _ _ _ c.rows_of.ensures) _ c.stored-made.ensures _ _ c.in-Err.is
 
 pub transpose-requires : goal.transpose-requires
 transpose-requires c = (front_long _ _ _ _ _ _ _ c.rows_of.ensures, c.requires.2)

@@ -25,12 +25,12 @@ stored_squared-made-requires c = (
   squares_length _ _ _ _ c.square_again.ensures,
 )
 
-pub returns-in-Spilt : goal.returns-in-Spilt
-returns-in-Spilt c = (
+pub returns-in-Err : goal.returns-in-Err
+returns-in-Err c = (
   turned_stop _ _ _ _ _ _ _ _ _ _
       c.turn.ensures
       c.turn-2.ensures _
-      c.stored_squared-made.ensures _ _ c.in-Spilt.is,
+      c.stored_squared-made.ensures _ _ c.in-Err.is,
   c.square_again.ensures,
 )
 

@@ -30,23 +30,23 @@ pass-made-requires c = search turns
 pub enum_known-stage : goal.enum_known-stage
 enum_known-stage c = search turns
 
-pub passes_are-requires-in-Spilt : goal.passes_are-requires-in-Spilt
-passes_are-requires-in-Spilt c = search turns
+pub passes_are-requires-in-Err : goal.passes_are-requires-in-Err
+passes_are-requires-in-Err c = search turns
 
-pub shape_of-a-in-Spilt : goal.shape_of-a-in-Spilt
-shape_of-a-in-Spilt c = search turns
+pub shape_of-a-in-Err : goal.shape_of-a-in-Err
+shape_of-a-in-Err c = search turns
 
-pub shape_of-v-in-Spilt : goal.shape_of-v-in-Spilt
-shape_of-v-in-Spilt c = search turns
+pub shape_of-v-in-Err : goal.shape_of-v-in-Err
+shape_of-v-in-Err c = search turns
 
-pub shape_of-ss-in-Spilt : goal.shape_of-ss-in-Spilt
-shape_of-ss-in-Spilt c = search turns
+pub shape_of-ss-in-Err : goal.shape_of-ss-in-Err
+shape_of-ss-in-Err c = search turns
 
-pub returns-in-Spilt : goal.returns-in-Spilt
-returns-in-Spilt c = (
-  rw c.passes_are-in-Spilt.ensures
+pub returns-in-Err : goal.returns-in-Err
+returns-in-Err c = (
+  rw c.passes_are-in-Err.ensures
       (passes_stop _ _ _ _ _ _ _ c.loop-count.invariant.5 c.loop-count-test.true c.if-quiet.false _ _ c.pass-made.ensures.0 _ _
-      c.in-Spilt.is),
+      c.in-Err.is),
   c.pass-made.ensures.1,
 )
 

@@ -16,19 +16,19 @@ enum_known-stage c = search turns
 pub turn_is-requires : goal.turn_is-requires
 turn_is-requires c = search turns
 
-pub shape_of-a-in-Spilt : goal.shape_of-a-in-Spilt
-shape_of-a-in-Spilt c = search turns
+pub shape_of-a-in-Err : goal.shape_of-a-in-Err
+shape_of-a-in-Err c = search turns
 
-pub shape_of-v-in-Spilt : goal.shape_of-v-in-Spilt
-shape_of-v-in-Spilt c = search turns
+pub shape_of-v-in-Err : goal.shape_of-v-in-Err
+shape_of-v-in-Err c = search turns
 
-pub shape_of-ss-in-Spilt : goal.shape_of-ss-in-Spilt
-shape_of-ss-in-Spilt c = search turns
+pub shape_of-ss-in-Err : goal.shape_of-ss-in-Err
+shape_of-ss-in-Err c = search turns
 
-pub returns-in-Spilt : goal.returns-in-Spilt
-returns-in-Spilt c = (
+pub returns-in-Err : goal.returns-in-Err
+returns-in-Err c = (
   rw c.turn_is.ensures
-      (stage_stop _ _ _ _ _ c.loop-p.invariant.5 c.loop-p-test.true _ _ c.pass_row-made.ensures.0 _ _ c.in-Spilt.is),
+      (stage_stop _ _ _ _ _ c.loop-p.invariant.5 c.loop-p-test.true _ _ c.pass_row-made.ensures.0 _ _ c.in-Err.is),
   c.pass_row-made.ensures.1,
 )
 

@@ -25,23 +25,23 @@ pub turn_is-requires : goal.turn_is-requires
 unfolding pass_row
 turn_is-requires c = search turns
 
-pub shape_of-a-in-Spilt : goal.shape_of-a-in-Spilt
+pub shape_of-a-in-Err : goal.shape_of-a-in-Err
 unfolding pass_row
-shape_of-a-in-Spilt c = search turns
+shape_of-a-in-Err c = search turns
 
-pub shape_of-v-in-Spilt : goal.shape_of-v-in-Spilt
+pub shape_of-v-in-Err : goal.shape_of-v-in-Err
 unfolding pass_row
-shape_of-v-in-Spilt c = search turns
+shape_of-v-in-Err c = search turns
 
-pub shape_of-ss-in-Spilt : goal.shape_of-ss-in-Spilt
+pub shape_of-ss-in-Err : goal.shape_of-ss-in-Err
 unfolding pass_row
-shape_of-ss-in-Spilt c = search turns
+shape_of-ss-in-Err c = search turns
 
-pub returns-in-Spilt : goal.returns-in-Spilt
+pub returns-in-Err : goal.returns-in-Err
 unfolding pass_row
-returns-in-Spilt c = (
+returns-in-Err c = (
   rw c.turn_is.ensures
-      (stage_stop _ _ _ _ _ c.loop-q.invariant.6 c.loop-q-test.true _ _ c.rotate-made.ensures.0 _ _ c.in-Spilt.is),
+      (stage_stop _ _ _ _ _ c.loop-q.invariant.6 c.loop-q-test.true _ _ c.rotate-made.ensures.0 _ _ c.in-Err.is),
   c.rotate-made.ensures.1,
 )
 

@@ -12,8 +12,8 @@ enum_known-ok c = search (rules, starts-checked)
 pub refused_start-requires : goal.refused_start-requires
 refused_start-requires c = search (rules, starts-checked)
 
-pub returns-in-Refused : goal.returns-in-Refused
-returns-in-Refused c = search (rules, starts-checked)
+pub returns-in-Err : goal.returns-in-Err
+returns-in-Err c = search (rules, starts-checked)
 
 pub enum_told-1 : goal.enum_told-1
 enum_told-1 c = search (rules, starts-checked)

@@ -13,9 +13,9 @@ pub enum_known-sized : goal.enum_known-sized
 unfolding start_ok
 enum_known-sized c = search (rules, then_stops, then_passes, sized_points, vectors_long)
 
-pub returns-in-Refused : goal.returns-in-Refused
+pub returns-in-Err : goal.returns-in-Err
 unfolding start_ok
-returns-in-Refused c = search (rules, then_stops, then_passes, sized_points, vectors_long)
+returns-in-Err c = search (rules, then_stops, then_passes, sized_points, vectors_long)
 
 pub enum_told-1 : goal.enum_told-1
 unfolding start_ok
@@ -29,9 +29,9 @@ pub enum_known-lent : goal.enum_known-lent
 unfolding start_ok
 enum_known-lent c = search (rules, then_stops, then_passes, sized_points, vectors_long)
 
-pub returns-in-Refused-lent : goal.returns-in-Refused-lent
+pub returns-in-Err-lent : goal.returns-in-Err-lent
 unfolding start_ok
-returns-in-Refused-lent c = search (rules, then_stops, then_passes, sized_points, vectors_long)
+returns-in-Err-lent c = search (rules, then_stops, then_passes, sized_points, vectors_long)
 
 pub enum_told-in_default-lent : goal.enum_told-in_default-lent
 unfolding start_ok

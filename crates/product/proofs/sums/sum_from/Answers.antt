@@ -10,9 +10,9 @@ loop-k-init c = (refl, c.requires.0, sums_turn _ _ c.requires.2.inside _ _ _ _ c
 pub sum_zone-done-requires : goal.sum_zone-done-requires
 sum_zone-done-requires c = (c.loop-k-test.true, omega (arith, c.requires.1, c.loop-k.invariant.0), c.requires.2)
 
-pub returns-in-Refused : goal.returns-in-Refused
-returns-in-Refused c = answer_stop _ _ _ _ _ c.loop-k.invariant.2 c.loop-k-test.true _ _
-    c.sum_zone-done.ensures _ _ c.in-Refused.is
+pub returns-in-Err : goal.returns-in-Err
+returns-in-Err c = answer_stop _ _ _ _ _ c.loop-k.invariant.2 c.loop-k-test.true _ _
+    c.sum_zone-done.ensures _ _ c.in-Err.is
 
 pub loop-k-preserved : goal.loop-k-preserved
 loop-k-preserved c = (

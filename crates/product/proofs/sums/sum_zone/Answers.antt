@@ -10,9 +10,9 @@ left_sums-requires c = let a = left_asks _ _ _ _ _ c.requires.2 c.requires.0 in 
   k_lt_d = (c.requires.0, c.requires.1, a.0, a.1, a.2, a.3);
 }
 
-pub returns-in-Refused : goal.returns-in-Refused
-returns-in-Refused c = turn_stops _ _ c.requires.2.inside _ _ _ _ _ _ _ c.left_sums.ensures c.axis_sums-stage.ensures _ c.stored_in-made.ensures _
-    c.in-Refused.is _
+pub returns-in-Err : goal.returns-in-Err
+returns-in-Err c = turn_stops _ _ c.requires.2.inside _ _ _ _ _ _ _ c.left_sums.ensures c.axis_sums-stage.ensures _ c.stored_in-made.ensures _
+    c.in-Err.is _
 
 pub keep_sums-requires : goal.keep_sums-requires
 keep_sums-requires c = let a = own_asks _ _ _ _ _ c.requires.2 c.requires.0 in record {

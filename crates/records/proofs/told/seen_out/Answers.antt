@@ -3,8 +3,8 @@ use mathlib.Core.Path.{ap, sym}
 use Rattle.records.specs.Told.{seen_out}
 use Rattle.records.proofs.told.seen_out.Goals as goal
 
-pub returns-in-Number : goal.returns-in-Number
-returns-in-Number c = ap seen_out (sym c.in-Number.is)
+pub returns-in-Some : goal.returns-in-Some
+returns-in-Some c = ap seen_out (sym c.in-Some.is)
 
 pub returns : goal.returns
 returns c = ap seen_out (sym c.in_default.is)

@@ -4,9 +4,9 @@ use Rattle.shape.proofs.Insides.{inside_size}
 use Rattle.rounding.proofs.Rooms.{inside_entries, left_stays, left_packed}
 use Rattle.rounding.proofs.packing.leave.Goals as goal
 
-pub returns-in-Refused : goal.returns-in-Refused
-returns-in-Refused c = record {
-  chain_after = left_stays _ _ _ _ _ _ c.in-Refused.is;
+pub returns-in-Err : goal.returns-in-Err
+returns-in-Err c = record {
+  chain_after = left_stays _ _ _ _ _ _ c.in-Err.is;
   scratch_after = c.fill.ensures;
 }
 

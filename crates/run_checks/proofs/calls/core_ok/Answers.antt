@@ -10,10 +10,10 @@ use Rattle.runform.specs.Checks.{scratch_lent}
 use native.Mathlib.Omega.{arith}
 use Rattle.run_checks.proofs.calls.core_ok.Goals as goal
 
-pub returns-in-Refused : goal.returns-in-Refused
-returns-in-Refused c = found_stops rules (scratch_lent c.args.r.shape behind_part c.args.scratch)
+pub returns-in-Err : goal.returns-in-Err
+returns-in-Err c = found_stops rules (scratch_lent c.args.r.shape behind_part c.args.scratch)
     (kept_of c.args.r (slices c.args.source.now c.args.weights.now c.args.chain.now c.args.carries.now c.args.sums.now))
-    (new_core c.args.z c.args.part.now) _ c.found_ok-found.ensures _ c.in-Refused.is
+    (new_core c.args.z c.args.part.now) _ c.found_ok-found.ensures _ c.in-Err.is
 
 pub core_size-requires : goal.core_size-requires
 core_size-requires c = let f = found_says (kept_of c.args.r (slices c.args.source.now c.args.weights.now c.args.chain.now c.args.carries.now c.args.sums.now)) c.args.z _ c.found_ok-found.ensures c.in_default.is in
@@ -46,15 +46,15 @@ numbers_found-numbers-requires c = let f = found_says (kept_of c.args.r (slices 
       sums_value = f.2;
     }
 
-pub returns-in-Refused-numbers : goal.returns-in-Refused-numbers
-returns-in-Refused-numbers c = core_stops (kept_of c.args.r (slices c.args.source.now c.args.weights.now c.args.chain.now c.args.carries.now c.args.sums.now))
+pub returns-in-Err-numbers : goal.returns-in-Err-numbers
+returns-in-Err-numbers c = core_stops (kept_of c.args.r (slices c.args.source.now c.args.weights.now c.args.chain.now c.args.carries.now c.args.sums.now))
     c.args.z c.args.part.now c.args.scratch _
     c.found_ok-found.ensures
     c.in_default.is _
     c.core_size.ensures
     c.if-part-core_size.false _ c.scratch_of.ensures
     c.if-scratch-scratch_of.false _ c.all_finite-finite.ensures _
-    c.numbers_found-numbers.ensures _ c.in-Refused-numbers.is
+    c.numbers_found-numbers.ensures _ c.in-Err-numbers.is
 
 pub reaches_ok-requires : goal.reaches_ok-requires
 reaches_ok-requires c = let f = found_says (kept_of c.args.r (slices c.args.source.now c.args.weights.now c.args.chain.now c.args.carries.now c.args.sums.now))

@@ -18,15 +18,15 @@ use Rattle.run_checks.proofs.calls.fresh_ok.Goals as goal
 abbrev given : Shape → List Axis → Settings → List Float → List Float → Inputs
 given s xs set source weights = record { shape = s; axes = xs; set = set; source = source; weights = weights }
 
-pub returns-in-Refused : goal.returns-in-Refused
-returns-in-Refused c = shape_stops (given c.args.s c.args.xs c.args.set c.args.source.now c.args.weights.now) (outputs c.args.chain c.args.carries c.args.sums) c.args.scratch _ c.check-shaped.ensures _ c.in-Refused.is
+pub returns-in-Err : goal.returns-in-Err
+returns-in-Err c = shape_stops (given c.args.s c.args.xs c.args.set c.args.source.now c.args.weights.now) (outputs c.args.chain c.args.carries c.args.sums) c.args.scratch _ c.check-shaped.ensures _ c.in-Err.is
 
 pub lent-lent-requires : goal.lent-lent-requires
 lent-lent-requires c = (fits_shaped _ _ _ c.check-shaped.ensures c.in_default.is).sizes
 
-pub returns-in-Refused-lent : goal.returns-in-Refused-lent
-returns-in-Refused-lent c = lent_stops (given c.args.s c.args.xs c.args.set c.args.source.now c.args.weights.now) (outputs c.args.chain c.args.carries c.args.sums) c.args.scratch _ c.check-shaped.ensures
-    c.in_default.is _ c.lent-lent.ensures _ c.in-Refused-lent.is
+pub returns-in-Err-lent : goal.returns-in-Err-lent
+returns-in-Err-lent c = lent_stops (given c.args.s c.args.xs c.args.set c.args.source.now c.args.weights.now) (outputs c.args.chain c.args.carries c.args.sums) c.args.scratch _ c.check-shaped.ensures
+    c.in_default.is _ c.lent-lent.ensures _ c.in-Err-lent.is
 
 pub scratch_of-requires : goal.scratch_of-requires
 scratch_of-requires c = (fits_shaped _ _ _ c.check-shaped.ensures c.in_default.is).sizes
@@ -44,13 +44,13 @@ numbers_made-numbers-requires c = let m : Slices ℕ = record { source = length 
       s_in_bounds = (l.source, l.weights);
     }
 
-pub returns-in-Refused-numbers : goal.returns-in-Refused-numbers
-returns-in-Refused-numbers c = numbers_stop (given c.args.s c.args.xs c.args.set c.args.source.now c.args.weights.now) (outputs c.args.chain c.args.carries c.args.sums) c.args.scratch _
+pub returns-in-Err-numbers : goal.returns-in-Err-numbers
+returns-in-Err-numbers c = numbers_stop (given c.args.s c.args.xs c.args.set c.args.source.now c.args.weights.now) (outputs c.args.chain c.args.carries c.args.sums) c.args.scratch _
     c.check-shaped.ensures
     c.in_default.is _
     c.lent-lent.ensures c.in_default-lent.is
     _ c.scratch_of.ensures c.if-scratch-scratch_of.false _
-    c.numbers_made-numbers.ensures _ c.in-Refused-numbers.is
+    c.numbers_made-numbers.ensures _ c.in-Err-numbers.is
 
 pub reaches_ok-requires : goal.reaches_ok-requires
 reaches_ok-requires c = record {

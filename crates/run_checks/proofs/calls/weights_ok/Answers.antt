@@ -10,10 +10,10 @@ use Rattle.runform.specs.Checks.{scratch_lent}
 use native.Mathlib.Omega.{arith}
 use Rattle.run_checks.proofs.calls.weights_ok.Goals as goal
 
-pub returns-in-Refused : goal.returns-in-Refused
-returns-in-Refused c = found_stops rules (scratch_lent c.args.r.shape behind_part c.args.scratch)
+pub returns-in-Err : goal.returns-in-Err
+returns-in-Err c = found_stops rules (scratch_lent c.args.r.shape behind_part c.args.scratch)
     (kept_of c.args.r (slices c.args.source.now c.args.weights.now c.args.chain.now c.args.carries.now c.args.sums.now))
-    (new_weights c.args.z c.args.part.now) _ c.found_ok-found.ensures _ c.in-Refused.is
+    (new_weights c.args.z c.args.part.now) _ c.found_ok-found.ensures _ c.in-Err.is
 
 pub offset_bounds-s-z : goal.offset_bounds-s-z
 offset_bounds-s-z c = let f = found_says (kept_of c.args.r (slices c.args.source.now c.args.weights.now c.args.chain.now c.args.carries.now c.args.sums.now)) c.args.z _ c.found_ok-found.ensures c.in_default.is in

@@ -15,9 +15,9 @@ pub enum_known-shaped : goal.enum_known-shaped
 unfolding found_ok
 enum_known-shaped c = search ways
 
-pub returns-in-Refused : goal.returns-in-Refused
+pub returns-in-Err : goal.returns-in-Err
 unfolding found_ok
-returns-in-Refused c = search ways
+returns-in-Err c = search ways
 
 pub enum_told-1 : goal.enum_told-1
 unfolding found_ok

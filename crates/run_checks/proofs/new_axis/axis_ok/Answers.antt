@@ -10,10 +10,10 @@ use Rattle.runform.specs.Checks.{scratch_lent}
 use native.Mathlib.Omega.{arith}
 use Rattle.run_checks.proofs.new_axis.axis_ok.Goals as goal
 
-pub returns-in-Refused : goal.returns-in-Refused
-returns-in-Refused c = found_stops rules (scratch_lent c.args.r.shape slice_count c.args.scratch)
+pub returns-in-Err : goal.returns-in-Err
+returns-in-Err c = found_stops rules (scratch_lent c.args.r.shape slice_count c.args.scratch)
     (kept_of c.args.r (slices c.args.source.now c.args.weights.now c.args.chain.now c.args.carries.now c.args.sums.now))
-    (new_axis c.args.z c.args.a) _ c.found_ok-found.ensures _ c.in-Refused.is
+    (new_axis c.args.z c.args.a) _ c.found_ok-found.ensures _ c.in-Err.is
 
 pub scratch_of-requires : goal.scratch_of-requires
 scratch_of-requires c = let f = found_says (kept_of c.args.r (slices c.args.source.now c.args.weights.now c.args.chain.now c.args.carries.now c.args.sums.now)) c.args.z _ c.found_ok-found.ensures c.in_default.is in
@@ -32,13 +32,13 @@ numbers_found-numbers-requires c = let f = found_says (kept_of c.args.r (slices 
       sums_value = f.2;
     }
 
-pub returns-in-Refused-numbers : goal.returns-in-Refused-numbers
-returns-in-Refused-numbers c = axis_stops (kept_of c.args.r (slices c.args.source.now c.args.weights.now c.args.chain.now c.args.carries.now c.args.sums.now))
+pub returns-in-Err-numbers : goal.returns-in-Err-numbers
+returns-in-Err-numbers c = axis_stops (kept_of c.args.r (slices c.args.source.now c.args.weights.now c.args.chain.now c.args.carries.now c.args.sums.now))
     c.args.z c.args.a c.args.scratch _ c.found_ok-found.ensures
     c.in_default.is _
     c.scratch_of.ensures c.if-scratch-scratch_of.false _ _
     c.axis_finite-finite.ensures c.axis_ok-mild.ensures _
-    c.numbers_found-numbers.ensures _ c.in-Refused-numbers.is
+    c.numbers_found-numbers.ensures _ c.in-Err-numbers.is
 
 pub offset_bounds-xs-z : goal.offset_bounds-xs-z
 offset_bounds-xs-z c = let f = found_says (kept_of c.args.r (slices c.args.source.now c.args.weights.now c.args.chain.now c.args.carries.now c.args.sums.now))

@@ -3,8 +3,8 @@ use native.Mathlib.Omega.{arith}
 use Rattle.run_work.proofs.Work.{few_axes, sums_stand, work_stops, work_judged}
 use Rattle.run_work.proofs.again.redo_from.Goals as goal
 
-pub returns-in-Refused : goal.returns-in-Refused
-returns-in-Refused c = work_stops _ _ _ _ _ (c.step_again-stepped.ensures.0 _) _ _ c.in-Refused.is _
+pub returns-in-Err : goal.returns-in-Err
+returns-in-Err c = work_stops _ _ _ _ _ (c.step_again-stepped.ensures.0 _) _ _ c.in-Err.is _
 
 pub kept_shape-t-requires : goal.kept_shape-t-requires
 kept_shape-t-requires c = few_axes _ c.requires.steps.ok

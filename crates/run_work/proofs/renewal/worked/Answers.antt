@@ -16,12 +16,12 @@ redo_from-w-requires c = let q = redo_asks _ _ _ _ _
     (c.take_carry.auto.held ∙ (search rules))
     (c.take_sum.auto.summed ∙ (search rules)) in record { steps = q.0; sums = q.1 }
 
-pub returns-in-Refused : goal.returns-in-Refused
-returns-in-Refused c = renew_stops _ _ _ _ _
+pub returns-in-Err : goal.returns-in-Err
+returns-in-Err c = renew_stops _ _ _ _ _
     c.requires _
     c.walked_of.ensures _ _
     (c.take_carry.auto.held ∙ (search rules)) (c.take_sum.auto.summed ∙ (search rules)) c.take_carry.ensures
-    c.take_sum.ensures c.redo_from-w.result _ _ _ c.redo_from-w.ensures _ c.in-Refused.is _ c.refused.ensures
+    c.take_sum.ensures c.redo_from-w.result _ _ _ c.redo_from-w.ensures _ c.in-Err.is _ c.refused.ensures
 
 pub commit-figure-requires : goal.commit-figure-requires
 commit-figure-requires c = let q = commit_asks _ _ _ _ _

@@ -18,10 +18,10 @@ sums_anew-made-requires c = let w = (shaped _ _ c.requires.bonds_value).sizes in
   sums_len = (c.requires.lent.sums_long, sums_fit _ w _ c.requires.lent.sums_long);
 }
 
-pub returns-in-Refused : goal.returns-in-Refused
-returns-in-Refused c = λ source carries scratch. resum_stops c.args.r c.args.z c.args.weights.now c.args.chain.now c.args.sums.now c.args.part.now _
+pub returns-in-Err : goal.returns-in-Err
+returns-in-Err c = λ source carries scratch. resum_stops c.args.r c.args.z c.args.weights.now c.args.chain.now c.args.sums.now c.args.part.now _
     c.kept_shape-t.ensures c.requires.lent.zone _ _
-    c.sums_anew-made.ensures source carries scratch _ c.in-Refused.is _ c.refused.ensures
+    c.sums_anew-made.ensures source carries scratch _ c.in-Err.is _ c.refused.ensures
 
 pub commit-figure-requires : goal.commit-figure-requires
 commit-figure-requires c = let w = (shaped _ _ c.requires.bonds_value).sizes in record {

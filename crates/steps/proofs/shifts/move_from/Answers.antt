@@ -19,12 +19,12 @@ shift_zone-moved-requires c = record {
   );
 }
 
-pub returns-in-Refused : goal.returns-in-Refused
-returns-in-Refused c = record {
+pub returns-in-Err : goal.returns-in-Err
+returns-in-Err c = record {
   a_value = moving_stop _ _ _ _ _ _ _ _ c.loop-k.invariant.0
       c.loop-k-test.true _
       c.axis_in-x.ensures _ _
-      c.shift_zone-moved.ensures.x_value _ c.in-Refused.is _ _;
+      c.shift_zone-moved.ensures.x_value _ c.in-Err.is _ _;
   onward = onward_on _ _ _ _ _ _ _ _ c.loop-k.invariant.0 _ c.shift_zone-moved.ensures.elsewhere;
 }
 

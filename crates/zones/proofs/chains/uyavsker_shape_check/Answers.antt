@@ -1,5 +1,4 @@
 -- `zones::chains::uyavsker_shape_check`: the record turned into the core's shape, the call, and its answer turned back (passed).
-use Rattle.answers.specs.Outcome.{verdict_of}
 use Rattle.shape.specs.declared.Shape.{Shape}
 use Rattle.shape.specs.Shapes.{chain_ok}
 use Rattle.records.specs.Told.{refusal_of}
@@ -7,4 +6,4 @@ use Rattle.zones.proofs.Faces.{passed}
 use Rattle.zones.proofs.chains.uyavsker_shape_check.Goals as goal
 
 pub returns : goal.returns
-returns c = passed (λ (x : Shape). verdict_of (chain_ok x)) refusal_of _ _ _ _ c.shape_in-shape.ensures c.check.ensures c.refusal_of.ensures
+returns c = passed (λ (x : Shape). (chain_ok x)) refusal_of _ _ _ _ c.shape_in-shape.ensures c.check.ensures c.refusal_of.ensures
