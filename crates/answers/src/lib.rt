@@ -7,7 +7,7 @@ ghost use Rattle.answers.specs.Outcome.{stored_in};
 ghost use Rattle.answers.specs.Table.{part_number, number_of, place_of, index_of, before_work};
 
 // What was being made where a number to be stored isn't finite.
-#[derive(Clone, Copy)]
+#[derive(Clone, Copy, Debug, PartialEq, Eq)]
 pub enum Part {
     // a shifted or scaled entry, or a pair's slab
     Entry,
@@ -19,7 +19,7 @@ pub enum Part {
     Sum,
 }
 
-#[derive(Clone, Copy)]
+#[derive(Clone, Copy, Debug, PartialEq, Eq)]
 pub enum Refusal {
     // d is outside its limits
     Axes,
@@ -46,91 +46,72 @@ pub enum Refusal {
     File(usize),
 }
 
-// The number that the scope's table has for a part.
-fn part_number(part: Part) -> u8
-    ensures { result ≡ part_number part }
-{
-    match part {
-        Part::Entry => 9,
-        Part::Spectrum => 12,
-        Part::Factor => 13,
-        Part::Sum => 14,
+impl Part {
+    // The number that the scope's table has for a part.
+    fn number(self) -> u8
+        ensures { result ≡ part_number self }
+    {
+        match self {
+            Part::Entry => 9,
+            Part::Spectrum => 12,
+            Part::Factor => 13,
+            Part::Sum => 14,
+        }
     }
 }
 
-// The number of a refusal in the scope's table.
-pub fn number(r: Refusal) -> u8
-    ensures { result ≡ number_of r }
-{
-    match r {
-        Refusal::Axes => 1,
-        Refusal::Size(k) => 2,
-        Refusal::Ranks(k) => 3,
-        Refusal::Zone => 4,
-        Refusal::Length(i) => 5,
-        Refusal::Number(k) => 6,
-        Refusal::Setting(k) => 7,
-        Refusal::Reach(k) => 8,
-        Refusal::Stored(part, k, i) => part_number(part),
-        Refusal::PairRank => 10,
-        Refusal::File(b) => 11,
+impl Refusal {
+    // The number of a refusal in the scope's table.
+    pub fn number(self) -> u8
+        ensures { result ≡ number_of self }
+    {
+        match self {
+            Refusal::Axes => 1,
+            Refusal::Size(_) => 2,
+            Refusal::Ranks(_) => 3,
+            Refusal::Zone => 4,
+            Refusal::Length(_) => 5,
+            Refusal::Number(_) => 6,
+            Refusal::Setting(_) => 7,
+            Refusal::Reach(_) => 8,
+            Refusal::Stored(part, ..) => part.number(),
+            Refusal::PairRank => 10,
+            Refusal::File(_) => 11,
+        }
     }
-}
 
-// The place that the table gives with the number.
-pub fn place(r: Refusal) -> usize
-    ensures { result ≡ place_of r }
-{
-    match r {
-        Refusal::Axes => 0,
-        Refusal::Size(k) => k,
-        Refusal::Ranks(k) => k,
-        Refusal::Zone => 0,
-        Refusal::Length(i) => i,
-        Refusal::Number(k) => k,
-        Refusal::Setting(k) => k,
-        Refusal::Reach(k) => k,
-        Refusal::Stored(part, k, i) => k,
-        Refusal::PairRank => 0,
-        Refusal::File(b) => b,
+    // The place that the table gives with the number.
+    pub fn place(self) -> usize
+        ensures { result ≡ place_of self }
+    {
+        match self {
+            Refusal::Axes | Refusal::Zone | Refusal::PairRank => 0,
+            Refusal::Size(k)
+            | Refusal::Ranks(k)
+            | Refusal::Length(k)
+            | Refusal::Number(k)
+            | Refusal::Setting(k)
+            | Refusal::Reach(k)
+            | Refusal::Stored(_, k, _)
+            | Refusal::File(k) => k,
+        }
     }
-}
 
-// The index, inside what was being stored, of the first number that isn't finite; 0 where nothing was.
-pub fn index(r: Refusal) -> usize
-    ensures { result ≡ index_of r }
-{
-    match r {
-        Refusal::Axes => 0,
-        Refusal::Size(k) => 0,
-        Refusal::Ranks(k) => 0,
-        Refusal::Zone => 0,
-        Refusal::Length(i) => 0,
-        Refusal::Number(k) => 0,
-        Refusal::Setting(k) => 0,
-        Refusal::Reach(k) => 0,
-        Refusal::Stored(part, k, i) => i,
-        Refusal::PairRank => 0,
-        Refusal::File(b) => 0,
+    // The index, inside what was being stored, of the first number that isn't finite; 0 where nothing was.
+    pub fn index(self) -> usize
+        ensures { result ≡ index_of self }
+    {
+        match self {
+            Refusal::Stored(_, _, i) => i,
+            _ => 0,
+        }
     }
-}
 
-// Whether a check gives it before any work.
-pub fn before_work(r: Refusal) -> bool
-    ensures { result ≡ before_work r }
-{
-    match r {
-        Refusal::Axes => true,
-        Refusal::Size(k) => true,
-        Refusal::Ranks(k) => true,
-        Refusal::Zone => true,
-        Refusal::Length(i) => true,
-        Refusal::Number(k) => true,
-        Refusal::Setting(k) => true,
-        Refusal::Reach(k) => true,
-        Refusal::Stored(part, k, i) => false,
-        Refusal::PairRank => false,
-        Refusal::File(b) => true,
+    // Whether a check gives it before any work.
+    pub fn before_work(self) -> bool
+        ensures { result ≡ before_work self }
+    {
+        !matches!(self, Refusal::Stored(..) | Refusal::PairRank)
     }
 }
 
@@ -142,8 +123,9 @@ pub fn stored_at(part: Part, core: usize, index: usize) -> Refusal
 }
 
 // What a call answers of a stage that makes this part for this core: all its numbers are finite, or the index of the first that isn't.
+#[tactic(auto, unfolding(crate::specs::Outcome::staged))]
 pub fn stored_in(stage: Result<(), usize>, part: Part, core: usize) -> Result<(), Refusal>
     ensures { result ≡ stored_in part core stage }
 {
-    stage.map_err(|i| stored_at(part, core, i))
+    stage.map_err(|i| Refusal::Stored(part, core, i))
 }

@@ -49,9 +49,9 @@ pub fn reading(v: Result<(), answers::Refusal>) -> Told {
     match v {
         Ok(()) => checked(0, 0),
         Err(q) => Told {
-            number: answers::number(q) as usize,
-            place: answers::place(q),
-            index: answers::index(q),
+            number: q.number() as usize,
+            place: q.place(),
+            index: q.index(),
         },
     }
 }
@@ -125,7 +125,7 @@ fn ending(ran: runform::Ran, scratch: &[f64; SCRATCH], n: usize) -> Ended {
     let v = ran.verdict;
     let mut left = 0.0;
     if let Err(q) = v {
-        if answers::before_work(q) {
+        if q.before_work() {
             left = MARK;
         }
     }

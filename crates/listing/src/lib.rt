@@ -102,8 +102,8 @@ fn put_refusal(r: answers::Refusal, text: &mut [u8]) -> usize
     requires { 53 ≤ length text.old }
     ensures { Put 53 0 (refused_text r) text.old text.new result }
 {
-    let number = answers::number(r) as usize;
-    let place = answers::place(r);
+    let number = r.number() as usize;
+    let place = r.place();
     let a = put_word(b"refused ", text, 0);
     let b = put_digits(number, text, a);
     let c = put_word(b" at ", text, b);

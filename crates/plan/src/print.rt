@@ -57,10 +57,10 @@ pub fn figure(rt: &impl Print, x: f64) -> Result<()> {
 
 // A refusal by its number, its place, the index inside what was being stored, and the words of the table.
 pub fn refusal(rt: &impl Print, q: answers::Refusal) -> Result<()> {
-    let n = answers::number(q);
+    let n = q.number();
     number(rt, n as usize)?;
     say(rt, b" at ")?;
-    number(rt, answers::place(q))?;
+    number(rt, q.place())?;
     if let answers::Refusal::Stored(_, _, i) = q {
         say(rt, b", index ")?;
         number(rt, i)?;

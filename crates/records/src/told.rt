@@ -69,9 +69,9 @@ fn refused_as(q: answers::Refusal) -> CRefusal
     ensures { result ≡ refusal_of (Err q) }
 {
     CRefusal {
-        number: answers::number(q),
-        place: answers::place(q),
-        index: answers::index(q),
+        number: q.number(),
+        place: q.place(),
+        index: q.index(),
     }
 }
 

@@ -104,9 +104,9 @@ pub fn verdict(input: Stdin, v: Result<(), answers::Refusal>) -> bool {
     let index = word(input);
     match v {
         Ok(()) => (number == 0) & (place == 0) & (index == 0),
-        Err(r) => (number == answers::number(r) as usize)
-            & (place == answers::place(r))
-            & (index == answers::index(r)),
+        Err(r) => (number == r.number() as usize)
+            & (place == r.place())
+            & (index == r.index()),
     }
 }
 
