@@ -1,4 +1,4 @@
--- Laws of `first`, in the form that `search` applies. Assumes nothing.
+-- Laws of `first`, turn by turn. Assumes nothing.
 use Prim.Native.Nat.{ℕ, suc, ◌+◌, ◌-◌, ◌<◌, ◌≤◌}
 use native.Mathlib.Nat.{sub-zero}
 use native.Mathlib.Numerals.{add-one}
@@ -30,5 +30,3 @@ module _ (p : ℕ → Bool) (n : ℕ) where
   first_done i e h l =
       let z : n - i ≡ 0 = omega arith in
       rw (e, z)
-
-pub ruleset firsts = (clear_none, clear_more, first_here, first_done)

@@ -1,11 +1,11 @@
--- A list that is overwritten from the front by another of its length, by one value or by a table: `over_to i s d` after i turns; and by lists of one length, one after another. Assumes nothing.
+-- A list that is overwritten from the front by another of its length or by a table: `over_to i s d` after i turns; and by lists of one length, one after another. Assumes nothing.
 use Prim.Native.Nat.{ℕ, zero, suc, ◌+◌, ◌-◌, ◌*◌, ◌≤◌, ◌<◌}
 use mathlib.Core.Path.{◌≡◌, refl, sym, ap, ◌∙◌}
 use mathlib.Core.List.{List, [], ◌∷◌, ◌++◌, map, append-nil, append_assoc}
 use native.Mathlib.Nat.{not-suc-le-zero, le_of_suc-le-suc, le_antisymm, le_of_eq, add-zero, zero-mul, add-mul}
 use native.Mathlib.Numerals.{add-one}
 use native.Mathlib.Omega.{arith}
-use lib.ListN.{length, get_or, set, take, drop, replicate, length-append, length-drop, drop_of_length-le, length-replicate, get_or-replicate, length-map, get_or-map}
+use lib.ListN.{length, get_or, set, take, drop, length-append, length-drop, drop_of_length-le, length-map, get_or-map}
 use lib.Seq.{take_all, take_at, drop_at, drop-drop, length-take-le, get_or-append-add, get_or-drop}
 use Rattle.lists.specs.Lists.{tab, joined}
 use Rattle.lists.proofs.Tables.{length_tab, get_or_tab_lem, joined_none, joined_more, length_joined}
@@ -35,18 +35,7 @@ module _ {A : Type 0} where
   pub length_over : (i : ℕ) (s d : List A) → length s ≡ length d → i ≤ length s → length (over_to i s d) ≡ length d
   length_over i s d e l = rw (length-append, length-take-le i s l, length-drop) (omega arith)
 
-  -- the same where it is overwritten by one value
-  module _ (v : A) (d : List A) where
-    abbrev all : List A
-    all = replicate (length d) v
-
-    pub fills_more : (i : ℕ) → i < length d → set (over_to i all d) i v ≡ over_to (i + 1) all d
-    fills_more i l = ap (set (over_to i all d) i) (sym (get_or-replicate (length d) i v v l)) ∙ over_more i all d v (length-replicate (length d) v) (rw length-replicate l)
-
-    pub fills_all : (i : ℕ) → length d ≤ i → over_to i all d ≡ all
-    fills_all i l = over_all i all d (length-replicate (length d) v) (rw length-replicate l)
-
-  -- and where it is overwritten by a table, in the form that `search` applies
+  -- the same where it is overwritten by a table, in the form that `search` applies
   module _ (f : ℕ → A) (d : List A) where
     abbrev pub tab_over : ℕ → List A
     tab_over i = over_to i (tab (length d) f) d

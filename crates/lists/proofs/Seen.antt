@@ -1,8 +1,8 @@
 -- What a loop over numbers has seen, by what is left of it. Assumes nothing.
-use mathlib.Core.Path.{◌≡◌, refl, sym, ap, ◌∙◌}
+use mathlib.Core.Path.{◌≡◌, refl, sym, ◌∙◌}
 use Prim.Native.Nat.{ℕ, suc, ◌+◌, ◌<◌, ◌≤◌}
 use native.Mathlib.Numerals.{add-one}
-use mathlib.Core.Bool.{Bool, true, false, not, ◌&&◌}
+use mathlib.Core.Bool.{Bool, true, false, ◌&&◌}
 use mathlib.Core.List.{List}
 use lib.ListN.{length, get_or, drop, drop_of_length-le}
 use lib.Seq.{drop-cons}
@@ -11,8 +11,7 @@ use Rattle.std.specs.Prelude.{Ok, Err}
 use Rattle.answers.specs.Outcome.{stage_of}
 use Rattle.numbers.specs.Finite.{finite}
 use Rattle.lists.specs.Lists.{pick}
-use Rattle.lists.specs.Floats.{at, all_finite, first_not_finite, stored}
-use Rattle.lists.proofs.Firsts.{Clear, clear_none, clear_more, first_here, first_done}
+use Rattle.lists.specs.Floats.{all_finite, first_not_finite, stored}
 
 -- ---- a flag kept to the end
 and_assoc : (a b c : Bool) → a && (b && c) ≡ (a && b) && c
@@ -41,29 +40,7 @@ module _ (s : List Float) where
 
 pub ruleset flags = (flag_none, flag_more, flag_done)
 
--- ---- the first that isn't finite
-module _ (s : List Float) where
-  -- none of the first i
-  abbrev pub Sound : ℕ → Type 0
-  Sound i = Clear (λ (j : ℕ). not (finite (at s j))) (length s) i
-
-  pub sound_none : Sound 0
-  sound_none = clear_none (λ (j : ℕ). not (finite (at s j))) (length s)
-
-  pub sound_more : (i : ℕ) (r : Bool) → Sound i → i < length s → r ≡ finite (get_or s i nan) → not r ≡ false → Sound (i + 1)
-  sound_more i r e l d h = clear_more (λ (j : ℕ). not (finite (at s j))) (length s) i false e l (sym (ap not (sym d) ∙ h)) refl
-
-  pub sound_here : (i : ℕ) (r : Bool) → Sound i → i < length s → r ≡ finite (get_or s i nan) → not r ≡ true → i ≡ first_not_finite s
-  unfolding first_not_finite
-  sound_here i r e l d h = first_here (λ (j : ℕ). not (finite (at s j))) (length s) i true e l (sym (ap not (sym d) ∙ h)) refl
-
-  pub sound_done : (i : ℕ) → Sound i → i ≤ length s → length s ≤ i → i ≡ first_not_finite s
-  unfolding first_not_finite
-  sound_done i e h l = first_done (λ (j : ℕ). not (finite (at s j))) (length s) i e h l
-
-pub ruleset sounds = (sound_none, sound_more, sound_here, sound_done)
-
--- ---- both together
+-- ---- whether the numbers can stay stored
 pub stage_whole : (s : List Float) (b : Bool) → b ≡ all_finite s → b ≡ true → Ok tt ≡ stage_of (stored s)
 unfolding stored pick
 stage_whole s b e h = let f : all_finite s ≡ true = sym e ∙ h in rw f

@@ -314,12 +314,11 @@ module _ {A : Type 0} (size : ℕ → ℕ) where
         ∙ take_at (get_or xs k []) (replicate (size k) o) (size k) (fits k lt)
 
 -- what is filled with o and then written over at its front is fitted
-pub filled_front : {A : Type 0} (o : A) (e n : ℕ) (x y u : List A) → e ≤ length x → e ≤ n → u ≡ replicate n o → y ≡ take (e - 0) x → y ++ drop (e - 0) u ≡ fit o n (take e x)
+pub filled_front : {A : Type 0} (o : A) (e n : ℕ) (x y u : List A) → e ≤ length x → e ≤ n → u ≡ replicate n o → y ≡ take e x → y ++ drop e u ≡ fit o n (take e x)
 filled_front {A} o e n x y u h g eu ey =
-    let z : e - 0 ≡ e = omega arith in
     let long : length (take e x) ≡ e = length-take-le e x h in
     let d : drop e (replicate n o) ≡ replicate (n - length (take e x)) o = rw long dropped in
-    rw (ey, eu, z, d) (sym (fit_whole o n (take e x) (omega arith)))
+    rw (ey, eu, d) (sym (fit_whole o n (take e x) (omega arith)))
   where
     dropped : drop e (replicate n o) ≡ replicate (n - e) o
     dropped =

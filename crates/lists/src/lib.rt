@@ -1,10 +1,11 @@
 // Lists of numbers in lent slices: fill, copy, and the search for a number that isn't finite.
 #![tactic(auto)]
 
-ghost use Rattle.std.specs.Prelude.{◌≡◌, true, ℕ, ◌+◌, ◌*◌, ◌≤◌, ◌<◌, length, take, replicate};
+ghost use Rattle.std.specs.Prelude.{◌≡◌, true, Bool, ℕ, ◌+◌, ◌*◌, ◌≤◌, ◌<◌, length, take, replicate};
 ghost use Rattle.numbers.specs.Finite.{finite};
 ghost use Rattle.numbers.specs.Arithmetic.{zero64};
 ghost use Rattle.answers.specs.Outcome.{stage_of};
+ghost use Rattle.lists.specs.Lists.{first_not};
 ghost use Rattle.lists.specs.Floats.{at, sum_to, all_finite, first_not_finite, stored};
 ghost use Rattle.lists.specs.Slots.{fit};
 ghost use Rattle.lists.specs.Strips.{strip_width, stored_from};
@@ -13,11 +14,7 @@ ghost use Rattle.lists.specs.Strips.{strip_width, stored_from};
 pub fn fill(s: &mut [f64], v: f64)
     ensures { s.new ≡ replicate (length s.old) v }
 {
-    let mut i = 0;
-    while i < s.len() {
-        s[i] = v;
-        i += 1;
-    }
+    s.fill(v);
 }
 
 // The numbers of s go to d, which is as long.
@@ -25,72 +22,43 @@ pub fn copy(s: &[f64], d: &mut [f64])
     requires { length s.now ≡ length d.old }
     ensures { d.new ≡ s.now }
 {
-    let mut i = 0;
-    while i < s.len() {
-        d[i] = s[i];
-        i += 1;
-    }
+    d.copy_from_slice(s);
 }
 
 // The first n numbers of s stand at the front of d, +0 behind them.
+#[tactic(auto, using(crate::proofs::Slots::filled_front))]
 pub fn fit(s: &[f64], n: usize, d: &mut [f64])
     requires { (n ≤ length s.now) × (n ≤ length d.old) }
     ensures { d.new ≡ fit zero64 (length d.old) (take n s.now) }
 {
     fill(d, 0.0);
-    copy(&s[0..n], &mut d[0..n]);
-}
-
-// Eight sums.
-#[derive(Clone, Copy)]
-struct Eight {
-    a: f64,
-    b: f64,
-    c: f64,
-    d: f64,
-    e: f64,
-    f: f64,
-    g: f64,
-    h: f64,
+    copy(&s[..n], &mut d[..n]);
 }
 
 // The sums of every eighth of the first 8 k numbers, from each of the first eight on: the eight wait for nothing, and are compiled as four pairs.
-fn eight_sums(s: &[f64], k: usize) -> Eight
+fn eight_sums(s: &[f64], k: usize) -> [f64; 8]
     requires { k * 8 ≤ length s.now }
-    ensures { (result.a ≡ sum_to k (λ (i : ℕ). at s.now (i * 8))) × (result.b ≡ sum_to k (λ (i : ℕ). at s.now (i * 8 + 1)))
-        × (result.c ≡ sum_to k (λ (i : ℕ). at s.now (i * 8 + 2))) × (result.d ≡ sum_to k (λ (i : ℕ). at s.now (i * 8 + 3)))
-        × (result.e ≡ sum_to k (λ (i : ℕ). at s.now (i * 8 + 4))) × (result.f ≡ sum_to k (λ (i : ℕ). at s.now (i * 8 + 5)))
-        × (result.g ≡ sum_to k (λ (i : ℕ). at s.now (i * 8 + 6))) × (result.h ≡ sum_to k (λ (i : ℕ). at s.now (i * 8 + 7))) }
+    ensures { (length result ≡ 8) × ((c : ℕ) → c < 8 → at result c ≡ sum_to k (λ (i : ℕ). at s.now (i * 8 + c))) }
 {
-    let mut a = 0.0;
-    let mut b = 0.0;
-    let mut c = 0.0;
-    let mut d = 0.0;
-    let mut e = 0.0;
-    let mut f = 0.0;
-    let mut g = 0.0;
-    let mut h = 0.0;
+    let mut sums = [0.0; 8];
     for j in 0..k {
-        let i = j * 8;
-        a = a + s[i];
-        b = b + s[i + 1];
-        c = c + s[i + 2];
-        d = d + s[i + 3];
-        e = e + s[i + 4];
-        f = f + s[i + 5];
-        g = g + s[i + 6];
-        h = h + s[i + 7];
+        for c in 0..8 {
+            sums[c] = sums[c] + s[j * 8 + c];
+        }
     }
-    Eight {
-        a,
-        b,
-        c,
-        d,
-        e,
-        f,
-        g,
-        h,
+    sums
+}
+
+// Whether all are finite, by a look at each: a flag kept to the end costs a third of what an early return does.
+fn each_finite(s: &[f64]) -> bool
+    ensures { result ≡ all_finite s.now }
+{
+    let mut all = true;
+    for x in s {
+        let one = numbers::is_finite(*x);
+        all = all & one;
     }
+    all
 }
 
 // Below this many numbers, a look at each costs less than eight sums.
@@ -104,50 +72,42 @@ fn settled(s: &[f64]) -> usize
         return 0;
     }
     let k = s.len() / 8;
-    let t = eight_sums(s, k);
-    let aa = numbers::is_finite(t.a);
-    let bb = numbers::is_finite(t.b);
-    let cc = numbers::is_finite(t.c);
-    let dd = numbers::is_finite(t.d);
-    let ee = numbers::is_finite(t.e);
-    let ff = numbers::is_finite(t.f);
-    let gg = numbers::is_finite(t.g);
-    let hh = numbers::is_finite(t.h);
-    if aa & bb & cc & dd & ee & ff & gg & hh {
+    let sums = eight_sums(s, k);
+    if each_finite(&sums) {
         return k * 8;
     }
     0
 }
 
-// Whether all are finite: a flag kept to the end costs a third of what an early return does, and is kept only behind those that are settled.
+// Whether all are finite: only those that their sums don't settle are looked at one by one.
 pub fn all_finite(s: &[f64]) -> bool
     ensures { result ≡ all_finite s.now }
 {
-    let mut all = true;
-    let mut i = settled(s);
-    while i < s.len() {
-        let one = numbers::is_finite(s[i]);
-        all = all & one;
-        i += 1;
+    each_finite(&s[settled(s)..])
+}
+
+// The first k below n at which `passes` answers false, or n: that of any test q that the answers tell.
+pub fn first_not<F: Fn(usize) -> bool>(n: usize, passes: F) -> usize
+    requires { (k : ℕ) → k < n → F.pre passes k }
+    ensures { (q : ℕ → Bool) → ((k : ℕ) (r : Bool) → k < n → F.post passes k r → r ≡ q k) → result ≡ first_not q n }
+{
+    for k in 0..n {
+        if !passes(k) {
+            return k;
+        }
     }
-    all
+    n
 }
 
 // The index of the first number that isn't finite, or the length.
 pub fn first_not_finite(s: &[f64]) -> usize
     ensures { result ≡ first_not_finite s.now }
 {
-    let mut i = 0;
-    while i < s.len() {
-        if !numbers::is_finite(s[i]) {
-            return i;
-        }
-        i += 1;
-    }
-    i
+    first_not(s.len(), |i| numbers::is_finite(s[i]))
 }
 
 // Whether the numbers can stay stored; the index is looked for only once there is one.
+#[tactic(auto, using(crate::proofs::Seen::stages))]
 pub fn stored(s: &[f64]) -> Result<(), usize>
     ensures { result ≡ stage_of (stored s.now) }
 {
@@ -161,6 +121,7 @@ pub fn stored(s: &[f64]) -> Result<(), usize>
 pub const STRIP: usize = 8;
 
 // The first h sums go to out, from e on.
+#[tactic(auto, using(crate::proofs::Turns::turns), unfolding(crate::specs::Strips::stored_from))]
 pub fn store_sums(sums: &[f64; STRIP], h: usize, out: &mut [f64], e: usize)
     requires { (h ≤ strip_width) × (e + h ≤ length out.old) }
     ensures { out.new ≡ stored_from e h (at sums.now) out.old }

@@ -1,18 +1,12 @@
--- `lists::eight_sums`: the invariant: each of the eight sums is that of the turns made.
-use Prim.Native.Nat.{ℕ, ◌+◌, ◌*◌, ◌-◌, ◌≤◌}
-use mathlib.Core.Path.{◌≡◌}
-use lib.Ieee.{Float}
-use Rattle.numbers.specs.Arithmetic.{plus}
-use Rattle.lists.specs.Lists.{iter}
+-- `lists::eight_sums`: the invariant: each of the eight sums is that of the turns made; within a turn, the first c have their term of it added.
+use Rattle.std.proofs.Common.{ℕ, ◌+◌, ◌*◌, ◌≡◌}
 use Rattle.lists.specs.Floats.{at}
+use Rattle.lists.specs.Strips.{added_in}
+use Rattle.lists.proofs.Eighths.{Eighths}
 use Rattle.lists.proofs.eight_sums.Given as goal
 
 abbrev pub invariant-loop-j : goal.invariant-loop-j
-invariant-loop-j l =
-    (l.j ≤ l.k) × (l.a ≡ iter l.j (λ (i : ℕ) (x : Float). plus x (at l.s (i * 8))) l.initial.a) × (l.b ≡ iter l.j (λ (i : ℕ) (x : Float). plus x (at l.s (i * 8 + 1))) l.initial.b) ×
-    (l.c ≡ iter l.j (λ (i : ℕ) (x : Float). plus x (at l.s (i * 8 + 2))) l.initial.c) × (l.d ≡ iter l.j (λ (i : ℕ) (x : Float). plus x (at l.s (i * 8 + 3))) l.initial.d) ×
-    (l.e ≡ iter l.j (λ (i : ℕ) (x : Float). plus x (at l.s (i * 8 + 4))) l.initial.e) × (l.f ≡ iter l.j (λ (i : ℕ) (x : Float). plus x (at l.s (i * 8 + 5))) l.initial.f) ×
-    (l.g ≡ iter l.j (λ (i : ℕ) (x : Float). plus x (at l.s (i * 8 + 6))) l.initial.g) × (l.h ≡ iter l.j (λ (i : ℕ) (x : Float). plus x (at l.s (i * 8 + 7))) l.initial.h)
+invariant-loop-j l = Eighths l.s l.j l.sums
 
-abbrev pub decreases-loop-j : goal.decreases-loop-j
-decreases-loop-j l = l.k - l.j
+abbrev pub invariant-loop-c : goal.invariant-loop-c
+invariant-loop-c l = l.sums ≡ added_in l.c (λ (c : ℕ). at l.s (l.j * 8 + c)) l.initial.sums
