@@ -1,14 +1,14 @@
--- `x - x` is zero exactly where x is finite, and what isn't finite stays so in a sum and a product. Assumes nothing.
-use mathlib.Core.Path.{◌≡◌, refl, sym, ap, ◌∙◌}
+-- A finite x less itself is zero, and what isn't finite stays so in a sum and a product. Assumes nothing.
+use mathlib.Core.Path.{◌≡◌, refl, ap, ◌∙◌}
 use Prim.Native.Nat.{ℕ, ◌*◌}
 use native.Mathlib.Nat.{sub_self, le_refl, mul-pos}
-use mathlib.Core.Bool.{Bool, true, false, not, beq, cond, true≢false}
-use borrow.Author.Tests.{le-ltb, not-true, not-false}
+use mathlib.Core.Bool.{Bool, true, false, beq, cond, true≢false}
+use borrow.Author.Tests.{le-ltb}
 use lib.Dec.{T, eqb}
 use lib.IntN.{ℤ, pos}
-use lib.Ieee.{Float, nan, inf, fin, binary64, up, down, unlike, neg, sum, add, sub, mul, eq, ne, of_bits}
+use lib.Ieee.{Float, nan, inf, fin, binary64, up, down, unlike, neg, sum, add, sub, mul}
 use lib.Ieee.Fits.{down_pos}
-use Rattle.numbers.specs.Arithmetic.{plus, minus, times, zero64}
+use Rattle.numbers.specs.Arithmetic.{plus, minus, times}
 use Rattle.numbers.specs.Finite.{finite}
 use Rattle.numbers.proofs.Values.{round_zero}
 use Rattle.numbers.proofs.Swaps.{plus_swap, times_swap}
@@ -23,25 +23,6 @@ pub minus_self : (x : Float) → T (finite x) → minus x x ≡ fin false 0 (pos
 minus_self nan h = absurd h
 minus_self (inf s) h = absurd h
 minus_self (fin s m e) h = less_itself s m e
-
--- ---- the test, as `==` and as `!=`
-pub finite_eq : (x : Float) → eq (minus x x) zero64 ≡ finite x
-unfolding sub add neg eq of_bits
-finite_eq nan = refl
-finite_eq (inf true) = refl
-finite_eq (inf false) = refl
-finite_eq (fin s m e) = rw (less_itself s m e)
-
-pub finite_ne : (x : Float) → ne (minus x x) zero64 ≡ not (finite x)
-unfolding ne
-finite_ne x = ap not (finite_eq x)
-
--- what a branch on `!=` tells
-pub not_finite : (x : Float) → ne (minus x x) zero64 ≡ true → finite x ≡ false
-not_finite x h = not-true (finite x) (sym (finite_ne x) ∙ h)
-
-pub is_finite : (x : Float) → ne (minus x x) zero64 ≡ false → finite x ≡ true
-is_finite x h = not-false (finite x) (sym (finite_ne x) ∙ h)
 
 -- ---- what isn't finite lasts
 one_of : (b s : Bool) → finite (cond b (inf s) nan) ≡ false

@@ -57,7 +57,7 @@ module _ (p q D : ℕ) (R : IsRoot p q) (Dp : 0 < D) where
   under_odd : (s : ℕ) → (q * q ≡ p → ⊥) → s ≤ q * D → s * s < p * (D * D)
   under_odd s n h = lt_of_le_of_lt (mul-le-mul h h) (lt_of_le_of_lt (le_of_eq (mul-mul-mul_comm q D q D)) (mul-lt-mul_of_pos_right (lib.Arith.lt_of_le-ne R.0 n) (mul-pos Dp Dp)))
 
-odd_square : (q p : ℕ) → q % 2 ≡ 1 → p % 2 ≡ 0 → q * q ≡ p → ⊥
+pub odd_square : (q p : ℕ) → q % 2 ≡ 1 → p % 2 ≡ 0 → q * q ≡ p → ⊥
 odd_square q p o z e =
     let h : q ≡ q / 2 * 2 + 1 = omega arith in
     let f : q * q ≡ 4 * (q / 2 * (q / 2)) + 4 * (q / 2) + 1 = ap (λ (x : ℕ). x * x) h ∙ sq_odd (q / 2) in

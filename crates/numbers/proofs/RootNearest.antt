@@ -20,7 +20,7 @@ use Rattle.numbers.proofs.WholeRoot.{IsRoot, whole_root_ok}
 use Rattle.numbers.proofs.RootPattern.{bounds, root_at}
 use Rattle.numbers.proofs.Midpoints.{Scaled, scaled, above, beneath, four_times}
 
-even_square : (M : ℕ) → M * 2 ^ 54 % 2 ≡ 0
+pub even_square : (M : ℕ) → M * 2 ^ 54 % 2 ≡ 0
 even_square M = omega arith
 
 positive_plain : (r : Float) → T (positive r) → T (plain r)
