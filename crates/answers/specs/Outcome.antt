@@ -65,6 +65,11 @@ unfoldable pub staged : {A : Type 0} → Stage → A → Made A
 staged (Ok _) a = Ok a
 staged (Err i) a = Err i
 
+-- the code's result o, with what f makes of its value
+unfoldable pub outcome_of : {E A B : Type 0} → Result B E → (B → A) → Result A E
+outcome_of (Ok b) f = Ok (f b)
+outcome_of (Err e) f = Err e
+
 -- the call's verdict on a stage that made this part for core k
 abbrev pub stored_in : Part → ℕ → Stage → Check
 stored_in part k s = verdict_of (making part k (staged s (tt {0})))

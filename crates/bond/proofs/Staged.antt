@@ -1,19 +1,20 @@
 -- A cut stage by stage, in the form that proofs of code cite. Assumes nothing.
 use mathlib.Core.Path.{◌≡◌, refl, sym, ap, ◌∙◌}
 use Prim.Native.Nat.{ℕ}
-use mathlib.Core.Bool.{Bool}
 use mathlib.Core.List.{List, ◌++◌}
 use lib.ListN.{length, take}
 use lib.Ieee.{Float}
 use Rattle.answers.specs.declared.Part.{Part}
 use Rattle.answers.specs.declared.Part.TheVariants.{Spectrum, Factor}
+use Rattle.answers.specs.declared.Refusal.{Refusal}
 use Rattle.answers.specs.declared.Refusal.TheVariants.{Stored}
-use Rattle.std.specs.Prelude.{Ok, Err}
-use Rattle.answers.specs.Outcome.{Made, Answer, bind, making, staged, stage_of, answered, Stage}
-use Rattle.answers.proofs.Outcomes.{bind_cong}
+use Rattle.std.specs.Prelude.{Ok, Err, Result}
+use Rattle.std.specs.Result.{MatchResult, IsErrAnd}
+use Rattle.answers.specs.Outcome.{Made, Answer, bind, making, staged, answered, outcome_of, stage_of, stored_in, Stage, Check}
+use Rattle.answers.proofs.Outcomes.{bind_cong, making_is, stored_answered}
 use Rattle.lists.specs.Floats.{stored}
 use Rattle.lists.proofs.Parts.{part_again}
-use Rattle.lists.proofs.Stages.{stored_staged, staged_on, staged_stop}
+use Rattle.lists.proofs.Stages.{stored_staged, staged_on}
 use Rattle.shape.specs.Cores.{Core, core_with}
 use Rattle.cutform.specs.declared.Cutting.{Cutting}
 use Rattle.cutform.specs.Sweeps.{eig, Swept, swept, diagonalized}
@@ -21,6 +22,7 @@ use Rattle.cutform.specs.Rotation.{eye}
 use Rattle.cutform.specs.Values.{singulars, order, sorted, kept_rank, dropped_from}
 use Rattle.cutform.specs.Bonds.{gram, CutCore, cut_bond}
 use Rattle.cutform.specs.Factors.{left_factor, carry_of}
+use Rattle.bond.specs.declared.sweeps.Sweeps.{Sweeps}
 use Rattle.bond.specs.Stages.{swept_of, rest_of}
 use Rattle.bond.specs.FactorRows.{Factors, factors_of}
 use Rattle.bond.specs.Chosen.{Chosen, chosen_of}
@@ -31,8 +33,9 @@ module _ (mode : ℕ) (c : Core) (g : List Float) (r : Stage) (eg : g ≡ gram c
   unfolding swept_of
   gram_opened = ap (λ (o : Made (List Float)). bind o (λ x. diagonalized mode c.rr (eig x (eye c.rr)))) (ap stored (sym eg) ∙ stored_staged g r er)
 
-  pub swept_stop : (i : ℕ) (w : Swept) → r ≡ Err i → swept_of mode c ≡ staged (Err i) w
-  swept_stop i w h = gram_opened ∙ staged_stop r g (λ x. diagonalized mode c.rr (eig x (eye c.rr))) i w h
+  pub swept_stop : (i : ℕ) → r ≡ Err i → swept_of mode c ≡ Err i
+  unfolding staged
+  swept_stop i h = gram_opened ∙ rw h
 
   pub swept_end : r ≡ Ok tt → (v : List Float) (o : Made Swept) → v ≡ eye c.rr → diagonalized mode c.rr (eig g v) ≡ o → swept_of mode c ≡ o
   swept_end h v o ev d =
@@ -80,34 +83,49 @@ module _ (k : ℕ) (cutting : Cutting) (c : Core) where
       ∙ two Spectrum k (stored (singulars c.rr w.eig.g)) (λ sv. Ok (chosen sv)) (last w)))
       ∙ two Spectrum k (stored (gram c)) (λ g. diagonalized cutting.mode c.rr (eig g (eye c.rr))) (rest_of k cutting c)
 
-  module _ (s : Stage) (w : Swept) (ew : swept_of cutting.mode c ≡ staged s w) where
-    pub cut_stop : (i : ℕ) (b : CutCore) → s ≡ Err i → cut_bond k cutting c ≡ answered (Err (Stored Spectrum k i)) b
-    unfolding staged answered
-    cut_stop i b h = cut_stages ∙ rw (ew, h)
+  -- u is the sweeps' answer as the call's, with f what it makes of its value
+  module _ {B : Type 0} (u : Answer B) (f : B → Swept) (e : making Spectrum k (swept_of cutting.mode c) ≡ outcome_of u f) where
+    pub cut_stop : (r : Refusal) → u ≡ Err r → cut_bond k cutting c ≡ Err r
+    unfolding outcome_of
+    cut_stop r h = cut_stages ∙ rw (e, h)
 
-    pub cut_on : s ≡ Ok tt → (o : Answer CutCore) → rest_of k cutting c w ≡ o → cut_bond k cutting c ≡ o
-    unfolding staged
-    cut_on h o e = cut_stages ∙ rw (ew, h) e
+    pub cut_on : (x : B) → u ≡ Ok x → (o : Answer CutCore) → rest_of k cutting c (f x) ≡ o → cut_bond k cutting c ≡ o
+    unfolding outcome_of
+    cut_on x h o d = cut_stages ∙ rw (e, h) d
 
-  -- ---- what follows the sweeps
-  module _ (w : Swept) (s : Stage) (q : Chosen) (eq : chosen_of cutting.eps c.rr w.eig.g ≡ staged s q) where
-    pub rest_first : (i : ℕ) (b : CutCore) → s ≡ Err i → rest_of k cutting c w ≡ answered (Err (Stored Spectrum k i)) b
-    unfolding rest_of staged answered
-    rest_first i b h = rw (eq, h)
+  -- ---- what follows the sweeps: u is the values' answer as the call's, v that of the factors
+  module _ (w : Swept) {B : Type 0} (u : Answer B) (f : B → Chosen) (e : making Spectrum k (chosen_of cutting.eps c.rr w.eig.g) ≡ outcome_of u f) where
+    pub rest_first : (r : Refusal) → u ≡ Err r → rest_of k cutting c w ≡ Err r
+    unfolding rest_of outcome_of
+    rest_first r h = rw (e, h)
 
-    module _ (h : s ≡ Ok tt) (t : Stage) (f : Factors) (ef : factors_of cutting.mode c q.rank q.values q.order w.eig.v ≡ staged t f) where
-      opened : rest_of k cutting c w ≡ bind (making Factor k (staged t f)) (made w q)
-      unfolding rest_of staged made
-      opened = rw (eq, h, ef)
+    module _ (x : B) (h : u ≡ Ok x) (t : Stage) (l : Factors) (el : factors_of cutting.mode c (f x).rank (f x).values (f x).order w.eig.v ≡ staged t l) (v : Check) (ev : v ≡ stored_in Factor k t) where
+      opened : rest_of k cutting c w ≡ bind (answered v l) (made w (f x))
+      unfolding rest_of made outcome_of
+      opened = rw (e, h, el, stored_answered Factor k t v l ev)
 
-      pub rest_second : (i : ℕ) (b : CutCore) → t ≡ Err i → rest_of k cutting c w ≡ answered (Err (Stored Factor k i)) b
-      unfolding staged answered
-      rest_second i b e = opened ∙ rw e
+      pub rest_second : (r : Refusal) → v ≡ Err r → rest_of k cutting c w ≡ Err r
+      unfolding answered
+      rest_second r d = opened ∙ rw d
 
-      pub rest_whole : t ≡ Ok tt → rest_of k cutting c w ≡ answered (Ok tt) (whole w q f)
-      unfolding staged answered made
-      rest_whole e = opened ∙ rw e
+      pub rest_whole : v ≡ Ok tt → rest_of k cutting c w ≡ Ok (whole w (f x) l)
+      unfolding answered made
+      rest_whole d = opened ∙ rw d
 
 -- the matrices stand at the front of slices of which parts were lent
-pub swept_front : (T : Made Swept) (m : ℕ) (s : Stage) (k : ℕ) (b : Bool) (g g' v v' : List Float) → T ≡ staged s (swept k b (eig g v)) → length g ≡ m → length v ≡ m → T ≡ staged s (swept k b (eig (take m (g ++ g')) (take m (v ++ v'))))
-swept_front T m s k b g g' v v' e l n = e ∙ rw (part_again m g g' l, part_again m v v' n)
+pub swept_front : (T : Made Swept) (m : ℕ) (o : Result Sweeps ℕ) (g g' v v' : List Float) → T ≡ outcome_of o (λ (s : Sweeps). swept s.count s.settles (eig g v)) → length g ≡ m → length v ≡ m
+    → T ≡ outcome_of o (λ (s : Sweeps). swept s.count s.settles (eig (take m (g ++ g')) (take m (v ++ v'))))
+swept_front T m o g g' v v' e l n = e ∙ rw (part_again m g g' l, part_again m v v' n)
+
+-- ---- a stage's answer o told as the call's, which is u
+pub mapped : {A B : Type 0} (part : Part) (k : ℕ) (P : ℕ → Refusal → Type 0) → ((i : ℕ) (r : Refusal) → P i r → r ≡ Stored part k i) → (o : Made B) (u : Answer B)
+    → MatchResult o (λ x. u ≡ Ok x) (λ i. IsErrAnd u (P i)) → (T : Made A) (f : B → A) → T ≡ outcome_of o f → making part k T ≡ outcome_of u f
+unfolding outcome_of
+mapped part k P h (Ok x) u m T f e = rw (e, m)
+mapped part k P h (Err i) (Ok y) m T f e = absurd m
+mapped part k P h (Err i) (Err r) m T f e = rw (e, h i r m)
+
+-- where it has a value, so has the stage
+pub mapped_ok : {A B : Type 0} (part : Part) (k : ℕ) (u : Answer B) (T : Made A) (f : B → A) → making part k T ≡ outcome_of u f → (x : B) → u ≡ Ok x → T ≡ Ok (f x)
+unfolding outcome_of
+mapped_ok part k u T f e x h = making_is part k T (f x) (e ∙ rw h)

@@ -2,7 +2,7 @@
 use Prim.Native.Nat.{ℕ, zero, suc, ◌+◌, ◌*◌, ◌<◌, ◌≤◌}
 use native.Mathlib.Nat.{mul-le-mul_right, suc-mul, add_assoc, le_antisymm}
 use native.Mathlib.Omega.{arith}
-use mathlib.Core.Path.{◌≡◌, refl, ◌∙◌}
+use mathlib.Core.Path.{◌≡◌, refl, ap, ◌∙◌}
 use mathlib.Core.List.{List, ◌++◌}
 use lib.ListN.{length, drop, replicate, get_or-replicate}
 use lib.Ieee.{Float, nan}
@@ -11,7 +11,7 @@ use Rattle.lists.specs.Lists.{iter}
 use Rattle.lists.specs.Floats.{at, sum_on, sum_to}
 use Rattle.lists.specs.Strips.{strip_width, added_in, stored_from}
 use Rattle.lists.proofs.Tables.{iter_keeps}
-use Rattle.lists.proofs.Strips.{added_length, added_at, stored_same, rows_front}
+use Rattle.lists.proofs.Strips.{row_to, added_length, added_at, stored_same, rows_front}
 use Rattle.bond.specs.Products.{dot_at, product_of}
 
 -- ---- a strip
@@ -49,3 +49,7 @@ pub rows_done : (b : List Float) (d q : ℕ) (a : List Float) (w c r k : ℕ) (o
     → u ≡ product_of b d q a w c r ++ drop (r * w) o
 unfolding product_of
 rows_done b d q a w c r k o u e g h l = rows_front r w (λ (i j : ℕ). dot_at b (i * d) q a w c j) k o u e g h l
+
+-- the first j entries, by another name for their number
+pub row_met : (e : ℕ) (f : ℕ → Float) (j k : ℕ) (o u : List Float) → u ≡ row_to e f 0 j o → j ≡ k → u ≡ row_to e f 0 k o
+row_met e f j k o u d h = d ∙ ap (λ (i : ℕ). row_to e f 0 i o) h

@@ -49,8 +49,8 @@ module _ (T : Made Swept) (mode n hi c : ℕ) (b : Bool) (e : Eig) (d : T ≡ sw
     left : hi - c ≡ suc (hi - (c + 1))
     left = omega arith
 
-    pub sweeps_settled : b ≡ true → T ≡ staged (Ok tt) (swept c true e)
-    unfolding sweeps_from staged
+    pub sweeps_settled : b ≡ true → T ≡ Ok (swept c b e)
+    unfolding sweeps_from
     sweeps_settled h = d ∙ rw (left, h)
 
     module _ (h : b ≡ false) (r : Stage) (x : Eig) (s : sweep mode n e ≡ staged r x) where
@@ -58,25 +58,24 @@ module _ (T : Made Swept) (mode n hi c : ℕ) (b : Bool) (e : Eig) (d : T ≡ sw
       unfolding sweeps_from
       opened = d ∙ rw (left, h, s)
 
-      pub sweeps_stop : (i : ℕ) (w : Swept) → r ≡ Err i → T ≡ staged (Err i) w
+      pub sweeps_stop : (i : ℕ) → r ≡ Err i → T ≡ Err i
       unfolding staged
-      sweeps_stop i w t = opened ∙ rw t
+      sweeps_stop i t = opened ∙ rw t
 
       pub sweeps_more : r ≡ Ok tt → (q : Bool) → q ≡ settled mode n x.g → T ≡ sweeps_from (hi - (c + 1)) q mode n (c + 1) x
       unfolding staged
       sweeps_more t q f = opened ∙ rw (t, ← f, add-one)
 
-  pub sweeps_done : hi ≤ c → T ≡ staged (Ok tt) (swept c b e)
-  unfolding sweeps_from staged
-  sweeps_done l = let z : hi - c ≡ 0 = omega arith in d ∙ rw z
+  pub sweeps_done : c ≤ hi → hi ≤ c → T ≡ Ok (swept hi b e)
+  unfolding sweeps_from
+  sweeps_done k l = let z : hi - c ≡ 0 = omega arith in let y : c ≡ hi = omega arith in d ∙ rw (z, y)
 
 pub sweeps_start : (mode n : ℕ) (e : Eig) (b : Bool) → b ≡ settled mode n e.g → diagonalized mode n e ≡ sweeps_from (most_sweeps - 0) b mode n 0 e
 unfolding diagonalized
 sweeps_start mode n e b h = rw (← h)
 
 pub sweeps_idle : (T : Made Swept) (mode n hi c : ℕ) (b r : Bool) (g v : List Float) → T ≡ sweeps_from (hi - c) b mode n c (eig g v) → c < hi → b ≡ settled mode n g → b ≡ false
-    → r ≡ still mode n g → r ≡ true → T ≡ staged (Ok tt) (swept hi false (eig g v))
-unfolding staged
+    → r ≡ still mode n g → r ≡ true → T ≡ Ok (swept hi b (eig g v))
 sweeps_idle T mode n hi c b r g v d l eb h er t =
     let z : c + (hi - c) ≡ hi = omega arith in
     d ∙ rw h (idle_sweeps (hi - c) mode n c (eig g v) (idle_sweep mode n g v (sym er ∙ t)) (sym eb ∙ h) ∙ rw z)

@@ -152,10 +152,7 @@ pub fn left_and_carry(
         ≡ staged result (record { left = take (rl * n * r) core.new; carry = carry.new }) }
 {
     gather(v, rr, js, r, columns);
-    let made = left_factor(mode, core, rl * n, rr, columns, r, ss, room);
-    if let Err(i) = made {
-        return Err(i);
-    }
+    left_factor(mode, core, rl * n, rr, columns, r, ss, room)?;
     carry_rows(columns, rr, r, ss, carry);
     lists::stored(carry)
 }

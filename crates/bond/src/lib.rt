@@ -6,13 +6,14 @@ pub mod strips;
 pub mod sweeps;
 pub mod values;
 
-ghost use Rattle.std.specs.Prelude.{◌≡◌, ◌++◌, ◌*◌, ◌≤◌, length, take, drop, Ok, Err};
-ghost use Rattle.answers.specs.declared.Refusal.TheVariants.{Stored};
-ghost use Rattle.answers.specs.Outcome.{staged, answered};
+ghost use Rattle.std.specs.Prelude.{◌≡◌, ◌++◌, ◌*◌, ◌≤◌, length, take, drop};
+ghost use Rattle.answers.specs.Outcome.{outcome_of};
 ghost use Rattle.shape.specs.Limits.{most_rank};
 ghost use Rattle.shape.specs.Cores.{core_with};
+ghost use Rattle.cutform.specs.declared.Bond.{Bond};
 ghost use Rattle.cutform.specs.Sweeps.{eig, swept};
 ghost use Rattle.cutform.specs.Bonds.{gram, no_bond, cut_bond, absorb};
+ghost use Rattle.bond.specs.declared.sweeps.Sweeps.{Sweeps};
 ghost use Rattle.bond.specs.Stages.{swept_of, rest_of, cut_into};
 
 // The Gram matrix of a core's rows.
@@ -32,16 +33,13 @@ fn swept_gram(
     rr: usize,
     g: &mut [f64],
     v: &mut [f64],
-) -> sweeps::Sweeps
+) -> Result<sweeps::Sweeps, usize>
     requires { (length core.now ≡ rl * n * rr) × (1 ≤ rl) × (1 ≤ n) × (1 ≤ rr) × (length g.old ≡ rr * rr) × (length v.old ≡ rr * rr) }
     ensures { swept_of mode (core_with rl n rr core.now)
-        ≡ staged result.stage (swept result.count result.settles (eig g.new v.new)) }
+        ≡ outcome_of result (λ (s : Sweeps). swept s.count s.settles (eig g.new v.new)) }
 {
     gram(core, rl, n, rr, g);
-    let made = lists::stored(g);
-    if let Err(i) = made {
-        return sweeps::sweeps_are(Err(i), 0, false);
-    }
+    lists::stored(g)?;
     rotation::eye(v, rr);
     sweeps::diagonalize(mode, g, v, rr)
 }
@@ -55,20 +53,13 @@ fn swept_within(
     rr: usize,
     g: &mut [f64],
     v: &mut [f64],
-) -> sweeps::Sweeps
+) -> Result<sweeps::Sweeps, usize>
     requires { (length core.now ≡ rl * n * rr) × (1 ≤ rl) × (1 ≤ n) × (1 ≤ rr) × (rr * rr ≤ length g.old) × (rr * rr ≤ length v.old) }
     ensures { swept_of mode (core_with rl n rr core.now)
-        ≡ staged result.stage (swept result.count result.settles (eig (take (rr * rr) g.new) (take (rr * rr) v.new))) }
+        ≡ outcome_of result (λ (s : Sweeps). swept s.count s.settles (eig (take (rr * rr) g.new) (take (rr * rr) v.new))) }
 {
     let e = rr * rr;
     swept_gram(mode, core, rl, n, rr, &mut g[0..e], &mut v[0..e])
-}
-
-// What a cut came to, and where it fits what is said of its bond.
-#[derive(Clone, Copy)]
-pub struct BondCut {
-    pub verdict: Result<(), answers::Refusal>,
-    pub bond: cutform::Bond,
 }
 
 // What is said where no bond was cut.
@@ -83,29 +74,6 @@ pub fn no_bond() -> cutform::Bond
     }
 }
 
-fn cut_refused(part: answers::Part, k: usize, i: usize) -> BondCut
-    ensures { result ≡ record { verdict = Err (Stored part k i); bond = no_bond } }
-{
-    BondCut {
-        verdict: Err(answers::stored_at(part, k, i)),
-        bond: no_bond(),
-    }
-}
-
-fn cut_made(rank: usize, sweeps: usize, settled: bool, dropped: f64) -> BondCut
-    ensures { result ≡ record { verdict = Ok tt; bond = record { rank = rank; sweeps = sweeps; settled = settled; dropped = dropped } } }
-{
-    BondCut {
-        verdict: Ok(()),
-        bond: cutform::Bond {
-            rank,
-            sweeps,
-            settled,
-            dropped,
-        },
-    }
-}
-
 // What follows the sweeps: the values, and the left factor and the carry of those that are kept. g is room for the basis' columns.
 fn finish(
     core: &mut [f64],
@@ -114,27 +82,25 @@ fn finish(
     n: usize,
     rr: usize,
     cutting: cutform::Cutting,
-    count: usize,
-    settles: bool,
+    sweeps: sweeps::Sweeps,
     v: &[f64],
     g: &mut [f64],
     carry: &mut [f64],
     room: &mut [f64],
-) -> BondCut
+) -> Result<cutform::Bond, answers::Refusal>
     requires { (length core.old ≡ rl * n * rr) × (1 ≤ rr) × (rr ≤ most_rank) × (rr * rr ≤ length v.now) × (rr * rr ≤ length g.old)
         × (rr * rr ≤ length carry.old) × (length core.old ≤ length room.old) }
     ensures { rest_of k cutting (core_with rl n rr core.old)
-        (swept count settles (eig (take (rr * rr) g.old) (take (rr * rr) v.now)))
-        ≡ answered result.verdict (cut_into rl n rr result.bond core.new carry.new) }
+        (swept sweeps.count sweeps.settles (eig (take (rr * rr) g.old) (take (rr * rr) v.now)))
+        ≡ outcome_of result (λ (b : Bond). cut_into rl n rr b core.new carry.new) }
 {
     let mut ss = [0.0; shape::MOST_RANK];
     let mut js = [0; shape::MOST_RANK];
-    let kept = values::keep(g, rr, cutting.eps, &mut ss, &mut js);
-    let stage = kept.stage;
-    if let Err(i) = stage {
-        return cut_refused(answers::Part::Spectrum, k, i);
-    }
-    let r = kept.rank;
+    let kept = values::keep(g, rr, cutting.eps, &mut ss, &mut js).map_err(|i| answers::stored_at(
+        answers::Part::Spectrum,
+        k,
+        i,
+    ))?;
     let made = factors::factor(
         cutting.mode,
         core,
@@ -144,15 +110,18 @@ fn finish(
         v,
         &js,
         &ss,
-        r,
+        kept.rank,
         g,
         carry,
         room,
     );
-    if let Err(i) = made {
-        return cut_refused(answers::Part::Factor, k, i);
-    }
-    cut_made(r, count, settles, kept.dropped)
+    answers::stored_in(made, answers::Part::Factor, k)?;
+    Ok(cutform::Bond {
+        rank: kept.rank,
+        sweeps: sweeps.count,
+        settled: sweeps.settles,
+        dropped: kept.dropped,
+    })
 }
 
 // The cut, with room for two matrices.
@@ -167,20 +136,18 @@ fn cut(
     room: &mut [f64],
     g: &mut [f64],
     v: &mut [f64],
-) -> BondCut
+) -> Result<cutform::Bond, answers::Refusal>
     requires { (length core.old ≡ rl * n * rr) × (1 ≤ rl) × (1 ≤ n) × (1 ≤ rr) × (rr ≤ most_rank) × (rr * rr ≤ length g.old)
         × (rr * rr ≤ length v.old) × (rr * rr ≤ length carry.old) × (length core.old ≤ length room.old) }
     ensures { cut_bond k cutting (core_with rl n rr core.old)
-        ≡ answered result.verdict (cut_into rl n rr result.bond core.new carry.new) }
+        ≡ outcome_of result (λ (b : Bond). cut_into rl n rr b core.new carry.new) }
 {
-    let s = swept_within(cutting.mode, core, rl, n, rr, g, v);
-    let stage = s.stage;
-    if let Err(i) = stage {
-        return cut_refused(answers::Part::Spectrum, k, i);
-    }
-    finish(
-        core, k, rl, n, rr, cutting, s.count, s.settles, v, g, carry, room,
-    )
+    let s = swept_within(cutting.mode, core, rl, n, rr, g, v).map_err(|i| answers::stored_at(
+        answers::Part::Spectrum,
+        k,
+        i,
+    ))?;
+    finish(core, k, rl, n, rr, cutting, s, v, g, carry, room)
 }
 
 // Cuts bond k: core, which is its left core, to the left factor, at the front of the slice, and the carry, at the front of its
@@ -194,11 +161,11 @@ pub fn cut_bond(
     cutting: cutform::Cutting,
     carry: &mut [f64],
     room: &mut [f64],
-) -> BondCut
+) -> Result<cutform::Bond, answers::Refusal>
     requires { (length core.old ≡ rl * n * rr) × (1 ≤ rl) × (1 ≤ n) × (1 ≤ rr) × (rr ≤ most_rank) × (rr * rr ≤ length carry.old)
         × (length core.old ≤ length room.old) }
     ensures { cut_bond k cutting (core_with rl n rr core.old)
-        ≡ answered result.verdict (cut_into rl n rr result.bond core.new carry.new) }
+        ≡ outcome_of result (λ (b : Bond). cut_into rl n rr b core.new carry.new) }
 {
     let mut g = [0.0; shape::MOST_RANK * shape::MOST_RANK];
     let mut v = [0.0; shape::MOST_RANK * shape::MOST_RANK];

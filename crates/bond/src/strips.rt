@@ -44,18 +44,16 @@ fn row(b: &[f64], p: usize, q: usize, a: &[f64], w: usize, c: usize, out: &mut [
     requires { (p + c * q < length b.now + q) × (c * w ≤ length a.now) × (e + w ≤ length out.old) }
     ensures { out.new ≡ stored_from e w (dot_at b.now p q a.now w c) out.old }
 {
-    let mut j = 0;
-    while j + lists::STRIP <= w {
+    let wide = w - w % lists::STRIP;
+    let even = w - w % 4;
+    for j in (0..wide).step_by(lists::STRIP) {
         strip(b, p, q, a, w, c, j, lists::STRIP, out, e + j);
-        j += lists::STRIP;
     }
-    while j + 4 <= w {
+    for j in (wide..even).step_by(4) {
         strip(b, p, q, a, w, c, j, 4, out, e + j);
-        j += 4;
     }
-    while j < w {
+    for j in even..w {
         strip(b, p, q, a, w, c, j, 1, out, e + j);
-        j += 1;
     }
 }
 

@@ -1,10 +1,11 @@
 // Jacobi sweeps over a Gram matrix and its basis, both n rows of n, with their count.
 ghost use Rattle.std.specs.Prelude.{◌≡◌, true, ◌+◌, ◌*◌, ◌<◌, length, set};
-ghost use Rattle.answers.specs.Outcome.{staged};
+ghost use Rattle.answers.specs.Outcome.{staged, outcome_of};
 ghost use Rattle.lists.specs.Floats.{cell};
 ghost use Rattle.cutform.specs.Rotation.{slope_of};
 ghost use Rattle.cutform.specs.Modes.{off_sum, diagonal_sum, small_beside, settled, skipped};
 ghost use Rattle.cutform.specs.Sweeps.{eig, turn_columns, turn_rows, cleared, turned, rotate, sweep, swept, diagonalized};
+ghost use Rattle.bond.specs.declared.sweeps.Sweeps.{Sweeps};
 ghost use Rattle.bond.specs.SweepRows.{sweep_row, off_row, still_row, still};
 
 // The number at row i and column j.
@@ -70,10 +71,7 @@ fn apply_jacobi_rotation(
 {
     turn_gram(g, n, p, q, c, s);
     turn_columns(v, n, p, q, c, s);
-    let made = lists::stored(g);
-    if let Err(i) = made {
-        return Err(i);
-    }
+    lists::stored(g)?;
     lists::stored(v)
 }
 
@@ -136,10 +134,7 @@ fn sweep_row(mode: usize, g: &mut [f64], v: &mut [f64], n: usize, p: usize) -> R
     ensures { sweep_row mode n p (eig g.old v.old) ≡ staged result (eig g.new v.new) }
 {
     for q in p + 1..n {
-        let made = rotate(mode, g, v, n, p, q);
-        if let Err(i) = made {
-            return Err(i);
-        }
+        rotate(mode, g, v, n, p, q)?;
     }
     Ok(())
 }
@@ -149,10 +144,7 @@ pub fn jacobi_sweep(mode: usize, g: &mut [f64], v: &mut [f64], n: usize) -> Resu
     ensures { sweep mode n (eig g.old v.old) ≡ staged result (eig g.new v.new) }
 {
     for p in 0..n {
-        let made = sweep_row(mode, g, v, n, p);
-        if let Err(i) = made {
-            return Err(i);
-        }
+        sweep_row(mode, g, v, n, p)?;
     }
     Ok(())
 }
@@ -232,46 +224,36 @@ fn still(mode: usize, g: &[f64], n: usize) -> bool
 
 const MOST_SWEEPS: usize = 50;
 
-// What the sweeps came to: whether all numbers stayed finite, how many were made, and whether the matrix is settled at the end.
+// How many sweeps were made, and whether the matrix is settled at the end.
 #[derive(Clone, Copy)]
 pub struct Sweeps {
-    pub stage: Result<(), usize>,
     pub count: usize,
     pub settles: bool,
 }
 
-pub fn sweeps_are(stage: Result<(), usize>, count: usize, settles: bool) -> Sweeps
-    ensures { result ≡ record { stage = stage; count = count; settles = settles } }
-{
-    Sweeps {
-        stage,
-        count,
-        settles,
-    }
-}
-
 // Sweeps until the matrix is settled, at most 50. One that would turn nothing leaves all as it is, and so do those after it: they
 // are counted and not made.
-pub fn diagonalize(mode: usize, g: &mut [f64], v: &mut [f64], n: usize) -> Sweeps
+pub fn diagonalize(mode: usize, g: &mut [f64], v: &mut [f64], n: usize) -> Result<Sweeps, usize>
     requires { (length g.old ≡ n * n) × (length v.old ≡ n * n) }
     ensures { diagonalized mode n (eig g.old v.old)
-        ≡ staged result.stage (swept result.count result.settles (eig g.new v.new)) }
+        ≡ outcome_of result (λ (s : Sweeps). swept s.count s.settles (eig g.new v.new)) }
 {
-    let mut count: usize = 0;
     let mut settles = settled(mode, g, n);
-    while count < MOST_SWEEPS {
+    for count in 0..MOST_SWEEPS {
         if settles {
-            return sweeps_are(Ok(()), count, true);
+            return Ok(Sweeps { count, settles });
         }
         if still(mode, g, n) {
-            return sweeps_are(Ok(()), MOST_SWEEPS, false);
+            return Ok(Sweeps {
+                count: MOST_SWEEPS,
+                settles,
+            });
         }
-        let made = jacobi_sweep(mode, g, v, n);
-        if let Err(i) = made {
-            return sweeps_are(Err(i), count, false);
-        }
+        jacobi_sweep(mode, g, v, n)?;
         settles = settled(mode, g, n);
-        count += 1;
     }
-    sweeps_are(Ok(()), count, settles)
+    Ok(Sweeps {
+        count: MOST_SWEEPS,
+        settles,
+    })
 }

@@ -1,10 +1,11 @@
 // Singular values, their order, how many are kept, and the largest that is not.
-ghost use Rattle.std.specs.Prelude.{◌≡◌, true, cond, ℕ, ◌*◌, ◌<◌, ◌≤◌, length, take};
+ghost use Rattle.std.specs.Prelude.{◌≡◌, true, ℕ, ◌*◌, ◌<◌, ◌≤◌, length, take};
 ghost use Rattle.std.specs.Float.Ieee.{lt, eq};
-ghost use Rattle.answers.specs.Outcome.{staged};
+ghost use Rattle.answers.specs.Outcome.{outcome_of};
 ghost use Rattle.lists.specs.Lists.{count};
 ghost use Rattle.lists.specs.Floats.{at, all_finite};
 ghost use Rattle.shape.specs.Limits.{most_rank};
+ghost use Rattle.bond.specs.declared.values.Kept.{Kept};
 ghost use Rattle.bond.specs.Chosen.{chosen_of};
 ghost use Rattle.cutform.specs.Values.{singular_of, singulars, place_in, order, sorted, threshold_of, kept_rank, dropped_from};
 
@@ -27,25 +28,12 @@ pub fn singular_values(g: &[f64], n: usize, sv: &mut [f64])
     }
 }
 
-fn one_if(b: bool) -> usize
-    ensures { (result ≡ cond b 1 0) × (result ≤ 1) }
-{
-    if b {
-        return 1;
-    }
-    0
-}
-
 // How many of the first n lie above x.
 fn count_above(l: &[f64], n: usize, x: f64) -> usize
     requires { n ≤ length l.now }
     ensures { (result ≡ count (λ (j : ℕ). lt x (at l.now j)) n) × (result ≤ n) }
 {
-    let mut k = 0;
-    for j in 0..n {
-        k += one_if(x < l[j]);
-    }
-    k
+    l[..n].iter().filter(|y| x < **y).count()
 }
 
 // How many of the first n are equal to x.
@@ -53,11 +41,7 @@ fn count_equal(l: &[f64], n: usize, x: f64) -> usize
     requires { n ≤ length l.now }
     ensures { (result ≡ count (λ (j : ℕ). eq (at l.now j) x) n) × (result ≤ n) }
 {
-    let mut k = 0;
-    for j in 0..n {
-        k += one_if(l[j] == x);
-    }
-    k
+    l[..n].iter().filter(|y| **y == x).count()
 }
 
 // Where value i stands once they are sorted: after the larger ones, and the equal ones before it.
@@ -123,39 +107,35 @@ fn dropped(ss: &[f64], r: usize) -> f64
     0.0
 }
 
-// Whether all values are finite, how many are kept, and the largest that is not.
+// How many values are kept, and the largest that is not.
 #[derive(Clone, Copy)]
 pub struct Kept {
-    pub stage: Result<(), usize>,
     pub rank: usize,
     pub dropped: f64,
 }
 
-fn kept_are(stage: Result<(), usize>, rank: usize, dropped: f64) -> Kept
-    ensures { result ≡ record { stage = stage; rank = rank; dropped = dropped } }
-{
-    Kept {
-        stage,
-        rank,
-        dropped,
-    }
-}
-
 // The values, then their order, then the values in it.
-fn keep_all(g: &[f64], n: usize, eps: f64, sv: &mut [f64], ss: &mut [f64], js: &mut [usize]) -> Kept
+fn keep_all(
+    g: &[f64],
+    n: usize,
+    eps: f64,
+    sv: &mut [f64],
+    ss: &mut [f64],
+    js: &mut [usize],
+) -> Result<Kept, usize>
     requires { (length g.now ≡ n * n) × (1 ≤ n) × (length sv.old ≡ n) × (length ss.old ≡ n) × (length js.old ≡ n) }
     ensures { chosen_of eps n g.now
-        ≡ staged result.stage (record { rank = result.rank; dropped = result.dropped; order = js.new; values = ss.new }) }
+        ≡ outcome_of result (λ (k : Kept). record { rank = k.rank; dropped = k.dropped; order = js.new; values = ss.new }) }
 {
     singular_values(g, n, sv);
-    let made = lists::stored(sv);
-    if let Err(i) = made {
-        return kept_are(Err(i), 0, 0.0);
-    }
+    lists::stored(sv)?;
     order(sv, n, js);
     sorted(sv, n, js, ss);
     let rank = kept_rank(eps, n, ss);
-    kept_are(Ok(()), rank, dropped(ss, rank))
+    Ok(Kept {
+        rank,
+        dropped: dropped(ss, rank),
+    })
 }
 
 // The room in parts of just the size.
@@ -166,10 +146,10 @@ fn keep_within(
     sv: &mut [f64],
     ss: &mut [f64],
     js: &mut [usize],
-) -> Kept
+) -> Result<Kept, usize>
     requires { (n * n ≤ length g.now) × (1 ≤ n) × (n ≤ length sv.old) × (n ≤ length ss.old) × (n ≤ length js.old) }
     ensures { chosen_of eps n (take (n * n) g.now)
-        ≡ staged result.stage (record { rank = result.rank; dropped = result.dropped; order = take n js.new; values = take n ss.new }) }
+        ≡ outcome_of result (λ (k : Kept). record { rank = k.rank; dropped = k.dropped; order = take n js.new; values = take n ss.new }) }
 {
     let e = n * n;
     keep_all(
@@ -183,10 +163,10 @@ fn keep_within(
 }
 
 // Of the matrix at the front of g: its values, sorted, to the front of ss, their order to the front of js.
-pub fn keep(g: &[f64], n: usize, eps: f64, ss: &mut [f64], js: &mut [usize]) -> Kept
+pub fn keep(g: &[f64], n: usize, eps: f64, ss: &mut [f64], js: &mut [usize]) -> Result<Kept, usize>
     requires { (n * n ≤ length g.now) × (1 ≤ n) × (n ≤ most_rank) × (n ≤ length ss.old) × (n ≤ length js.old) }
     ensures { chosen_of eps n (take (n * n) g.now)
-        ≡ staged result.stage (record { rank = result.rank; dropped = result.dropped; order = take n js.new; values = take n ss.new }) }
+        ≡ outcome_of result (λ (k : Kept). record { rank = k.rank; dropped = k.dropped; order = take n js.new; values = take n ss.new }) }
 {
     let mut sv = [0.0; shape::MOST_RANK];
     keep_within(g, n, eps, &mut sv, ss, js)

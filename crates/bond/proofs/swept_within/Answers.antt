@@ -5,5 +5,5 @@ use Rattle.bond.proofs.Staged.{swept_front}
 use Rattle.bond.proofs.swept_within.Goals as goal
 
 pub returns : goal.returns
-returns c = swept_front _ _ _ _ _ _ _ _ _ c.swept_gram.ensures
+returns c = swept_front _ _ _ _ _ _ _ c.swept_gram.ensures
     (c.g-1.given.0 ∙ span_length _ _ c.requires.4) (c.v-1.given.0 ∙ span_length _ _ c.requires.5)

@@ -1,5 +1,5 @@
 -- `bond::sweeps::diagonal_sum`: the invariant: the sum has the first i squares (iter_more, iter_done).
-use Prim.Native.Nat.{ℕ, ◌-◌, ◌≤◌}
+use Prim.Native.Nat.{ℕ}
 use mathlib.Core.Path.{◌≡◌}
 use lib.Ieee.{Float}
 use Rattle.numbers.specs.Arithmetic.{plus, times}
@@ -8,7 +8,4 @@ use Rattle.lists.specs.Floats.{cell}
 use Rattle.bond.proofs.sweeps.diagonal_sum.Given as goal
 
 abbrev pub invariant-loop-i : goal.invariant-loop-i
-invariant-loop-i l = (l.i ≤ l.n) × (l.sum ≡ iter l.i (λ (j : ℕ) (x : Float). plus x (times (cell l.n l.g j j) (cell l.n l.g j j))) l.initial.sum)
-
-abbrev pub decreases-loop-i : goal.decreases-loop-i
-decreases-loop-i l = l.n - l.i
+invariant-loop-i l = l.sum ≡ iter l.i (λ (j : ℕ) (x : Float). plus x (times (cell l.n l.g j j) (cell l.n l.g j j))) l.initial.sum

@@ -1,43 +1,19 @@
-use Rattle.lists.proofs.Turns.{turns}
-use Rattle.lists.proofs.Stages.{stagings}
+use Rattle.std.proofs.lemmas.Result.{err_from_is_err_and}
+use Rattle.lists.proofs.Stages.{stage_more, stage_stop, stage_done}
 use Rattle.bond.proofs.Swept.{sweep_rows}
 use Rattle.bond.proofs.sweeps.jacobi_sweep.Goals as goal
 
 pub loop-p-init : goal.loop-p-init
-loop-p-init c = search (turns, sweep_rows)
+loop-p-init c = sweep_rows _ _ _
 
-pub sweep_row-made-requires : goal.sweep_row-made-requires
-sweep_row-made-requires c = search (turns, stagings)
-
-pub enum_known-made : goal.enum_known-made
-enum_known-made c = search (turns, stagings)
-
-pub shape_of-g-in-Err : goal.shape_of-g-in-Err
-shape_of-g-in-Err c = search (turns, stagings)
-
-pub shape_of-v-in-Err : goal.shape_of-v-in-Err
-shape_of-v-in-Err c = search (turns, stagings)
-
-pub returns-in-Err : goal.returns-in-Err
-returns-in-Err c = search (turns, stagings)
-
-pub enum_told-1 : goal.enum_told-1
-enum_told-1 c = search (turns, stagings)
-
-pub overflow_step-p : goal.overflow_step-p
-overflow_step-p c = search (turns, stagings)
-
-pub loop-p-smaller : goal.loop-p-smaller
-loop-p-smaller c = search (turns, stagings)
+pub returns-in_err-sweep_row : goal.returns-in_err-sweep_row
+returns-in_err-sweep_row c =
+    let p = err_from_is_err_and c.from_residual.result c.from_residual.ensures.1 in
+    rw (p.1, p.2)
+    (stage_stop _ _ _ _ _ c.loop-p.invariant c.loop-p-test.true _ _ c.sweep_row.ensures _ _ c.in_err-sweep_row.was)
 
 pub loop-p-preserved : goal.loop-p-preserved
-loop-p-preserved c = search (turns, stagings)
-
-pub shape_of-g : goal.shape_of-g
-shape_of-g c = search (turns, stagings)
-
-pub shape_of-v : goal.shape_of-v
-shape_of-v c = search (turns, stagings)
+loop-p-preserved c = stage_more _ _ _ _ _ c.loop-p.invariant c.loop-p-test.true _ _ c.sweep_row.ensures c.in_ok-sweep_row.was
 
 pub returns : goal.returns
-returns c = search (turns, stagings)
+returns c = stage_done _ _ _ _ _ c.loop-p.invariant c.loop-p-test.false

@@ -1,5 +1,5 @@
 -- `bond::sweeps::off_row`: the invariant: the sum has the entries before column q (from_more).
-use Prim.Native.Nat.{ℕ, ◌+◌, ◌-◌, ◌≤◌}
+use Prim.Native.Nat.{ℕ, ◌+◌}
 use mathlib.Core.Path.{◌≡◌}
 use lib.Ieee.{Float}
 use Rattle.numbers.specs.Arithmetic.{plus, times, two64}
@@ -8,7 +8,4 @@ use Rattle.lists.specs.Floats.{cell}
 use Rattle.bond.proofs.sweeps.off_row.Given as goal
 
 abbrev pub invariant-loop-q : goal.invariant-loop-q
-invariant-loop-q l = (l.q ≤ l.n) × (l.p + 1 ≤ l.q) × (l.sum ≡ iter_from (l.p + 1) l.q (λ (j : ℕ) (x : Float). plus x (times (times two64 (cell l.n l.g l.p j)) (cell l.n l.g l.p j))) l.initial.sum)
-
-abbrev pub decreases-loop-q : goal.decreases-loop-q
-decreases-loop-q l = l.n - l.q
+invariant-loop-q l = l.sum ≡ iter_from (l.p + 1) l.q (λ (j : ℕ) (x : Float). plus x (times (times two64 (cell l.n l.g l.p j)) (cell l.n l.g l.p j))) l.initial.sum

@@ -1,12 +1,8 @@
 -- `bond::sweeps::still`: the invariant: the flag says whether the first p rows are still, and after the last whether all are (still_rows).
-use Prim.Native.Nat.{◌-◌, ◌≤◌}
 use mathlib.Core.Path.{◌≡◌}
 use Rattle.lists.specs.Lists.{iter}
 use Rattle.bond.specs.SweepRows.{still_row}
 use Rattle.bond.proofs.sweeps.still.Given as goal
 
 abbrev pub invariant-loop-p : goal.invariant-loop-p
-invariant-loop-p l = (l.p ≤ l.n) × (l.every ≡ iter l.p (still_row l.mode l.n l.g) l.initial.every)
-
-abbrev pub decreases-loop-p : goal.decreases-loop-p
-decreases-loop-p l = l.n - l.p
+invariant-loop-p l = l.every ≡ iter l.p (still_row l.mode l.n l.g) l.initial.every

@@ -1,60 +1,21 @@
-use Rattle.lists.proofs.Turns.{turns}
+use Rattle.std.proofs.lemmas.Result.{err_from_is_err_and}
+use mathlib.Core.Path.{refl}
 use Rattle.bond.specs.SweepRows.{sweep_row}
-use Rattle.lists.proofs.Stages.{stagings}
+use Rattle.lists.proofs.Stages.{stage_more, stage_stop, stage_done}
 use Rattle.bond.proofs.sweeps.sweep_row.Goals as goal
-
-pub overflow_step-q : goal.overflow_step-q
-unfolding sweep_row
-overflow_step-q c = search (turns, stagings)
 
 pub loop-q-init : goal.loop-q-init
 unfolding sweep_row
-loop-q-init c = search (turns, stagings)
+loop-q-init c = refl
 
-pub rotate-made-requires : goal.rotate-made-requires
-unfolding sweep_row
-rotate-made-requires c = search (turns, stagings)
-
-pub enum_known-made : goal.enum_known-made
-unfolding sweep_row
-enum_known-made c = search (turns, stagings)
-
-pub shape_of-g-in-Err : goal.shape_of-g-in-Err
-unfolding sweep_row
-shape_of-g-in-Err c = search (turns, stagings)
-
-pub shape_of-v-in-Err : goal.shape_of-v-in-Err
-unfolding sweep_row
-shape_of-v-in-Err c = search (turns, stagings)
-
-pub returns-in-Err : goal.returns-in-Err
-unfolding sweep_row
-returns-in-Err c = search (turns, stagings)
-
-pub enum_told-1 : goal.enum_told-1
-unfolding sweep_row
-enum_told-1 c = search (turns, stagings)
-
-pub overflow_step-q-in-loop-q : goal.overflow_step-q-in-loop-q
-unfolding sweep_row
-overflow_step-q-in-loop-q c = search (turns, stagings)
-
-pub loop-q-smaller : goal.loop-q-smaller
-unfolding sweep_row
-loop-q-smaller c = search (turns, stagings)
+pub returns-in_err-rotate : goal.returns-in_err-rotate
+returns-in_err-rotate c =
+    let p = err_from_is_err_and c.from_residual.result c.from_residual.ensures.1 in
+    rw (p.1, p.2)
+    (stage_stop _ _ _ _ _ c.loop-q.invariant c.loop-q-test.true _ _ c.rotate.ensures _ _ c.in_err-rotate.was)
 
 pub loop-q-preserved : goal.loop-q-preserved
-unfolding sweep_row
-loop-q-preserved c = search (turns, stagings)
-
-pub shape_of-g : goal.shape_of-g
-unfolding sweep_row
-shape_of-g c = search (turns, stagings)
-
-pub shape_of-v : goal.shape_of-v
-unfolding sweep_row
-shape_of-v c = search (turns, stagings)
+loop-q-preserved c = stage_more _ _ _ _ _ c.loop-q.invariant c.loop-q-test.true _ _ c.rotate.ensures c.in_ok-rotate.was
 
 pub returns : goal.returns
-unfolding sweep_row
-returns c = search (turns, stagings)
+returns c = stage_done _ _ _ _ _ c.loop-q.invariant c.loop-q-test.false

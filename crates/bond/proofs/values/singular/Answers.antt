@@ -4,10 +4,6 @@ use Rattle.lists.proofs.Picks.{picks}
 use Rattle.cutform.specs.Values.{singular_of}
 use Rattle.bond.proofs.values.singular.Goals as goal
 
-pub root-requires : goal.root-requires
-unfolding singular_of
-root-requires c = search rules
-
 pub returns-then-x : goal.returns-then-x
 unfolding singular_of
 returns-then-x c = search (rules, picks)
