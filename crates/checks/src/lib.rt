@@ -11,6 +11,7 @@ ghost use Rattle.cutform.specs.Modes.{mode_ok};
 ghost use Rattle.cutform.specs.Asked.{lengths_ok, not_below_zero, cutting_finite, cutting_ok, round_finite, round_ok};
 
 // Scratch for a chain of this shape.
+#[tactic(auto, using(crate::proofs::Verdicts::scratch_laws))]
 pub fn scratch_of(s: shape::Shape) -> usize
     requires { SizesWithin s }
     ensures { result ≡ scratch_for (entries_of s) }
@@ -19,6 +20,7 @@ pub fn scratch_of(s: shape::Shape) -> usize
 }
 
 // Refusal 5: the chain is slice i, scratch slice j.
+#[tactic(auto, using(crate::proofs::Verdicts::scratch_laws, crate::proofs::Verdicts::in_a_row), unfolding(cutform::specs::Asked::lengths_ok))]
 pub fn lengths_ok(
     s: shape::Shape,
     i: usize,
@@ -39,6 +41,7 @@ pub fn lengths_ok(
     Ok(())
 }
 
+#[tactic(auto, unfolding(cutform::specs::Asked::not_below_zero))]
 pub fn not_below_zero(x: f64) -> bool
     ensures { result ≡ not_below_zero x }
 {
@@ -46,6 +49,7 @@ pub fn not_below_zero(x: f64) -> bool
 }
 
 // What 6 asks of how a cut is made.
+#[tactic(auto, unfolding(cutform::specs::Asked::cutting_finite))]
 pub fn cutting_finite(cutting: cutform::Cutting) -> bool
     ensures { result ≡ cutting_finite cutting }
 {
@@ -53,23 +57,23 @@ pub fn cutting_finite(cutting: cutform::Cutting) -> bool
 }
 
 // Whether a mode is known.
+#[tactic(auto, unfolding(cutform::specs::Modes::mode_ok))]
 fn mode_ok(mode: usize) -> bool
     ensures { result ≡ mode_ok mode }
 {
-    let absolute = mode == cutform::ABSOLUTE;
-    let scaled = mode == cutform::SCALED;
-    absolute | scaled
+    mode == cutform::ABSOLUTE || mode == cutform::SCALED
 }
 
 // What 7 asks of it.
+#[tactic(auto, unfolding(cutform::specs::Asked::cutting_ok))]
 pub fn cutting_ok(cutting: cutform::Cutting) -> bool
     ensures { result ≡ cutting_ok cutting }
 {
-    let eps = not_below_zero(cutting.eps);
-    eps & mode_ok(cutting.mode)
+    not_below_zero(cutting.eps) && mode_ok(cutting.mode)
 }
 
 // Refusal 6: how it is cut, then the first core with a number that isn't finite.
+#[tactic(auto, using(crate::proofs::Verdicts::in_a_row), unfolding(cutform::specs::Asked::round_finite, cutform::specs::Asked::core_finite))]
 fn round_finite(
     s: shape::Shape,
     cutting: cutform::Cutting,
@@ -79,18 +83,18 @@ fn round_finite(
     requires s_in_bounds { entries_of s ≤ length chain.now }
     ensures { result ≡ round_finite s cutting chain.now }
 {
-    let d = s.d;
     if !cutting_finite(cutting) {
         return Err(answers::Refusal::Number(0));
     }
     let core = s.first_not_finite_core(chain);
-    if core < d {
+    if core < s.d {
         return Err(answers::Refusal::Number(core));
     }
     Ok(())
 }
 
 // All that a rounding asks.
+#[tactic(auto, using(crate::proofs::Verdicts::in_a_row), unfolding(cutform::specs::Asked::round_ok))]
 pub fn round_ok(
     s: shape::Shape,
     cutting: cutform::Cutting,
@@ -99,18 +103,9 @@ pub fn round_ok(
 ) -> Result<(), answers::Refusal>
     ensures { result ≡ round_ok s cutting chain.now scratch }
 {
-    let shaped = s.check();
-    if let Err(r) = shaped {
-        return Err(r);
-    }
-    let lent = lengths_ok(s, 0, chain.len(), 1, scratch);
-    if let Err(r) = lent {
-        return Err(r);
-    }
-    let finite = round_finite(s, cutting, chain);
-    if let Err(r) = finite {
-        return Err(r);
-    }
+    s.check()?;
+    lengths_ok(s, 0, chain.len(), 1, scratch)?;
+    round_finite(s, cutting, chain)?;
     if !cutting_ok(cutting) {
         return Err(answers::Refusal::Setting(0));
     }
