@@ -1,15 +1,9 @@
--- `axes::gather`: a turn sets one more (filled_more), and after the last the list is the records' (filled_all).
-use Rattle.std.proofs.Common.{◌∙◌, ap, sym, arith}
-use Rattle.std.specs.Prelude.{set}
-use Rattle.axes.proofs.Gathered.{filled, filled_more, filled_all}
+-- `axes::gather`: each call gives the record of its number (made_tab).
+use borrow.Author.Rules.{rules}
+use Rattle.stepform.specs.Axes.{axis_at, blank, gathered}
+use Rattle.axes.proofs.Made.{made_tab}
 use Rattle.axes.proofs.gather.Goals as goal
 
-pub loop-k-preserved : goal.loop-k-preserved
-loop-k-preserved c = (
-  omega arith,
-  c.put-next.ensures ∙ ap (λ l. set l c.loop-k.k c.axis_at-x.result) c.loop-k.invariant.1
-      ∙ ap (set (filled c.args.xs.now c.loop-k.k) c.loop-k.k) c.axis_at-x.ensures ∙ sym (filled_more c.args.xs.now c.loop-k.k),
-)
-
 pub returns : goal.returns
-returns c = c.loop-k.invariant.1 ∙ filled_all c.args.xs.now c.loop-k.k c.loop-k.invariant.0 c.loop-k-test.false
+unfolding gathered
+returns c = made_tab _ _ (axis_at c.args.xs.now) blank (λ k y q w. search rules) _ _ c.from_fn.ensures.items
