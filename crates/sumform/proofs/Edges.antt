@@ -5,7 +5,7 @@ use Prim.Native.Nat.{ℕ}
 use lib.ListN.{replicate}
 use lib.Ieee.{Float, binary64, add, mul, of_bits, to_bits}
 use Rattle.std.specs.Prelude.{Ok}
-use Rattle.answers.specs.Outcome.{demand, demand_each, Check}
+use Rattle.answers.specs.Outcome.{Answer, bind, demand, demand_each}
 use Rattle.lists.specs.Lists.{pick, listed}
 use Rattle.lists.specs.Floats.{sum_on, sum_rows, all_finite, stored}
 use Rattle.lists.specs.Slots.{offset, slot}
@@ -34,15 +34,15 @@ abbrev two_points : Shape
 two_points = record { d = 1; left = 1 ∷ replicate 15 0; n = 2 ∷ replicate 15 0; right = 1 ∷ replicate 15 0 }
 
 -- what the call answers, the figure by its bits
-abbrev figure : List ℕ → List ℕ → Check × ℕ
-figure chain weights = let f = inner_call two_points (of chain) (of weights) in (f.verdict, to_bits binary64 f.value)
+abbrev figure : List ℕ → List ℕ → Answer ℕ
+figure chain weights = bind (inner_call two_points (of chain) (of weights)) (λ (x : Float). Ok (to_bits binary64 x))
 
 pub record Edges : Type 0 where
   -- one axis' sums, of two left and two right indices
   pub axis_signs : map (to_bits binary64) (contract (core_with 2 1 2 (of (replicate 4 minus_nought))) (of (one ∷ [])) (of (one ∷ one ∷ []))) ≡ 0 ∷ 0 ∷ []
   -- the call, with the sign on the entries and on the weights
-  pub entries_signed : figure (minus_nought ∷ minus_nought ∷ []) (one ∷ one ∷ []) ≡ ((Ok tt), 0)
-  pub weights_signed : figure (0 ∷ 0 ∷ []) (minus_one ∷ minus_one ∷ []) ≡ ((Ok tt), 0)
+  pub entries_signed : figure (minus_nought ∷ minus_nought ∷ []) (one ∷ one ∷ []) ≡ Ok 0
+  pub weights_signed : figure (0 ∷ 0 ∷ []) (minus_one ∷ minus_one ∷ []) ≡ Ok 0
 
 pub edges : Edges
 unfolding add mul of_bits to_bits demand demand_each pick listed sum_on sum_rows all_finite stored offset slot walk size_ok bond_ok shape_ok core_size point_size

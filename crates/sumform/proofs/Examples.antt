@@ -1,12 +1,13 @@
 -- One axis' sums worked out in f64 arithmetic beside the definition, and the call beside the entry of a chain that holds -0, by computation. Assumes nothing.
-use mathlib.Core.Path.{◌≡◌, refl, ap}
+use mathlib.Core.Path.{◌≡◌, refl, ap, ◌∙◌}
 use mathlib.Core.List.{List, [], ◌∷◌, map}
 use Prim.Native.Nat.{ℕ, zero, suc, ◌<◌}
 use native.Mathlib.Omega.{arith}
 use lib.ListN.{get_or}
 use lib.Ieee.{Float, nan, binary64, add, mul, of_bits, to_bits}
 use Rattle.std.specs.Prelude.{Ok}
-use Rattle.answers.specs.Outcome.{demand, demand_each, Check}
+use Rattle.answers.specs.Outcome.{Answer, bind, demand, demand_each}
+use Rattle.answers.proofs.Outcomes.{bind_ok}
 use Rattle.numbers.specs.Arithmetic.{zero64}
 use Rattle.numbers.specs.Zeros.{Alike}
 use Rattle.lists.specs.Lists.{pick, listed}
@@ -54,15 +55,15 @@ abbrev entries : ℕ → ℕ × ℕ
 entries i = (to_bits binary64 (entry (core_at one_core held 0) 0 i 0), to_bits binary64 (entry_at one_core held (λ (k : ℕ). i)))
 
 -- what the call answers
-abbrev figure : List Float → Check × ℕ
-figure weights = ((inner_call one_core held weights).verdict, to_bits binary64 (inner_call one_core held weights).value)
+abbrev figure : List Float → Answer ℕ
+figure weights = bind (inner_call one_core held weights) (λ (x : Float). Ok (to_bits binary64 x))
 
 -- where -0 stands, entry and figure are +0; where -3 stands, both are -3
 pub lone_entries : entries 0 ∷ entries 2 ∷ [] ≡ (0x8000000000000000, 0) ∷ (0xc008000000000000, 0xc008000000000000) ∷ []
 unfolding add mul of_bits to_bits listed offset slot sum_on sum_to place entry core_at core_size row_times row_after tt_entry entry_at
 lone_entries = refl
 
-pub lone_figures : figure at_first ∷ figure at_last ∷ [] ≡ ((Ok tt), 0) ∷ ((Ok tt), 0xc008000000000000) ∷ []
+pub lone_figures : figure at_first ∷ figure at_last ∷ [] ≡ Ok 0 ∷ Ok 0xc008000000000000 ∷ []
 unfolding add mul of_bits to_bits demand demand_each pick listed offset slot sum_on sum_rows all_finite stored place entry core_at points_at core_size point_size size_ok
     bond_ok shape_ok contract contract_at sum_axis walk sums inner weighed inner_lent inner_finite inner_ok inner_call
 lone_figures = refl
@@ -79,5 +80,7 @@ first_alone zero lt = record { inside = omega arith; one = refl; elsewhere = oth
     others (suc (suc (suc j))) l d = absurd (omega arith)
 first_alone (suc k) lt = absurd (omega arith)
 
-pub lone_is : (inner_call one_core held at_first).value ≡ entry_at one_core held (λ (k : ℕ). 0)
-lone_is = unit_entry one_core held at_first (λ (k : ℕ). 0) first_alone (ap (λ (l : List (Check × ℕ)). (get_or l 0 ((Ok tt), 0)).0) lone_figures)
+pub lone_is : inner_call one_core held at_first ≡ Ok (entry_at one_core held (λ (k : ℕ). 0))
+lone_is =
+    let B = bind_ok (inner_call one_core held at_first) (λ (x : Float). Ok (to_bits binary64 x)) 0 (ap (λ (l : List (Answer ℕ)). get_or l 0 (Ok 0)) lone_figures) in
+    B.1 ∙ ap Ok (unit_entry one_core held at_first (λ (k : ℕ). 0) first_alone B.0 B.1)

@@ -5,7 +5,7 @@ use Prim.Native.Nat.{ℕ}
 use lib.ListN.{take, replicate}
 use lib.Ieee.{Float, binary64, add, mul, of_bits, to_bits}
 use Rattle.std.specs.Prelude.{Ok}
-use Rattle.answers.specs.Outcome.{demand, demand_each}
+use Rattle.answers.specs.Outcome.{bind, verdict_of, held_or, demand, demand_each}
 use Rattle.lists.specs.Lists.{pick, listed}
 use Rattle.lists.specs.Floats.{sum_on, sum_rows, all_finite, stored}
 use Rattle.lists.specs.Slots.{offset, slot}
@@ -35,13 +35,17 @@ given = record { d = 2; left = 7 ∷ replicate 15 9; n = 1 ∷ 2 ∷ replicate 1
 abbrev end : StartEnded
 end = start_call given (of (two ∷ one ∷ two ∷ [])) (of (0 ∷ 0 ∷ 0 ∷ []))
 
+-- the shape that was made, or the one given
+abbrev made : Shape
+made = held_or given end.result
+
 pub record ByHand : Type 0 where
-  pub fits : end.result.verdict ≡ (Ok tt)
-  pub left : take 2 end.result.shape.left ≡ 1 ∷ 1 ∷ []
-  pub right : take 2 end.result.shape.right ≡ 1 ∷ 1 ∷ []
+  pub fits : verdict_of end.result ≡ Ok tt
+  pub left : take 2 made.left ≡ 1 ∷ 1 ∷ []
+  pub right : take 2 made.right ≡ 1 ∷ 1 ∷ []
   pub numbers : map (to_bits binary64) end.chain ≡ two ∷ one ∷ two ∷ []
   -- weights of 1 add up to 2*(1 + 2)
-  pub taken : to_bits binary64 (inner_call end.result.shape end.chain (of (one ∷ one ∷ one ∷ []))).value ≡ 0x4018_0000_0000_0000
+  pub taken : bind (inner_call made end.chain (of (one ∷ one ∷ one ∷ []))) (λ (x : Float). Ok (to_bits binary64 x)) ≡ Ok 0x4018_0000_0000_0000
 
 pub by_hand : ByHand
 unfolding add mul of_bits to_bits demand demand_each pick listed sum_on sum_rows all_finite stored offset slot walk size_ok bond_ok shape_ok core_size point_size

@@ -11,7 +11,7 @@ use lib.Ieee.{Float, nan, inf, fin, binary64, fits, of_bits}
 use lib.Ieee.Fits.{mul-fits}
 use Rattle.answers.specs.declared.Part.TheVariants.{Sum}
 use Rattle.std.specs.Prelude.{Ok, Err}
-use Rattle.answers.specs.Outcome.{Answer, ◌then◌}
+use Rattle.answers.specs.Outcome.{Answer, ◌then◌, held_or}
 use Rattle.answers.proofs.Outcomes.{bind_ok, ok_inj, making_is}
 use Rattle.answers.proofs.Checks.{then_is}
 use Rattle.numbers.specs.Arithmetic.{plus, times, zero64}
@@ -35,7 +35,7 @@ use Rattle.shape.proofs.Shaped.{shaped}
 use Rattle.sumform.specs.Contract.{contract}
 use Rattle.sumform.specs.Product.{contract_at, sum_axis, start_sums, sums, inner}
 use Rattle.sumform.specs.Entry.{row_times, row_after, tt_entry, entry_at, OneAt, NotMinusZero}
-use Rattle.sumform.specs.Call.{inner_ok, weighed, figure_by, inner_call}
+use Rattle.sumform.specs.Call.{inner_ok, weighed, inner_call}
 use Rattle.sumform.proofs.Signs.{alike_equal, plus_keeps, sum_keeps}
 
 -- ---- zeros
@@ -133,19 +133,13 @@ module _ (c : ℕ → Core) (w : ℕ → List Float) (i : ℕ → ℕ) where
       ∙ walk_exact m (suc k) W.0.0 (λ j a b. u j (omega arith) (omega arith)) W.2.0 W.2.1
       ∙ ap (λ (x : List Float). row_after x (listed m (suc k) (λ (j : ℕ). (c j, i j)))) row
 
--- the figure that was accepted is that of the sums
-figure_of : (o : Answer Float) → (figure_by o).verdict ≡ (Ok tt) → o ≡ Ok (figure_by o).value
-figure_of (Ok x) e = refl
-figure_of (Err r) e = let z : ◌≡◌ {A = ℕ} 0 1 = cc in absurd (omega arith)
-
 -- UNIT WEIGHTS GIVE THE ENTRY
 pub unit_entry : (s : Shape) (chain weights : List Float) (i : ℕ → ℕ) → ((k : ℕ) → k < s.d → OneAt (points_of s k) (i k) (points_at s weights k))
-    → (inner_call s chain weights).verdict ≡ (Ok tt) → (inner_call s chain weights).value ≡ entry_at s chain i
+    → (y : Float) → inner_call s chain weights ≡ Ok y → y ≡ entry_at s chain i
 unfolding inner_call inner sums weighed entry_at tt_entry core_at
-unit_entry s chain weights i one e =
-    let o = inner_ok s chain weights then inner (weighed s chain weights) in
-    let I = (then_is (inner_ok s chain weights) (inner (weighed s chain weights)) (inner_call s chain weights).value (figure_of o e)).1 in
-    let B = bind_ok (sums (weighed s chain weights)) (λ tr. Ok (at (state_at start_sums tr (length tr)) 0)) (inner_call s chain weights).value I in
+unit_entry s chain weights i one y e =
+    let I = (then_is (inner_ok s chain weights) (inner (weighed s chain weights)) y e).1 in
+    let B = bind_ok (sums (weighed s chain weights)) (λ tr. Ok (at (state_at start_sums tr (length tr)) 0)) y I in
     sym (ok_inj B.2) ∙ ap (λ (v : List Float). at v 0) (walk_exact (core_at s chain) (points_at s weights) i s.d 0 start_sums (λ k a b. one k (omega arith)) B.0 B.1)
 
 -- ---- a zero's sign
@@ -172,12 +166,12 @@ walk_keeps (p ∷ ps) k v q tr h a =
     let next = subst (λ (x : List Float). (b : ℕ) → NotMinusZero (at x b)) e (tab_keeps p.0.rr (λ (j : ℕ). rows p.0 p.1 v j p.0.rl) (λ j. rows_keep p.0 p.1 v j p.0.rl)) in
     subst (λ (t : List (List Float × Unit {0})). NotMinusZero (at (state_at v t (length t)) a)) W.2.2 (walk_keeps ps (suc k) W.0.0 next W.2.0 W.2.1 a)
 
--- no figure is -0, whatever the weights are
-pub figure_not_minus_zero : (s : Shape) (chain weights : List Float) → NotMinusZero (inner_call s chain weights).value
+-- no figure is -0, whatever the weights are, nor is the +0 that stands for one that is refused
+pub figure_not_minus_zero : (s : Shape) (chain weights : List Float) → NotMinusZero (held_or zero64 (inner_call s chain weights))
 unfolding inner_call inner sums
 figure_not_minus_zero s chain weights = go (inner_ok s chain weights then inner (weighed s chain weights)) refl
   where
-    go : (o : Answer Float) → (inner_ok s chain weights then inner (weighed s chain weights)) ≡ o → NotMinusZero (figure_by o).value
+    go : (o : Answer Float) → (inner_ok s chain weights then inner (weighed s chain weights)) ≡ o → NotMinusZero (held_or zero64 o)
     go (Ok x) e =
         let I = (then_is (inner_ok s chain weights) (inner (weighed s chain weights)) x e).1 in
         let B = bind_ok (sums (weighed s chain weights)) (λ tr. Ok (at (state_at start_sums tr (length tr)) 0)) x I in
@@ -211,12 +205,11 @@ lone_entry c i left right held =
 
 -- and so is the figure
 pub lone_figure : (s : Shape) (chain weights : List Float) (i : ℕ) → s.d ≡ 1 → OneAt (points_of s 0) i (points_at s weights 0) → Fits (entry (core_at s chain 0) 0 i 0)
-    → (inner_call s chain weights).verdict ≡ (Ok tt) → (inner_call s chain weights).value ≡ unsigned (entry (core_at s chain 0) 0 i 0)
+    → (y : Float) → inner_call s chain weights ≡ Ok y → y ≡ unsigned (entry (core_at s chain 0) 0 i 0)
 unfolding inner_call inner_ok entry_at core_at listed
-lone_figure s chain weights i alone one held e =
-    let o = inner_ok s chain weights then inner (weighed s chain weights) in
-    let ok = (then_is (inner_ok s chain weights) (inner (weighed s chain weights)) (inner_call s chain weights).value (figure_of o e)).0 in
+lone_figure s chain weights i alone one held y e =
+    let ok = (then_is (inner_ok s chain weights) (inner (weighed s chain weights)) y e).0 in
     let S = shaped s (λ (k : ℕ). true) (then_is (chain_ok s) _ tt ok).0 in
-    unit_entry s chain weights (λ (k : ℕ). i) (λ k lt. let z : 0 ≡ k = omega arith in subst (λ (j : ℕ). OneAt (points_of s j) i (points_at s weights j)) z one) e
+    unit_entry s chain weights (λ (k : ℕ). i) (λ k lt. let z : 0 ≡ k = omega arith in subst (λ (j : ℕ). OneAt (points_of s j) i (points_at s weights j)) z one) y e
     ∙ ap (λ (d : ℕ). tt_entry (tab d (λ (k : ℕ). (core_at s chain k, i)))) alone
     ∙ lone_entry (core_at s chain 0) i S.first (S.last 0 (sym alone)) held

@@ -1,6 +1,5 @@
 -- The call `inner_separable`. Definitions only.
-use Rattle.std.specs.Prelude.{ℕ, ◌&&◌, List, eqb, length, Float, Ok, Err}
-use Rattle.numbers.specs.Arithmetic.{zero64}
+use Rattle.std.specs.Prelude.{ℕ, ◌&&◌, List, eqb, length, Float}
 use Rattle.answers.specs.declared.Refusal.TheVariants.{Length, Number}
 use Rattle.answers.specs.Outcome.{Answer, Check, ◌then◌, demand, demand_each}
 use Rattle.lists.specs.Lists.{tab}
@@ -8,7 +7,6 @@ use Rattle.lists.specs.Floats.{all_finite}
 use Rattle.shape.specs.declared.Shape.{Shape}
 use Rattle.shape.specs.Shapes.{chain_ok, entries_of, all_points}
 use Rattle.shape.specs.Cores.{Core, core_at, points_at}
-use Rattle.sumform.specs.declared.Figure.{Figure}
 use Rattle.sumform.specs.Product.{inner}
 
 -- slices are the chain, the weights
@@ -25,9 +23,5 @@ inner_ok s chain weights = chain_ok s then inner_lent s (length chain) (length w
 unfoldable pub weighed : Shape → List Float → List Float → List (Core × List Float)
 weighed s chain weights = tab s.d (λ (k : ℕ). (core_at s chain k, points_at s weights k))
 
-abbrev pub figure_by : Answer Float → Figure
-figure_by (Ok x) = record { verdict = Ok tt; value = x }
-figure_by (Err r) = record { verdict = Err r; value = zero64 }
-
-unfoldable pub inner_call : Shape → List Float → List Float → Figure
-inner_call s chain weights = figure_by (inner_ok s chain weights then inner (weighed s chain weights))
+unfoldable pub inner_call : Shape → List Float → List Float → Answer Float
+inner_call s chain weights = inner_ok s chain weights then inner (weighed s chain weights)
