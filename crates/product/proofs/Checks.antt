@@ -9,18 +9,17 @@ use lib.Ieee.{Float}
 use Rattle.answers.specs.declared.Refusal.{Refusal}
 use Rattle.answers.specs.declared.Refusal.TheVariants.{Number, Length}
 use Rattle.std.specs.Prelude.{Ok, Err}
-use Rattle.answers.specs.Outcome.{Check, ◌then◌}
-use Rattle.answers.proofs.Checks.{verdict_passed, verdict_refused, then_is}
-use Rattle.numbers.specs.Arithmetic.{zero64}
+use Rattle.answers.specs.Outcome.{Answer, Check, ◌then◌}
+use Rattle.answers.proofs.Checks.{then_is}
 use Rattle.lists.specs.Lists.{first_not}
 use Rattle.lists.specs.Floats.{all_finite}
-use Rattle.lists.proofs.Asked.{lengths_say, left_wrong, neither_wrong, right_wrong}
+use Rattle.lists.proofs.Asked.{tested, length_wrong, length_right, place_wrong, places_right, lengths_say, left_wrong, neither_wrong, right_wrong}
 use Rattle.shape.specs.declared.Shape.{Shape}
 use Rattle.shape.specs.Shapes.{chain_ok, entries_of, all_points}
 use Rattle.shape.specs.Cores.{core_at, points_at}
-use Rattle.sumform.specs.declared.Figure.{Figure}
-use Rattle.sumform.specs.Product.{inner}
-use Rattle.sumform.specs.Call.{inner_lent, inner_finite, inner_ok, inner_call, weighed, figure_by}
+use Rattle.shape.proofs.Shaped.{fits_sizes}
+use Rattle.shape.proofs.Verdicts.{within_most}
+use Rattle.sumform.specs.Call.{inner_lent, inner_finite, inner_ok}
 
 module _ (s : Shape) (chain weights : List Float) (i j : ℕ)
     (e : i ≡ first_not (λ (k : ℕ). all_finite (core_at s chain k).entries) s.d) (f : j ≡ first_not (λ (k : ℕ). all_finite (points_at s weights k)) s.d) where
@@ -42,43 +41,43 @@ module _ (s : Shape) (chain weights : List Float) (i j : ℕ)
   unfolding inner_finite
   axis_wrong h = right_wrong core axis s.d i j e f Number h
 
-pub ruleset finite-found = (core_wrong, all_right, axis_wrong)
+pub ruleset finite_found = (core_wrong, all_right, axis_wrong)
+
+-- ---- checks in a row by `?`: one law for a check that refuses, one for one that passes
+module _ {A : Type 0} (c : Check) (o : Answer A) where
+  pub refuses : (r : Refusal) → Err r ≡ c → Err r ≡ (c then o)
+  refuses r h = ap (λ (x : Check). x then o) h
+
+  pub passes : (w : Answer A) → Ok tt ≡ c → w ≡ o → w ≡ (c then o)
+  passes w h g = g ∙ ap (λ (x : Check). x then o) h
 
 -- lengths that passed
-module _ (s : Shape) (chain weights : ℕ) (ok : inner_lent s chain weights ≡ Ok tt) where
+module _ (s : Shape) (chain weights : ℕ) (ok : Ok tt ≡ inner_lent s chain weights) where
   lent_say : (chain ≡ entries_of s) × (weights ≡ all_points s)
   unfolding inner_lent
-  lent_say = lengths_say chain (entries_of s) weights (all_points s) (Length 0) (Length 1) ok
+  lent_say = lengths_say chain (entries_of s) weights (all_points s) (Length 0) (Length 1) (sym ok)
 
-  pub long_enough : (entries_of s ≤ chain) × (all_points s ≤ weights)
-  long_enough = (le_of_eq (sym lent_say.0), le_of_eq (sym lent_say.1))
-
-module _ (s : Shape) (chain weights : ℕ) (v : Check) (e : v ≡ inner_lent s chain weights) (h : v ≡ Ok tt) where
   pub chain_long : entries_of s ≤ chain
-  chain_long = (long_enough s chain weights (verdict_passed (inner_lent s chain weights) v e h)).0
+  chain_long = le_of_eq (sym lent_say.0)
 
   pub weights_long : all_points s ≤ weights
-  weights_long = (long_enough s chain weights (verdict_passed (inner_lent s chain weights) v e h)).1
+  weights_long = le_of_eq (sym lent_say.1)
 
--- ---- the call, by the verdict of its checks
-module _ (s : Shape) (chain weights : List Float) (v : Check) (e : v ≡ inner_ok s chain weights) where
-  pub inner_stops : (f : Figure) (r : Refusal) → v ≡ Err r → f ≡ record { verdict = Err r; value = zero64 } → f ≡ inner_call s chain weights
-  unfolding inner_call
-  inner_stops f r h g = g ∙ sym (ap (λ (c : Check). figure_by (c then inner (weighed s chain weights))) (verdict_refused (inner_ok s chain weights) v r e h))
+pub ruleset in_a_row = (refuses, passes, tested, length_wrong, length_right, place_wrong, places_right, within_most, fits_sizes, chain_long, weights_long)
 
-  module _ (h : v ≡ Ok tt) where
-    abbrev passed : inner_ok s chain weights ≡ Ok tt
-    passed = verdict_passed (inner_ok s chain weights) v e h
+-- ---- what the sums ask
+module _ (s : Shape) (chain weights : List Float) (ok : Ok tt ≡ inner_ok s chain weights) where
+  passed : (chain_ok s ≡ Ok tt) × (inner_lent s (length chain) (length weights) ≡ Ok tt)
+  unfolding inner_ok
+  passed =
+      let a = then_is (chain_ok s) (inner_lent s (length chain) (length weights) then inner_finite s chain weights) tt (sym ok) in
+      let b = then_is (inner_lent s (length chain) (length weights)) (inner_finite s chain weights) tt a.1 in
+      (a.0, b.0)
 
-    pub inner_asks : (chain_ok s ≡ Ok tt) × ((entries_of s ≤ length chain) × (all_points s ≤ length weights))
-    unfolding inner_ok
-    inner_asks =
-        let a = then_is (chain_ok s) (inner_lent s (length chain) (length weights) then inner_finite s chain weights) tt passed in
-        let b = then_is (inner_lent s (length chain) (length weights)) (inner_finite s chain weights) tt a.1 in
-        (a.0, long_enough s (length chain) (length weights) b.0)
+  pub inner_shaped : chain_ok s ≡ Ok tt
+  inner_shaped = passed.0
 
-    pub inner_goes : (f : Figure) → f ≡ figure_by (inner (weighed s chain weights)) → f ≡ inner_call s chain weights
-    unfolding inner_call
-    inner_goes f g = g ∙ sym (ap (λ (c : Check). figure_by (c then inner (weighed s chain weights))) passed)
+  pub inner_long : (entries_of s ≤ length chain) × (all_points s ≤ length weights)
+  inner_long = (chain_long s (length chain) (length weights) (sym passed.1), weights_long s (length chain) (length weights) (sym passed.1))
 
-pub ruleset inner-checked = (inner_stops, inner_asks, inner_goes)
+pub ruleset inner_checked = (refuses, passes, inner_shaped, inner_long)

@@ -14,6 +14,7 @@ use Rattle.answers.specs.Outcome.{staged, Stage}
 use Rattle.lists.specs.Slots.{offset, slot, put, fit}
 use Rattle.lists.specs.Floats.{stored}
 use Rattle.lists.proofs.Slots.{offset_suc, offset_mono}
+use Rattle.lists.proofs.Parts.{span_length}
 use Rattle.shape.specs.declared.Shape.{Shape}
 use Rattle.shape.specs.Limits.{most_rank, most_sums}
 use Rattle.shape.specs.Shapes.{left_of, points_of, right_of, core_size, point_size}
@@ -41,7 +42,7 @@ module _ (s : Shape) where
   pub sum_offset_more : (k t : ℕ) → t ≡ offset (sum_size s) k → t + right_of s k ≡ offset (sum_size s) (k + 1)
   sum_offset_more k t e = offset_more (sum_size s) k t (right_of s k) e (sum_size_lem k)
 
-pub ruleset sum-slots = (sum_offset_fits, sum_offset_more)
+pub ruleset sum_slots = (sum_offset_fits, sum_offset_more)
 
 -- ---- what is held on the left
 left_read : (s : Shape) (r : ℕ) (sums : List Float) (j : ℕ) → 1 ≤ j → r ≤ right_of s (j - 1) → take r (drop (offset (sum_size s) (j - 1)) sums) ≡ sums_left s r sums j
@@ -222,3 +223,9 @@ module _ (s t : Shape) (k : ℕ) (work weights : List Float) (S : SumsStand s t 
 
   pub own_asks : (right_of t k ≤ most_rank) × (right_of t k ≤ right_of s k)
   own_asks = ((S.inside.sizes.right k ahead).1, S.inside.right k lt)
+
+pub ruleset left_slots = (left_first, left_end, left_end_fits, left_start_fits, left_long_lem, left_held_lem, span_length)
+
+pub ruleset axis_slots = (core_ends, core_end_fits, core_start_fits, points_end, points_end_fits, points_start_fits, axis_asks, axis_made)
+
+pub ruleset own_slot = (slot_ends, slot_end_fits, slot_start_fits, slot_lent, slot_kept)

@@ -26,7 +26,8 @@ use Rattle.sumform.specs.Contract.{contract}
 use Rattle.sumform.specs.Product.{contract_at, sum_axis}
 use Rattle.sumform.specs.Sums.{sum_size, sums_left, weighed_in, sums_from}
 use Rattle.product.specs.Lent.{sum_turn}
-use Rattle.product.proofs.Slotted.{sum_size_lem}
+use Rattle.product.proofs.Slotted.{sum_size_lem, left_asks, own_asks}
+use Rattle.lists.proofs.Stages.{answer_more, answer_stop, answer_done}
 
 module _ (s t : Shape) (I : Inside s t) (work weights : List Float) where
   abbrev pair : ℕ → Core × List Float
@@ -105,16 +106,19 @@ module _ (s t : Shape) (I : Inside s t) (work weights : List Float) where
     turn_opened = ap (λ (m : Made (List Float)). bind (making Sum k m) (λ x. Ok (put (sum_size s) k (fit zero64 (sum_size s k) x) sums))) (ap (λ (l : List Float). stored (contract (standing s t work k) (points_at s weights k) l)) (sym g) ∙ e)
 
     -- v is what the call answers of that stage
-    module _ (v : Check) (told : v ≡ stored_in Sum k r) where
-      turn_made : sum_turn s t work weights k sums ≡ bind (answered v (take (right_of t k) after)) (λ x. Ok (put (sum_size s) k (fit zero64 (sum_size s k) x) sums))
-      turn_made =
-          turn_opened
-          ∙ ap (λ (o : Answer (List Float)). bind o (λ x. Ok (put (sum_size s) k (fit zero64 (sum_size s k) x) sums))) (stored_answered Sum k r v (take (right_of t k) after) told)
+    turn_made : (v : Check) → v ≡ stored_in Sum k r → sum_turn s t work weights k sums ≡ bind (answered v (take (right_of t k) after)) (λ x. Ok (put (sum_size s) k (fit zero64 (sum_size s k) x) sums))
+    turn_made v told =
+        turn_opened
+        ∙ ap (λ (o : Answer (List Float)). bind o (λ x. Ok (put (sum_size s) k (fit zero64 (sum_size s k) x) sums))) (stored_answered Sum k r v (take (right_of t k) after) told)
 
-      pub turn_stops : (q : Refusal) → v ≡ Err q → (l : List Float) → sum_turn s t work weights k sums ≡ answered (Err q) l
-      unfolding answered
-      turn_stops q h l = turn_made ∙ rw h
+    pub turn_stops : (q : Refusal) → Err q ≡ stored_in Sum k r → (l : List Float) → sum_turn s t work weights k sums ≡ answered (Err q) l
+    unfolding answered
+    turn_stops q h l = turn_made (Err q) h
 
-      pub turn_keeps : v ≡ Ok tt → (l : List Float) → l ≡ put (sum_size s) k (fit zero64 (sum_size s k) (take (right_of t k) after)) sums → sum_turn s t work weights k sums ≡ answered (Ok tt) l
-      unfolding answered
-      turn_keeps h l f = turn_made ∙ rw (h, f)
+    pub turn_keeps : Ok tt ≡ stored_in Sum k r → (l : List Float) → l ≡ put (sum_size s) k (fit zero64 (sum_size s k) (take (right_of t k) after)) sums → sum_turn s t work weights k sums ≡ answered (Ok tt) l
+    unfolding answered
+    turn_keeps h l f = turn_made (Ok tt) h ∙ rw f
+
+pub ruleset turn = (left_asks, own_asks, turn_stops, turn_keeps)
+
+pub ruleset turned = (sums_turn, answer_more, answer_stop, answer_done)

@@ -10,11 +10,11 @@ use lib.ListN.{length, take, drop, replicate}
 use lib.Seq.{get_or-take}
 use lib.Ieee.{Float, nan}
 use Rattle.answers.specs.declared.Part.TheVariants.{Sum}
-use Rattle.answers.specs.declared.Refusal.TheVariants.{Stored}
+use Rattle.answers.specs.declared.Refusal.{Refusal}
 use Rattle.std.specs.Prelude.{Ok, Err}
-use Rattle.answers.specs.Outcome.{Answer, bind, making, staged, Stage}
-use Rattle.answers.proofs.Outcomes.{bind_assoc}
-use Rattle.numbers.specs.Arithmetic.{zero64, one64}
+use Rattle.answers.specs.Outcome.{Answer, Check, bind, making, answered, staged, stored_in, Stage}
+use Rattle.answers.proofs.Outcomes.{bind_assoc, stored_answered}
+use Rattle.numbers.specs.Arithmetic.{one64}
 use Rattle.lists.specs.Lists.{listed}
 use Rattle.lists.specs.Walks.{walk, state_at}
 use Rattle.lists.specs.Slots.{offset, slot}
@@ -27,7 +27,7 @@ use Rattle.lists.proofs.Slots.{offset_mono, slot_length}
 use Rattle.shape.proofs.Shaped.{Shaped, shaped}
 use Rattle.sumform.specs.Contract.{contract}
 use Rattle.sumform.specs.Product.{contract_at, sum_axis, sums, inner}
-use Rattle.sumform.specs.Call.{weighed, figure_by}
+use Rattle.sumform.specs.Call.{weighed}
 
 -- what is left of the walk, from axis k of d on and the sums eta
 module _ (p : ℕ → Core × List Float) (d : ℕ) where
@@ -51,13 +51,17 @@ module _ (p : ℕ → Core × List Float) (d : ℕ) where
           go (Ok x) = bind_assoc (walk sum_axis (suc k) x (listed (d - suc k) (suc k) p)) (λ qs. Ok ((x, tt) ∷ qs)) (λ tr. Ok (at (state_at eta tr (length tr)) 0))
           go (Err q) = refl
 
-      pub left_more : r ≡ Ok tt → T ≡ Left (k + 1) out
-      unfolding staged
-      left_more h = opened ∙ rw h
+      -- by what the call answers of that stage
+      told : (v : Check) → v ≡ stored_in Sum k r → T ≡ bind (answered v out) (λ x. Left (k + 1) x)
+      told v h = opened ∙ ap (λ o. bind o (λ x. Left (k + 1) x)) (stored_answered Sum k r v out h)
 
-      pub left_stop : (i : ℕ) → r ≡ Err i → T ≡ Err (Stored Sum k i)
-      unfolding staged
-      left_stop i h = opened ∙ rw h
+      pub left_more : Ok tt ≡ stored_in Sum k r → T ≡ Left (k + 1) out
+      unfolding answered
+      left_more h = told (Ok tt) h
+
+      pub left_stop : (q : Refusal) → Err q ≡ stored_in Sum k r → T ≡ Err q
+      unfolding answered
+      left_stop q h = told (Err q) h
 
 -- ---- the loop over axes
 abbrev pub pair_at : Shape → List Float → List Float → ℕ → Core × List Float
@@ -144,7 +148,7 @@ module _ (s : Shape) (chain weights : List Float) (ok : chain_ok s ≡ Ok tt) wh
       made : stored (contract (core_at s chain k) (points_at s weights k) (take rank eta)) ≡ staged r (take (right_of s k) after)
       made = ap (λ (x : List Float). stored (contract (core_at s chain k) x (take rank eta))) (sym points_is) ∙ ap (λ (c : Core). stored (contract c f (take rank eta))) (sym whole_core) ∙ e
 
-      pub at_next : r ≡ Ok tt → AtAxis s chain weights after (right_of s k) (start + size) (point + points_of s k) (k + 1)
+      pub at_next : Ok tt ≡ stored_in Sum k r → AtAxis s chain weights after (right_of s k) (start + size) (point + points_of s k) (k + 1)
       unfolding offset point_size
       at_next h =
           let right = shp.sizes.right k l in
@@ -159,10 +163,10 @@ module _ (s : Shape) (chain weights : List Float) (ok : chain_ok s ≡ Ok tt) wh
             rest = left_more (pair_at s chain weights) s.d (inner (weighed s chain weights)) k (take rank eta) A.rest l r (take (right_of s k) after) made h;
           }
 
-      pub axis_stops : (i : ℕ) → r ≡ Err i → record { verdict = Err (Stored Sum k i); value = zero64 } ≡ figure_by (inner (weighed s chain weights))
-      axis_stops i h = sym (ap figure_by (left_stop (pair_at s chain weights) s.d (inner (weighed s chain weights)) k (take rank eta) A.rest l r (take (right_of s k) after) made i h))
+      pub axis_stops : (q : Refusal) → Err q ≡ stored_in Sum k r → Err q ≡ inner (weighed s chain weights)
+      axis_stops q h = sym (left_stop (pair_at s chain weights) s.d (inner (weighed s chain weights)) k (take rank eta) A.rest l r (take (right_of s k) after) made q h)
 
-  pub at_end : (eta : List Float) (rank start point k : ℕ) → AtAxis s chain weights eta rank start point k → s.d ≤ k → record { verdict = Ok tt; value = at eta 0 } ≡ figure_by (inner (weighed s chain weights))
+  pub at_end : (eta : List Float) (rank start point k : ℕ) → AtAxis s chain weights eta rank start point k → s.d ≤ k → Ok (at eta 0) ≡ inner (weighed s chain weights)
   at_end eta rank start point k A l =
-      ap (λ (x : Float). record { verdict = Ok tt; value = x }) (sym (get_or-take rank eta 0 nan A.some))
-      ∙ sym (ap figure_by (left_done (pair_at s chain weights) s.d (inner (weighed s chain weights)) k (take rank eta) A.rest l))
+      ap Ok (sym (get_or-take rank eta 0 nan A.some))
+      ∙ sym (left_done (pair_at s chain weights) s.d (inner (weighed s chain weights)) k (take rank eta) A.rest l)

@@ -5,16 +5,14 @@ pub mod contraction;
 pub mod start;
 pub mod sums;
 
-ghost use Rattle.std.specs.Prelude.{◌≡◌, ◌≤◌, length, Ok, Err};
-ghost use Rattle.numbers.specs.Arithmetic.{zero64};
+ghost use Rattle.std.specs.Prelude.{◌≡◌, ◌≤◌, length, Ok};
 ghost use Rattle.shape.specs.Shapes.{chain_ok, entries_of, all_points};
 ghost use Rattle.shape.specs.Sizes.{SizesWithin};
-ghost use Rattle.sumform.specs.Call.{inner_lent, inner_finite, inner_ok, weighed, figure_by, inner_call};
+ghost use Rattle.sumform.specs.Call.{inner_lent, inner_finite, inner_ok, weighed, inner_call};
 ghost use Rattle.sumform.specs.Product.{inner};
 
-use sumform::Figure;
-
 // The lengths that an inner product asks for: refusal 5.
+#[tactic(auto, using(crate::proofs::Checks::in_a_row), unfolding(sumform::specs::Call::inner_lent))]
 fn inner_lent(s: shape::Shape, chain: usize, weights: usize) -> Result<(), answers::Refusal>
     requires { SizesWithin s }
     ensures { result ≡ inner_lent s chain weights }
@@ -29,6 +27,7 @@ fn inner_lent(s: shape::Shape, chain: usize, weights: usize) -> Result<(), answe
 }
 
 // The first core or axis with a number that isn't finite: refusal 6.
+#[tactic(auto, using(crate::proofs::Checks::finite_found))]
 fn inner_finite(s: shape::Shape, chain: &[f64], weights: &[f64]) -> Result<(), answers::Refusal>
     requires sizes_within { SizesWithin s }
     requires s_in_bounds { (entries_of s ≤ length chain.now) × (all_points s ≤ length weights.now) }
@@ -46,50 +45,27 @@ fn inner_finite(s: shape::Shape, chain: &[f64], weights: &[f64]) -> Result<(), a
     Err(answers::Refusal::Number(axis))
 }
 
+#[tactic(auto, using(crate::proofs::Checks::in_a_row), unfolding(sumform::specs::Call::inner_ok))]
 fn inner_ok(s: shape::Shape, chain: &[f64], weights: &[f64]) -> Result<(), answers::Refusal>
     ensures { result ≡ inner_ok s chain.now weights.now }
 {
-    let shaped = s.check();
-    if let Err(r) = shaped {
-        return Err(r);
-    }
-    let lent = inner_lent(s, chain.len(), weights.len());
-    if let Err(r) = lent {
-        return Err(r);
-    }
+    s.check()?;
+    inner_lent(s, chain.len(), weights.len())?;
     inner_finite(s, chain, weights)
 }
 
-fn refused_figure(r: answers::Refusal) -> Figure
-    ensures { result ≡ record { verdict = Err r; value = zero64 } }
-{
-    Figure {
-        verdict: Err(r),
-        value: 0.0,
-    }
-}
-
-fn figure_of(x: f64) -> Figure
-    ensures { result ≡ record { verdict = Ok tt; value = x } }
-{
-    Figure {
-        verdict: Ok(()),
-        value: x,
-    }
-}
-
 // Axis after axis, from sums that start as 1.
-fn inner_sums(s: shape::Shape, chain: &[f64], weights: &[f64]) -> Figure
+#[tactic(auto, using(shape::proofs::Offsets::offsets, shape::proofs::Slotwise::slotwise))]
+fn inner_sums(s: shape::Shape, chain: &[f64], weights: &[f64]) -> Result<f64, answers::Refusal>
     requires s_value { chain_ok s ≡ Ok tt }
     requires s_in_bounds { (entries_of s ≤ length chain.now) × (all_points s ≤ length weights.now) }
-    ensures { result ≡ figure_by (inner (weighed s chain.now weights.now)) }
+    ensures { result ≡ inner (weighed s chain.now weights.now) }
 {
     let mut eta = [1.0; shape::MOST_RANK];
     let mut rank = 1;
     let mut at = 0;
     let mut points = 0;
-    let mut k = 0;
-    while k < s.d {
+    for k in 0..s.d {
         let rr = s.right[k];
         let end = at + s.core_size(k);
         let last = points + s.n[k];
@@ -100,24 +76,23 @@ fn inner_sums(s: shape::Shape, chain: &[f64], weights: &[f64]) -> Figure
             &weights[points..last],
             &mut eta,
         );
-        if let Err(i) = stage {
-            return refused_figure(answers::stored_at(answers::Part::Sum, k, i));
-        }
+        answers::stored_in(stage, answers::Part::Sum, k)?;
         rank = rr;
         at = end;
         points = last;
-        k += 1;
     }
-    figure_of(eta[0])
+    Ok(eta[0])
 }
 
 // The figure: the inner product of a chain with its axes' weights.
-pub fn inner_separable(s: shape::Shape, chain: &[f64], weights: &[f64]) -> Figure
+#[tactic(auto, using(crate::proofs::Checks::inner_checked), unfolding(sumform::specs::Call::inner_call))]
+pub fn inner_separable(
+    s: shape::Shape,
+    chain: &[f64],
+    weights: &[f64],
+) -> Result<f64, answers::Refusal>
     ensures { result ≡ inner_call s chain.now weights.now }
 {
-    let ok = inner_ok(s, chain, weights);
-    if let Err(r) = ok {
-        return refused_figure(r);
-    }
+    inner_ok(s, chain, weights)?;
     inner_sums(s, chain, weights)
 }

@@ -13,6 +13,7 @@ ghost use Rattle.sumform.specs.Sums.{sum_size, sums_left, sums_from};
 ghost use Rattle.product.specs.Lent.{SumsStand, sum_turn};
 
 // Where the sums of axis k start.
+#[tactic(auto, using(crate::proofs::Slotted::sum_slots, shape::proofs::Offsets::offsets))]
 pub fn sum_offset(s: shape::Shape, k: usize) -> usize
     requires sizes_within { SizesWithin s }
     requires k_le_d { k ≤ s.d }
@@ -26,6 +27,7 @@ pub fn sum_offset(s: shape::Shape, k: usize) -> usize
 }
 
 // The r sums that are held left of axis k, to the front of eta; left of axis 0 that is 1.
+#[tactic(auto, using(crate::proofs::Slotted::left_slots))]
 fn left_sums(k: usize, s: shape::Shape, r: usize, sums: &[f64], eta: &mut [f64])
     requires sizes_within { SizesWithin s }
     requires k_lt_d { (k < s.d) × (offset (sum_size s) s.d ≤ length sums.now) × (1 ≤ r) × (r ≤ length eta.old) × (k ≡ 0 → r ≡ 1)
@@ -42,6 +44,7 @@ fn left_sums(k: usize, s: shape::Shape, r: usize, sums: &[f64], eta: &mut [f64])
 }
 
 // The sums of axis k from those in eta, to the front of eta.
+#[tactic(auto, using(crate::proofs::Slotted::axis_slots))]
 fn axis_sums(
     k: usize,
     s: shape::Shape,
@@ -68,6 +71,7 @@ fn axis_sums(
 }
 
 // The first r numbers of eta into the slot of axis k, +0 behind them.
+#[tactic(auto, using(crate::proofs::Slotted::own_slot))]
 fn keep_sums(eta: &[f64], r: usize, k: usize, s: shape::Shape, sums: &mut [f64])
     requires sizes_within { SizesWithin s }
     requires k_lt_d { (k < s.d) × (offset (sum_size s) s.d ≤ length sums.old) × (r ≤ length eta.now) × (r ≤ right_of s k) }
@@ -79,6 +83,7 @@ fn keep_sums(eta: &[f64], r: usize, k: usize, s: shape::Shape, sums: &mut [f64])
 }
 
 // Axis k.
+#[tactic(auto, using(crate::proofs::Turning::turn))]
 fn sum_zone(
     k: usize,
     s: shape::Shape,
@@ -93,15 +98,13 @@ fn sum_zone(
     let mut eta = [0.0; shape::MOST_RANK];
     left_sums(k, s, t.left[k], sums, &mut eta);
     let stage = axis_sums(k, s, t, work, weights, &mut eta);
-    let made = answers::stored_in(stage, answers::Part::Sum, k);
-    if let Err(r) = made {
-        return Err(r);
-    }
+    answers::stored_in(stage, answers::Part::Sum, k)?;
     keep_sums(&eta, t.right[k], k, s, sums);
     Ok(())
 }
 
 // The axes from z on, from the sums that are held left of z.
+#[tactic(auto, using(crate::proofs::Turning::turned))]
 pub fn sum_from(
     z: usize,
     s: shape::Shape,
@@ -113,13 +116,8 @@ pub fn sum_from(
     requires { (z ≤ s.d) × (offset (sum_size s) s.d ≤ length sums.old) × SumsStand s t work.now weights.now }
     ensures { sums_from s t work.now weights.now z sums.old ≡ answered result sums.new }
 {
-    let mut k = z;
-    while k < s.d {
-        let done = sum_zone(k, s, t, work, weights, sums);
-        if let Err(r) = done {
-            return Err(r);
-        }
-        k += 1;
+    for k in z..s.d {
+        sum_zone(k, s, t, work, weights, sums)?;
     }
     Ok(())
 }

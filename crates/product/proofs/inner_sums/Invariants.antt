@@ -1,10 +1,6 @@
 -- `product::inner_sums`: the invariant: eta holds the sums of the first k axes and the next offsets are known (AtAxis); an axis that is not finite stops it (axis_stops).
-use Prim.Native.Nat.{◌-◌}
 use Rattle.product.proofs.Walking.{AtAxis}
 use Rattle.product.proofs.inner_sums.Given as goal
 
 abbrev pub invariant-loop-k : goal.invariant-loop-k
 invariant-loop-k l = AtAxis l.s l.chain l.weights l.eta l.rank l.at l.points l.k
-
-abbrev pub decreases-loop-k : goal.decreases-loop-k
-decreases-loop-k l = l.s.d - l.k

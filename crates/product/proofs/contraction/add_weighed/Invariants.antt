@@ -1,5 +1,5 @@
 -- `product::contraction::add_weighed`: the invariant: the first t sums have their term (added_in).
-use Prim.Native.Nat.{ℕ, ◌+◌, ◌-◌, ◌≤◌}
+use Prim.Native.Nat.{ℕ, ◌+◌, ◌≤◌}
 use mathlib.Core.Path.{◌≡◌}
 use lib.ListN.{length}
 use Rattle.numbers.specs.Arithmetic.{times}
@@ -9,6 +9,3 @@ use Rattle.product.proofs.contraction.add_weighed.Given as goal
 
 abbrev pub invariant-loop-t : goal.invariant-loop-t
 invariant-loop-t l = (l.t ≤ l.h) × (length l.sums ≡ length l.initial.sums) × (l.sums ≡ added_in l.t (λ (k : ℕ). times (times l.x (at l.core (l.p + k))) l.y) l.initial.sums)
-
-abbrev pub decreases-loop-t : goal.decreases-loop-t
-decreases-loop-t l = l.h - l.t

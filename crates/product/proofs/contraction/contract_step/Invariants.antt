@@ -18,8 +18,5 @@ invariant-loop-j-2 l = (l.initial.j ≤ l.j) × (l.j ≤ l.rr) × (length l.out 
 abbrev pub decreases-loop-j-2 : goal.decreases-loop-j-2
 decreases-loop-j-2 l = l.rr - l.j
 
-abbrev pub invariant-loop-j-3 : goal.invariant-loop-j-3
-invariant-loop-j-3 l = (l.initial.j ≤ l.j) × (l.j ≤ l.rr) × (length l.out ≡ length l.initial.out) × (l.out ≡ row_to 0 (new_sum l.core l.rr l.f l.eta) l.initial.j l.j l.initial.out)
-
-abbrev pub decreases-loop-j-3 : goal.decreases-loop-j-3
-decreases-loop-j-3 l = l.rr - l.j
+abbrev pub invariant-loop-k : goal.invariant-loop-k
+invariant-loop-k l = (l.j ≤ l.k) × (l.k ≤ l.rr) × (length l.out ≡ length l.initial.out) × (l.out ≡ row_to 0 (new_sum l.core l.rr l.f l.eta) l.j l.k l.initial.out)

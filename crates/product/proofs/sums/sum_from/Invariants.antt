@@ -9,6 +9,3 @@ use Rattle.product.proofs.sums.sum_from.Given as goal
 
 abbrev pub invariant-loop-k : goal.invariant-loop-k
 invariant-loop-k l = (length l.sums ≡ length l.initial.sums) × (l.k ≤ l.s.d) × (sums_from l.s l.t l.work l.weights l.z l.initial.sums ≡ turning (l.s.d - l.k) l.k (sum_turn l.s l.t l.work l.weights) l.sums)
-
-abbrev pub decreases-loop-k : goal.decreases-loop-k
-decreases-loop-k l = l.s.d - l.k
