@@ -93,7 +93,7 @@ module _ (s : Shape) (chain : List Float) (i : ℕ) (e : i ≡ first_not (λ (k 
   unfolding numbers_ok
   cores_right h = places_right (λ (k : ℕ). all_finite (slot (core_size s) k chain)) s.d i e Number h
 
-pub ruleset cores-found = (core_wrong, cores_right)
+pub ruleset cores_found = (core_wrong, cores_right)
 
 -- ---- the numbers made at the front of f, which is +0 throughout and as long as the output
 module _ (bytes : List ℕ) (s : Shape) (long : ℕ) (room : entries_of s ≤ long) (n : ℕ) (e : n ≡ entries_of s) (f : List Float) (g : f ≡ zeros long) where

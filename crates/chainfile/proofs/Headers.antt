@@ -12,7 +12,7 @@ use borrow.Author.Tests.{lt-leb}
 use Rattle.answers.specs.declared.Refusal.{Refusal}
 use Rattle.answers.specs.declared.Refusal.TheVariants.{Axes, Size, File}
 use Rattle.std.specs.Prelude.{Ok, Err}
-use Rattle.answers.specs.Outcome.{Answer, Check, ◌then◌, demand, verdict_of}
+use Rattle.answers.specs.Outcome.{Answer, Check, ◌then◌, demand}
 use Rattle.answers.proofs.Checks.{demand_yes, demand_no}
 use Rattle.lists.proofs.Tests.{both, eqb_yes, eqb_no, leb_yes, not_no, not_yes}
 use Rattle.shape.specs.declared.Shape.{Shape}
@@ -32,42 +32,42 @@ pass v b r o e h = h ∙ sym (ap (λ (c : Check). c then o) (demand_yes b r e))
 
 -- ---- the header: m, z and d are what code found for the mark, the zero field and d
 module _ (bytes : List ℕ) where
-  pub header_short : length bytes < 8 → Err (File (length bytes)) ≡ verdict_of (read_header bytes)
+  pub header_short : length bytes < 8 → Err (File (length bytes)) ≡ read_header bytes
   unfolding read_header
-  header_short h = ap verdict_of (stop _ _ _ (lt-leb 8 (length bytes) h))
+  header_short h = stop _ _ _ (lt-leb 8 (length bytes) h)
 
   module _ (there : 8 ≤ length bytes) (m : ℕ) (em : m ≡ u32_at bytes 0) where
-    pub mark_wrong : (m ≡ 0x3143_5454 → ⊥) → Err (File 0) ≡ verdict_of (read_header bytes)
+    pub mark_wrong : (m ≡ 0x3143_5454 → ⊥) → Err (File 0) ≡ read_header bytes
     unfolding read_header number_at
-    mark_wrong h = ap verdict_of (pass _ _ _ _ (leb_yes 8 (length bytes) there) (stop _ _ _ (eqb_no (u32_at bytes 0) (u32_at mark 0) (λ e. h (em ∙ e)))))
+    mark_wrong h = pass _ _ _ _ (leb_yes 8 (length bytes) there) (stop _ _ _ (eqb_no (u32_at bytes 0) (u32_at mark 0) (λ e. h (em ∙ e))))
 
     module _ (right : m ≡ 0x3143_5454) (z : ℕ) (ez : z ≡ u16_at bytes 6) where
-      pub zero_wrong : (z ≡ 0 → ⊥) → Err (File 6) ≡ verdict_of (read_header bytes)
+      pub zero_wrong : (z ≡ 0 → ⊥) → Err (File 6) ≡ read_header bytes
       unfolding read_header number_at
       zero_wrong h =
-          ap verdict_of (pass _ _ _ _ (leb_yes 8 (length bytes) there)
+          pass _ _ _ _ (leb_yes 8 (length bytes) there)
           (pass _ _ _ _ (eqb_yes (u32_at bytes 0) (u32_at mark 0) (sym em ∙ right))
-          (stop _ _ _ (eqb_no (u16_at bytes 6) 0 (λ e. h (ez ∙ e))))))
+          (stop _ _ _ (eqb_no (u16_at bytes 6) 0 (λ e. h (ez ∙ e)))))
 
       module _ (clear : z ≡ 0) (d : ℕ) (ed : d ≡ u16_at bytes 4) (b : Bool) (eb : b ≡ within most_axes d) where
         within_told : b ≡ within most_axes (u16_at bytes 4)
         within_told = eb ∙ ap (within most_axes) ed
 
-        pub axes_wrong : not b ≡ true → Err Axes ≡ verdict_of (read_header bytes)
+        pub axes_wrong : not b ≡ true → Err Axes ≡ read_header bytes
         unfolding read_header number_at
         axes_wrong h =
-            ap verdict_of (pass _ _ _ _ (leb_yes 8 (length bytes) there)
+            pass _ _ _ _ (leb_yes 8 (length bytes) there)
             (pass _ _ _ _ (eqb_yes (u32_at bytes 0) (u32_at mark 0) (sym em ∙ right))
             (pass _ _ _ _ (eqb_yes (u16_at bytes 6) 0 (sym ez ∙ clear))
-            (stop _ _ _ (sym within_told ∙ not_yes b h)))))
+            (stop _ _ _ (sym within_told ∙ not_yes b h))))
 
-        pub header_right : not b ≡ false → Ok tt ≡ verdict_of (read_header bytes)
+        pub header_right : not b ≡ false → Ok d ≡ read_header bytes
         unfolding read_header number_at
         header_right h =
-            ap verdict_of (pass _ _ _ _ (leb_yes 8 (length bytes) there)
+            pass _ _ _ _ (leb_yes 8 (length bytes) there)
             (pass _ _ _ _ (eqb_yes (u32_at bytes 0) (u32_at mark 0) (sym em ∙ right))
             (pass _ _ _ _ (eqb_yes (u16_at bytes 6) 0 (sym ez ∙ clear))
-            (pass _ _ _ _ (sym within_told ∙ not_no b h) refl))))
+            (pass _ _ _ _ (sym within_told ∙ not_no b h) (ap Ok ed))))
 
 -- ---- an entry: b, z and o are what code found for its sizes, its zero field and its offset
 module _ (bytes : List ℕ) (s : Shape) (k : ℕ) (b : Bool) (eb : b ≡ size_ok s k) where

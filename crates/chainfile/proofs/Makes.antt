@@ -51,9 +51,6 @@ module _ (s : Shape) (l : List ℕ) where
       d ∙ ap (λ (y : List ℕ). placed (8 + 12 * k) y u) g
       ∙ joins_more 12 (table_entry s) (entry_length s) 8 l k (8 + 12 * k) u e (omega arith) (omega arith)
 
-  pub table_done : (k : ℕ) (u : List ℕ) → u ≡ entered k → k ≤ s.d → s.d ≤ k → u ≡ entered s.d
-  table_done k u e a b = let z : k ≡ s.d = omega arith in e ∙ ap entered z
-
 -- ---- header, table and bodies: u, v and w are what the output holds after each
 module _ (s : Shape) (chain : List Float) (out : List ℕ) (long : length out ≡ file_length s) where
   room : length out ≡ 8 + 12 * s.d + 8 * entries_of s

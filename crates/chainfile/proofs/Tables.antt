@@ -1,5 +1,5 @@
 -- Header and table by what code finds of their parts. Assumes nothing.
-use mathlib.Core.Path.{◌≡◌, sym, ap, ◌∙◌}
+use mathlib.Core.Path.{◌≡◌, refl, sym, ap, ◌∙◌}
 use Prim.Native.Nat.{ℕ, suc, ◌+◌, ◌-◌, ◌*◌, ◌≤◌, ◌<◌}
 use native.Mathlib.Nat.{sub-zero, add-zero}
 use native.Mathlib.Numerals.{add-one}
@@ -14,9 +14,8 @@ use mir.Val.{Fits as Fits'}
 use Rattle.answers.specs.declared.Refusal.{Refusal}
 use Rattle.answers.specs.declared.Refusal.TheVariants.{File}
 use Rattle.std.specs.Prelude.{Ok, Err}
-use Rattle.answers.specs.Outcome.{bind, Answer, Check, ◌then◌, verdict_of}
-use Rattle.answers.proofs.Outcomes.{passed_ok}
-use Rattle.answers.proofs.Checks.{demand_yes, demand_no, verdict_passed, verdict_refused}
+use Rattle.answers.specs.Outcome.{Answer, Check, ◌then◌}
+use Rattle.answers.proofs.Checks.{demand_yes, demand_no, then_stops, then_passes, verdict_passed, verdict_refused}
 use Rattle.lists.specs.Lists.{tab}
 use Rattle.lists.specs.Slots.{offset, fit}
 use Rattle.lists.specs.Walks.{turning}
@@ -27,9 +26,8 @@ use Rattle.shape.specs.Limits.{most_axes, most_core}
 use Rattle.shape.specs.Shapes.{size_ok, core_size}
 use Rattle.shape.proofs.Shaped.{within_is}
 use Rattle.words.specs.Bytes.{u16_at}
-use Rattle.fileform.specs.declared.Read.{Read}
 use Rattle.fileform.specs.File.{entry_start, body_start}
-use Rattle.fileform.specs.Reading.{read_header, shape_with, shape_in, entry_ok, table_ok, read_table, read_contents, read_by}
+use Rattle.fileform.specs.Reading.{read_header, shape_with, shape_in, entry_ok, table_ok, read_table}
 use Rattle.fileform.proofs.Readers.{header_is, entry_is}
 
 -- ---- an array filled from the front
@@ -50,9 +48,6 @@ module _ (n : ℕ) (f : ℕ → ℕ) where
       ∙ ap (λ (i : ℕ). tab (suc k) f ++ replicate i 0) j
       ∙ ap (λ (l : List ℕ). l ++ replicate (n - suc k) 0) (tab_more k f)
       ∙ append_assoc (tab k f) (f k ∷ []) (replicate (n - suc k) 0)))
-
-  pub fit_done : (k d : ℕ) (u : List ℕ) → u ≡ fit 0 n (tab k f) → k ≤ d → d ≤ k → u ≡ fit 0 n (tab d f)
-  fit_done k d u e a b = let z : k ≡ d = omega arith in e ∙ ap (λ (i : ℕ). fit 0 n (tab i f)) z
 
 pub shape_made : (bytes : List ℕ) (d : ℕ) (l n r : List ℕ)
     → l ≡ fit 0 most_axes (tab d (λ (k : ℕ). u16_at bytes (entry_start k + 0))) → n ≡ fit 0 most_axes (tab d (λ (k : ℕ). u16_at bytes (entry_start k + 2))) → r ≡ fit 0 most_axes (tab d (λ (k : ℕ). u16_at bytes (entry_start k + 4)))
@@ -111,63 +106,34 @@ module _ (bytes : List ℕ) (s : Shape) where
   pub start_fits : (start k x : ℕ) → AtEntry start k → k < s.d → s.d ≤ most_axes → x ≤ 8 * most_core → Fits' w64 (start + x)
   start_fits start k x A lt few h = record { fits = omega (arith, A.small) }
 
--- ---- an answer by the verdict of a check before it
-module _ (c : Check) (o : Answer Shape) (v : Check) (e : v ≡ c) (x : Read) where
-  pub read_stops : (r : Refusal) → v ≡ Err r → x ≡ read_by (Err r) → x ≡ read_by (c then o)
-  read_stops r h g = g ∙ sym (ap (λ (d : Check). read_by (d then o)) (verdict_refused c v r e h))
-
-  pub read_passes : v ≡ Ok tt → x ≡ read_by o → x ≡ read_by (c then o)
-  read_passes h g = g ∙ sym (ap (λ (d : Check). read_by (d then o)) (verdict_passed c v e h))
+pub ruleset entrywise = (entries_none, entries_stop, entry_sized, entries_more, entries_done, start_fits)
 
 -- ---- the table
 module _ (bytes : List ℕ) (d : ℕ) where
-  pub table_short : (x : Read) → length bytes < entry_start d → x ≡ read_by (Err (File (length bytes))) → x ≡ read_by (read_table bytes d)
+  pub table_short : length bytes < entry_start d → Err (File (length bytes)) ≡ read_table bytes d
   unfolding read_table
-  table_short x h g = g ∙ sym (ap (λ (c : Check). read_by (c then table_ok bytes (shape_in bytes d) then Ok (shape_in bytes d))) (demand_no _ _ (lt-leb (entry_start d) (length bytes) h)))
+  table_short h = sym (ap (λ (c : Check). c then table_ok bytes (shape_in bytes d) then Ok (shape_in bytes d)) (demand_no _ _ (lt-leb (entry_start d) (length bytes) h)))
 
   module _ (there : entry_start d ≤ length bytes) (s : Shape) (e : s ≡ shape_in bytes d) where
-    pub table_asks : d ≤ most_axes → (s.d ≤ most_axes) × (entry_start s.d ≤ length bytes)
+    pub table_axes : s.d ≡ d
     unfolding shape_in shape_with
-    table_asks h = let z : s.d ≡ d = ap (λ (x : Shape). x.d) e in (omega arith, omega arith)
+    table_axes = ap (λ (x : Shape). x.d) e
 
-    module _ (v : Check) (f : v ≡ table_ok bytes s) (x : Read) where
+    module _ (v : Check) (f : v ≡ table_ok bytes s) where
       found : read_table bytes d ≡ table_ok bytes s then Ok s
       unfolding read_table
       found =
           ap (λ (c : Check). c then table_ok bytes (shape_in bytes d) then Ok (shape_in bytes d)) (demand_yes _ _ (le-leb (entry_start d) (length bytes) there))
           ∙ ap (λ (t : Shape). table_ok bytes t then Ok t) (sym e)
 
-      pub table_stops : (r : Refusal) → v ≡ Err r → x ≡ read_by (Err r) → x ≡ read_by (read_table bytes d)
-      table_stops r h g = read_stops (table_ok bytes s) (Ok s) v f x r h g ∙ sym (ap read_by found)
+      pub table_stops : (r : Refusal) → v ≡ Err r → Err r ≡ read_table bytes d
+      table_stops r h = then_stops (table_ok bytes s) (Ok s) v f r h ∙ sym found
 
-      pub table_reads : v ≡ Ok tt → x ≡ read_by (Ok s) → x ≡ read_by (read_table bytes d)
-      table_reads h g = read_passes (table_ok bytes s) (Ok s) v f x h g ∙ sym (ap read_by found)
+      pub table_reads : v ≡ Ok tt → Ok s ≡ read_table bytes d
+      table_reads h = then_passes (table_ok bytes s) (Ok s) v f (Ok s) h refl ∙ sym found
 
-pub ruleset tabled = (table_short, table_asks, table_stops, table_reads)
+pub ruleset tabled = (table_short, table_axes, table_stops, table_reads)
 
--- ---- header and table
-module _ (bytes : List ℕ) (v : Check) (e : v ≡ verdict_of (read_header bytes)) where
-  pub contents_stop : (x : Read) (r : Refusal) → v ≡ Err r → x ≡ read_by (Err r) → x ≡ read_by (read_contents bytes)
-  unfolding read_contents
-  contents_stop x r h g = go (read_header bytes) (sym e ∙ h)
-    where
-      go : (o : Answer ℕ) → verdict_of o ≡ Err r → x ≡ read_by (bind o (read_table bytes))
-      go (Ok d) k = let z : ◌≡◌ {A = ℕ} 0 1 = cc in absurd (omega arith)
-      go (Err q) k = let z : q ≡ r = cc in g ∙ rw z
-
-  module _ (h : v ≡ Ok tt) where
-    pub header_long : 8 ≤ length bytes
-    header_long = let a = passed_ok (read_header bytes) (sym e ∙ h) in (header_is bytes a.0 a.1).there
-
-    pub header_few : (d : ℕ) → d ≡ u16_at bytes 4 → d ≤ most_axes
-    header_few d g =
-        let a = passed_ok (read_header bytes) (sym e ∙ h) in
-        let b = header_is bytes a.0 a.1 in
-        omega (arith, g, b.axes, (within_is most_axes a.0 b.few).1)
-
-    pub contents_read : (d : ℕ) → d ≡ u16_at bytes 4 → (x : Read) → x ≡ read_by (read_table bytes d) → x ≡ read_by (read_contents bytes)
-    unfolding read_contents
-    contents_read d g x f =
-        let a = passed_ok (read_header bytes) (sym e ∙ h) in
-        let b = header_is bytes a.0 a.1 in
-        f ∙ ap (λ (i : ℕ). read_by (read_table bytes i)) (g ∙ b.axes) ∙ sym (ap (λ (o : Answer ℕ). read_by (bind o (read_table bytes))) a.1)
+-- ---- the header that stands behind a table
+pub header_few : (bytes : List ℕ) (v : Answer ℕ) → v ≡ read_header bytes → (d : ℕ) → v ≡ Ok d → d ≤ most_axes
+header_few bytes v e d h = (within_is most_axes d (header_is bytes d (sym e ∙ h)).few).1

@@ -1,6 +1,5 @@
 // What stands before the bodies of a chain file: the header and the table.
-ghost use Rattle.std.specs.Prelude.{◌≡◌, true, ℕ, ◌+◌, ◌*◌, ◌≤◌, ◌<◌, length, Ok, Err};
-ghost use Rattle.answers.specs.Outcome.{verdict_of};
+ghost use Rattle.std.specs.Prelude.{◌≡◌, true, ℕ, ◌+◌, ◌*◌, ◌≤◌, ◌<◌, length};
 ghost use Rattle.lists.specs.Lists.{tab};
 ghost use Rattle.lists.specs.Slots.{fit};
 ghost use Rattle.lists.specs.Walks.{turning};
@@ -8,41 +7,18 @@ ghost use Rattle.shape.specs.Limits.{most_axes, most_core};
 ghost use Rattle.shape.specs.Shapes.{size_ok, core_size};
 ghost use Rattle.words.specs.Bytes.{u16_at};
 ghost use Rattle.fileform.specs.File.{entry_start, body_start};
-ghost use Rattle.fileform.specs.Reading.{read_header, shape_in, entry_ok, table_ok, read_table, read_contents, read_by};
+ghost use Rattle.fileform.specs.Reading.{read_header, shape_in, entry_ok, table_ok, read_table, read_contents};
 
 use answers::Refusal;
-use fileform::Read;
-
-pub fn refused_read(r: Refusal) -> Read
-    ensures { result ≡ read_by (Err r) }
-{
-    let none = [0; shape::MOST_AXES];
-    Read {
-        verdict: Err(r),
-        shape: shape::Shape {
-            d: 0,
-            left: none,
-            n: none,
-            right: none,
-        },
-    }
-}
-
-pub fn read_as(s: shape::Shape) -> Read
-    ensures { result ≡ read_by (Ok s) }
-{
-    Read {
-        verdict: Ok(()),
-        shape: s,
-    }
-}
+use shape::Shape;
 
 // "TTC1", as the number in four bytes.
 const MARK: usize = 0x3143_5454;
 
-// Length, mark, zero field, d.
-pub fn header_ok(bytes: &[u8]) -> Result<(), Refusal>
-    ensures { result ≡ verdict_of (read_header bytes.now) }
+// Length, mark, zero field, then d, which it answers.
+#[tactic(auto, using(crate::proofs::Headers::headed))]
+pub fn header_ok(bytes: &[u8]) -> Result<usize, Refusal>
+    ensures { result ≡ read_header bytes.now }
 {
     if bytes.len() < 8 {
         return Err(Refusal::File(bytes.len()));
@@ -53,39 +29,41 @@ pub fn header_ok(bytes: &[u8]) -> Result<(), Refusal>
     if words::u16_at(bytes, 6) != 0 {
         return Err(Refusal::File(6));
     }
-    if !shape::within(shape::MOST_AXES, words::u16_at(bytes, 4)) {
+    let d = words::u16_at(bytes, 4);
+    if !shape::within(shape::MOST_AXES, d) {
         return Err(Refusal::Axes);
     }
-    Ok(())
+    Ok(d)
 }
 
 // The field at `at` of each of d entries.
+#[tactic(auto, using(crate::proofs::Tables::fit_none, crate::proofs::Tables::fit_more))]
 fn sizes_at(bytes: &[u8], d: usize, at: usize) -> [usize; shape::MOST_AXES]
     requires { (d ≤ most_axes) × (entry_start d ≤ length bytes.now) × (at ≤ 10) }
     ensures { result ≡ fit 0 most_axes (tab d (λ (k : ℕ). u16_at bytes.now (entry_start k + at))) }
 {
     let mut sizes = [0; shape::MOST_AXES];
-    let mut k = 0;
-    while k < d {
+    for k in 0..d {
         sizes[k] = words::u16_at(bytes, 8 + 12 * k + at);
-        k += 1;
     }
     sizes
 }
 
 // The shape that a table of d entries gives.
-fn shape_in(bytes: &[u8], d: usize) -> shape::Shape
+#[tactic(auto, using(crate::proofs::Tables::shape_made))]
+fn shape_in(bytes: &[u8], d: usize) -> Shape
     requires { (d ≤ most_axes) × (entry_start d ≤ length bytes.now) }
     ensures { result ≡ shape_in bytes.now d }
 {
     let left = sizes_at(bytes, d, 0);
     let n = sizes_at(bytes, d, 2);
     let right = sizes_at(bytes, d, 4);
-    shape::Shape { d, left, n, right }
+    Shape { d, left, n, right }
 }
 
 // Entry k: sizes, zero, offset. `start` is where the body of core k belongs.
-fn entry_ok(bytes: &[u8], s: shape::Shape, k: usize, start: usize) -> Result<(), Refusal>
+#[tactic(auto, using(crate::proofs::Headers::entered))]
+fn entry_ok(bytes: &[u8], s: Shape, k: usize, start: usize) -> Result<(), Refusal>
     requires { (k < most_axes) × (entry_start k + 12 ≤ length bytes.now) × (start ≡ body_start s k) }
     ensures { result ≡ entry_ok bytes.now s k }
 {
@@ -103,7 +81,8 @@ fn entry_ok(bytes: &[u8], s: shape::Shape, k: usize, start: usize) -> Result<(),
 }
 
 // How many bytes the body of core k has.
-fn body_size(s: shape::Shape, k: usize) -> usize
+#[tactic(auto, using(crate::proofs::Headers::bodies))]
+fn body_size(s: Shape, k: usize) -> usize
     requires { (k < most_axes) × (size_ok s k ≡ true) }
     ensures { (result ≡ 8 * core_size s k) × (result ≤ 8 * most_core) }
 {
@@ -111,58 +90,48 @@ fn body_size(s: shape::Shape, k: usize) -> usize
 }
 
 // Entry by entry.
-fn entries_ok(bytes: &[u8], s: shape::Shape) -> Result<(), Refusal>
+#[tactic(auto, using(crate::proofs::Tables::entrywise))]
+fn entries_ok(bytes: &[u8], s: Shape) -> Result<(), Refusal>
     requires { (s.d ≤ most_axes) × (entry_start s.d ≤ length bytes.now) }
     ensures { result ≡ (turning s.d 0 (λ (k : ℕ) _. entry_ok bytes.now s k) tt) }
 {
     let mut start = 8 + 12 * s.d;
-    let mut k = 0;
-    while k < s.d {
-        let ok = entry_ok(bytes, s, k, start);
-        if let Err(r) = ok {
-            return Err(r);
-        }
+    for k in 0..s.d {
+        entry_ok(bytes, s, k, start)?;
         start += body_size(s, k);
-        k += 1;
     }
     Ok(())
 }
 
 // Entries, then bonds.
-fn table_ok(bytes: &[u8], s: shape::Shape) -> Result<(), Refusal>
+#[tactic(auto, unfolding(fileform::specs::Reading::table_ok))]
+fn table_ok(bytes: &[u8], s: Shape) -> Result<(), Refusal>
     requires { (s.d ≤ most_axes) × (entry_start s.d ≤ length bytes.now) }
     ensures { result ≡ table_ok bytes.now s }
 {
-    let entries = entries_ok(bytes, s);
-    if let Err(r) = entries {
-        return Err(r);
-    }
+    entries_ok(bytes, s)?;
     s.check()
 }
 
 // The table of d entries.
-fn read_table(bytes: &[u8], d: usize) -> Read
+#[tactic(auto, using(crate::proofs::Tables::tabled))]
+fn read_table(bytes: &[u8], d: usize) -> Result<Shape, Refusal>
     requires { d ≤ most_axes }
-    ensures { result ≡ read_by (read_table bytes.now d) }
+    ensures { result ≡ read_table bytes.now d }
 {
     if bytes.len() < 8 + 12 * d {
-        return refused_read(Refusal::File(bytes.len()));
+        return Err(Refusal::File(bytes.len()));
     }
     let s = shape_in(bytes, d);
-    let ok = table_ok(bytes, s);
-    if let Err(r) = ok {
-        return refused_read(r);
-    }
-    read_as(s)
+    table_ok(bytes, s)?;
+    Ok(s)
 }
 
 // Header and table: the contents, bodies aside.
-pub fn read_contents(bytes: &[u8]) -> Read
-    ensures { result ≡ read_by (read_contents bytes.now) }
+#[tactic(auto, using(crate::proofs::Tables::header_few), unfolding(fileform::specs::Reading::read_contents))]
+pub fn read_contents(bytes: &[u8]) -> Result<Shape, Refusal>
+    ensures { result ≡ read_contents bytes.now }
 {
-    let ok = header_ok(bytes);
-    if let Err(r) = ok {
-        return refused_read(r);
-    }
-    read_table(bytes, words::u16_at(bytes, 4))
+    let d = header_ok(bytes)?;
+    read_table(bytes, d)
 }

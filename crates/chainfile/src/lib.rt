@@ -10,13 +10,13 @@ ghost use Rattle.shape.specs.Shapes.{entries_of};
 ghost use Rattle.shape.specs.Sizes.{SizesWithin};
 ghost use Rattle.fileform.specs.Calls.{numbers_ok};
 ghost use Rattle.fileform.specs.Writing.{write_lent, write_ok, write_call};
-ghost use Rattle.fileform.specs.Reading.{lengths_ok, read_by, read_ok, read_call};
+ghost use Rattle.fileform.specs.Reading.{lengths_ok, read_ok, read_call};
 
 use answers::Refusal;
-use fileform::Read;
 use shape::Shape;
 
 // The file's length, then the room.
+#[tactic(auto, using(crate::proofs::Accepts::lengths_found))]
 fn lengths_ok(s: Shape, bytes: usize, room: usize) -> Result<(), Refusal>
     requires { SizesWithin s }
     ensures { result ≡ lengths_ok s bytes room }
@@ -32,42 +32,28 @@ fn lengths_ok(s: Shape, bytes: usize, room: usize) -> Result<(), Refusal>
 }
 
 // Every check of reading, with room for so many numbers.
-pub fn read_ok(bytes: &[u8], room: usize) -> Read
-    ensures { result ≡ read_by (read_ok bytes.now room) }
+#[tactic(auto, using(crate::proofs::Accepts::contents_sized, crate::proofs::Accepts::found_long), unfolding(fileform::specs::Reading::read_ok))]
+pub fn read_ok(bytes: &[u8], room: usize) -> Result<Shape, Refusal>
+    ensures { result ≡ read_ok bytes.now room }
 {
-    let found = contents::read_contents(bytes);
-    let told = found.verdict;
-    if let Err(r) = told {
-        return contents::refused_read(r);
-    }
-    let s = found.shape;
-    let lent = lengths_ok(s, bytes.len(), room);
-    if let Err(r) = lent {
-        return contents::refused_read(r);
-    }
-    let ok = body::numbers_ok(bytes, s);
-    if let Err(r) = ok {
-        return contents::refused_read(r);
-    }
-    contents::read_as(s)
+    let s = contents::read_contents(bytes)?;
+    lengths_ok(s, bytes.len(), room)?;
+    body::numbers_ok(bytes, s)?;
+    Ok(s)
 }
 
 // Reading a chain file: the shape that its table gives, and its numbers at the front of out, +0 behind them.
-pub fn read_chain(bytes: &[u8], out: &mut [f64]) -> Read
+pub fn read_chain(bytes: &[u8], out: &mut [f64]) -> Result<Shape, Refusal>
     ensures { (result ≡ (read_call bytes.now out.old).result)
         × (out.new ≡ (read_call bytes.now out.old).out) }
 {
-    let found = read_ok(bytes, out.len());
-    let told = found.verdict;
-    if let Err(r) = told {
-        return contents::refused_read(r);
-    }
-    let s = found.shape;
+    let s = read_ok(bytes, out.len())?;
     body::take_numbers(bytes, s, out);
-    contents::read_as(s)
+    Ok(s)
 }
 
 // The chain's length, then the output's.
+#[tactic(auto, using(crate::proofs::Accepts::lengths_lent), unfolding(fileform::specs::Writing::write_lent))]
 fn write_lent(s: Shape, chain: usize, out: usize) -> Result<(), Refusal>
     requires { SizesWithin s }
     ensures { result ≡ write_lent s chain out }
@@ -83,31 +69,26 @@ fn write_lent(s: Shape, chain: usize, out: usize) -> Result<(), Refusal>
 }
 
 // The first core with a number that isn't finite.
+#[tactic(auto, using(crate::proofs::Bodies::cores_found), unfolding(shape::specs::Cores::core_at))]
 fn write_finite(s: Shape, chain: &[f64]) -> Result<(), Refusal>
     requires sizes_within { SizesWithin s }
     requires s_in_bounds { entries_of s ≤ length chain.now }
     ensures { result ≡ numbers_ok s chain.now }
 {
-    let d = s.d;
     let core = s.first_not_finite_core(chain);
-    if core < d {
+    if core < s.d {
         return Err(Refusal::Number(core));
     }
     Ok(())
 }
 
 // Every check of writing, into an output of so many bytes.
+#[tactic(auto, using(shape::proofs::Shaped::fits_sizes, crate::proofs::Makes::lengths_passed), unfolding(fileform::specs::Writing::write_ok))]
 fn write_ok(s: Shape, chain: &[f64], out: usize) -> Result<(), Refusal>
     ensures { result ≡ write_ok s chain.now out }
 {
-    let shaped = s.check();
-    if let Err(r) = shaped {
-        return Err(r);
-    }
-    let lent = write_lent(s, chain.len(), out);
-    if let Err(r) = lent {
-        return Err(r);
-    }
+    s.check()?;
+    write_lent(s, chain.len(), out)?;
     write_finite(s, chain)
 }
 
@@ -116,10 +97,7 @@ pub fn write_chain(s: Shape, chain: &[f64], out: &mut [u8]) -> Result<(), Refusa
     ensures { (result ≡ (write_call s chain.now out.old).result)
         × (out.new ≡ (write_call s chain.now out.old).out) }
 {
-    let ok = write_ok(s, chain, out.len());
-    if let Err(r) = ok {
-        return Err(r);
-    }
+    write_ok(s, chain, out.len())?;
     making::put_file(s, chain, out);
     Ok(())
 }

@@ -8,7 +8,10 @@ ghost use Rattle.words.specs.Placed.{placed};
 ghost use Rattle.fileform.specs.File.{entry_start, body_start, file_length, header, table_entry, file_of};
 ghost use Rattle.fileform.specs.Calls.{numbers_ok};
 
+use shape::Shape;
+
 // The mark, d and zero.
+#[tactic(auto, using(crate::proofs::Makes::header_made))]
 fn header_bytes(d: usize) -> [u8; 8]
     ensures { result ≡ header d }
 {
@@ -17,7 +20,8 @@ fn header_bytes(d: usize) -> [u8; 8]
 }
 
 // Entry k, whose body belongs at `start`.
-fn entry_bytes(s: shape::Shape, k: usize, start: usize) -> [u8; 12]
+#[tactic(auto, using(crate::proofs::Makes::entry_made))]
+fn entry_bytes(s: Shape, k: usize, start: usize) -> [u8; 12]
     requires { (k < most_axes) × (start ≡ body_start s k) }
     ensures { result ≡ table_entry s k }
 {
@@ -31,22 +35,21 @@ fn entry_bytes(s: shape::Shape, k: usize, start: usize) -> [u8; 12]
 }
 
 // The table, behind the header.
-fn put_table(s: shape::Shape, out: &mut [u8])
+#[tactic(auto, using(crate::proofs::Bodies::bodywise, crate::proofs::Makes::table_none))]
+fn put_table(s: Shape, out: &mut [u8])
     requires sizes_within { SizesWithin s }
     requires d_in_bounds { entry_start s.d ≤ length out.old }
     ensures { out.new ≡ placed 8 (joined s.d (table_entry s)) out.old }
 {
     let mut start = 8 + 12 * s.d;
-    let mut k = 0;
-    while k < s.d {
+    for k in 0..s.d {
         words::put(&entry_bytes(s, k, start), out, 8 + 12 * k);
         start += 8 * s.core_size(k);
-        k += 1;
     }
 }
 
 // Header, table and bodies.
-pub fn put_file(s: shape::Shape, chain: &[f64], out: &mut [u8])
+pub fn put_file(s: Shape, chain: &[f64], out: &mut [u8])
     requires sizes_within { SizesWithin s }
     requires chain_len { (length chain.now ≡ entries_of s) × (length out.old ≡ file_length s) × (numbers_ok s chain.now ≡ Ok tt) }
     ensures { out.new ≡ file_of s chain.now }

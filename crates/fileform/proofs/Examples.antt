@@ -6,7 +6,7 @@ use lib.ListN.{replicate, take, set}
 use lib.Ieee.{Float, nan, binary64, of_bits, to_bits}
 use Rattle.answers.specs.declared.Refusal.TheVariants.{Axes, Size, Ranks, Length, Number, File}
 use Rattle.std.specs.Prelude.{Ok, Err}
-use Rattle.answers.specs.Outcome.{demand, demand_each, Check}
+use Rattle.answers.specs.Outcome.{demand, demand_each, Answer, Check}
 use Rattle.numbers.specs.Arithmetic.{zero64, one64}
 use Rattle.lists.specs.Lists.{listed, flat}
 use Rattle.lists.specs.Slots.{offset, slot, fit}
@@ -14,7 +14,6 @@ use Rattle.lists.specs.Walks.{turning}
 use Rattle.lists.specs.Floats.{all_finite}
 use Rattle.shape.specs.declared.Shape.{Shape}
 use Rattle.shape.specs.Shapes.{shape_ok, size_ok, bond_ok, core_size}
-use Rattle.fileform.specs.declared.Read.{Read}
 use Rattle.words.specs.Bytes.{bytes_of, number_at, numbers_from}
 use Rattle.fileform.specs.File.{file_of, header, table_entry, body_start, file_length}
 use Rattle.fileform.specs.Calls.{Exit, numbers_ok}
@@ -26,7 +25,7 @@ writes : Shape → List Float → ℕ → Exit Check ℕ
 unfolding write_call write_exit writing write_ok write_lent shape_ok demand demand_each size_ok bond_ok core_size offset file_length body_start numbers_ok slot all_finite file_of header table_entry bytes_of to_bits of_bits listed flat
 writes s chain room = write_call s chain (replicate room 7)
 
-reads : List ℕ → ℕ → Exit Read Float
+reads : List ℕ → ℕ → Exit (Answer Shape) Float
 unfolding read_call read_exit reading read_contents read_header read_table table_ok shape_with shape_in entry_ok turning
     shape_ok demand demand_each size_ok bond_ok core_size offset file_length body_start lengths_ok
     read_numbers numbers_in numbers_from number_at of_bits numbers_ok slot all_finite listed fit
@@ -55,7 +54,7 @@ written : writes one numbers 52 ≡ record { result = Ok tt; out = file }
 unfolding writes
 written = refl
 
-back : reads file 5 ≡ record { result = record { verdict = Ok tt; shape = trimmed one }; out = numbers ++ (zero64 ∷ []) }
+back : reads file 5 ≡ record { result = Ok (trimmed one); out = numbers ++ (zero64 ∷ []) }
 unfolding reads trimmed
 back = refl
 
@@ -86,7 +85,7 @@ read_cases =
     ∷ (set (set file 26 0xf0) 27 0x7f, 4)
     ∷ []
 
-read_refusals : map (λ (c : List ℕ × ℕ). (reads c.0 c.1).result.verdict) read_cases
+read_refusals : map (λ (c : List ℕ × ℕ). (reads c.0 c.1).result) read_cases
     ≡ map Err (File 7 ∷ File 0 ∷ File 6 ∷ Axes ∷ Axes ∷ File 19 ∷ Size 0 ∷ File 14 ∷ File 16 ∷ Ranks 0 ∷ File 51 ∷ File 53 ∷ Length 1 ∷ Number 0 ∷ [])
 unfolding reads read_cases
 read_refusals = refl
@@ -104,7 +103,7 @@ faults =
     let header = set axes 6 1 in
     number ∷ long ∷ bond ∷ place ∷ clear ∷ size ∷ axes ∷ header ∷ set header 0 0 ∷ []
 
-first_refusals : map (λ (bytes : List ℕ). (reads bytes 3).result.verdict) faults
+first_refusals : map (λ (bytes : List ℕ). (reads bytes 3).result) faults
     ≡ map Err (Length 1 ∷ File 53 ∷ Ranks 0 ∷ File 16 ∷ File 14 ∷ Size 0 ∷ Axes ∷ File 6 ∷ File 0 ∷ [])
 unfolding reads faults
 first_refusals = refl

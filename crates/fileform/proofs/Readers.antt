@@ -13,7 +13,7 @@ use lib.Seq.{ext_get_or}
 use Rattle.answers.specs.declared.Refusal.TheVariants.{File}
 use Rattle.std.specs.Prelude.{Ok, Err}
 use Rattle.answers.specs.Outcome.{bind, Answer, ◌then◌, demand}
-use Rattle.answers.proofs.Outcomes.{ok_inj, bind_ok}
+use Rattle.answers.proofs.Outcomes.{ok_inj, ok_err, bind_ok}
 use Rattle.answers.proofs.Checks.{demand_yes, demand_is, then_is, then_skip}
 use Rattle.numbers.specs.Arithmetic.{zero64}
 use Rattle.lists.specs.Lists.{tab}
@@ -24,7 +24,6 @@ use Rattle.lists.proofs.Tables.{listed_same, length_tab, get_or_tab_lem}
 use Rattle.shape.specs.declared.Shape.{Shape}
 use Rattle.shape.specs.Limits.{most_axes, within}
 use Rattle.shape.specs.Shapes.{left_of, points_of, right_of, size_ok, entries_of}
-use Rattle.fileform.specs.declared.Read.{Read}
 use Rattle.words.specs.Bytes.{number_at, u16_at, u32_at, f64_at, numbers_from}
 use Rattle.fileform.specs.File.{entry_start, body_start, file_length, mark}
 use Rattle.fileform.specs.Calls.{Exit, numbers_ok}
@@ -287,13 +286,13 @@ module _ (bytes : List ℕ) (out : List Float) where
 
 -- ---- an accepted call, and what it leaves
 -- what reading leaves where it answers c
-abbrev pub read_as : List Float → Chain → Exit Read Float
-read_as out c = record { result = record { verdict = Ok tt; shape = c.shape }; out = fit zero64 (length out) c.numbers }
+abbrev pub read_as : List Float → Chain → Exit (Answer Shape) Float
+read_as out c = record { result = Ok c.shape; out = fit zero64 (length out) c.numbers }
 
-pub read_fits : (bytes : List ℕ) (out : List Float) → (read_call bytes out).result.verdict ≡ Ok tt → (c : Chain) × Accepted bytes out c × (read_call bytes out ≡ read_as out c)
+pub read_fits : (bytes : List ℕ) (out : List Float) (s : Shape) → (read_call bytes out).result ≡ Ok s → (c : Chain) × Accepted bytes out c × (c.shape ≡ s) × (read_call bytes out ≡ read_as out c)
 unfolding read_call read_exit
-read_fits bytes out h = go (reading bytes out) refl h
+read_fits bytes out s h = go (reading bytes out) refl h
   where
-    go : (o : Answer Chain) → reading bytes out ≡ o → (read_exit out o).result.verdict ≡ Ok tt → (c : Chain) × Accepted bytes out c × (read_exit out (reading bytes out) ≡ read_as out c)
-    go (Ok c) e f = (c, reading_is bytes out c e, ap (read_exit out) e)
-    go (Err r) e f = let z : ◌≡◌ {A = ℕ} 0 1 = cc in absurd (omega arith)
+    go : (o : Answer Chain) → reading bytes out ≡ o → (read_exit out o).result ≡ Ok s → (c : Chain) × Accepted bytes out c × (c.shape ≡ s) × (read_exit out (reading bytes out) ≡ read_as out c)
+    go (Ok c) e f = (c, reading_is bytes out c e, ok_inj f, ap (read_exit out) e)
+    go (Err r) e f = absurd (ok_err (sym f))

@@ -2,6 +2,7 @@
 use mathlib.Core.Path.{◌≡◌, refl, sym, ap, ◌∙◌, subst}
 use Prim.Native.Nat.{ℕ, suc, ◌+◌, ◌*◌, ◌≤◌, ◌<◌}
 use native.Mathlib.Omega.{arith}
+use mathlib.Core.Bool.{true≢false}
 use mathlib.Core.List.{List}
 use mathlib.Core.Logic.{◌↔◌}
 use lib.ListN.{length, take, drop, replicate, length-replicate}
@@ -9,20 +10,20 @@ use lib.Seq.{take_at, get_or-take, get_or-drop}
 use lib.Ieee.{Float, nan}
 use Rattle.answers.specs.declared.Refusal.{Refusal}
 use Rattle.std.specs.Prelude.{Ok, Err}
+use Rattle.std.specs.Result.{IsOk, is_ok}
 use Rattle.answers.specs.Outcome.{Answer, Check}
-use Rattle.answers.proofs.Outcomes.{ok_inj}
+use Rattle.answers.proofs.Outcomes.{ok_inj, ok_err}
 use Rattle.numbers.specs.Arithmetic.{zero64}
 use Rattle.lists.specs.Slots.{offset, slot, fit}
 use Rattle.lists.specs.Floats.{at, zeros}
 use Rattle.lists.proofs.Slots.{offset_suc, offset_mono, fit_used}
 use Rattle.shape.specs.declared.Shape.{Shape}
 use Rattle.shape.specs.Shapes.{core_size, entries_of}
-use Rattle.fileform.specs.declared.Read.{Read}
 use Rattle.words.specs.Bytes.{f64_at}
 use Rattle.fileform.specs.File.{body_start, file_of}
 use Rattle.fileform.specs.Calls.{Exit}
 use Rattle.fileform.specs.Writing.{writing, write_exit, write_call}
-use Rattle.fileform.specs.Reading.{Chain, trimmed, reading, no_shape, read_exit, read_call}
+use Rattle.fileform.specs.Reading.{Chain, trimmed, reading, read_exit, read_call}
 use Rattle.words.proofs.Bytes.{AreBytes, AreDoubles}
 use Rattle.fileform.proofs.Fields.{file_bytes, file_holds, holds_file}
 use Rattle.fileform.proofs.Readers.{Accepted, reading_yes, reading_is, read_fits}
@@ -31,7 +32,7 @@ use Rattle.fileform.proofs.Writers.{sound_finite, writing_yes, write_fits}
 -- ---- 1. what was written is read again: the shape, and the chain bit for bit
 module _ (s : Shape) (chain : List Float) (doubles : AreDoubles chain) (out : List ℕ) (accepted : (write_call s chain out).result ≡ Ok tt) (room : List Float) where
   pub write_read : entries_of s ≤ length room
-      → read_call (write_call s chain out).out room ≡ record { result = record { verdict = Ok tt; shape = trimmed s }; out = fit zero64 (length room) chain }
+      → read_call (write_call s chain out).out room ≡ record { result = Ok (trimmed s); out = fit zero64 (length room) chain }
   unfolding read_call read_exit
   write_read enough =
       let w = write_fits s chain out accepted in
@@ -44,43 +45,38 @@ module _ (s : Shape) (chain : List Float) (doubles : AreDoubles chain) (out : Li
   unfolding fit
   write_read_exact exact =
       let ok = (write_fits s chain out accepted).0 in
-      ap (λ (x : Exit Read Float). x.out) (write_read (omega arith)) ∙ take_at chain (replicate (length room) zero64) (length room) (ok.whole ∙ sym exact)
+      ap (λ (x : Exit (Answer Shape) Float). x.out) (write_read (omega arith)) ∙ take_at chain (replicate (length room) zero64) (length room) (ok.whole ∙ sym exact)
 
 -- ---- 2. what was read is written as it stood, byte for byte
--- the shape and the numbers that a reading answered
-abbrev pub shape_read : List ℕ → List Float → Shape
-shape_read bytes out = (read_call bytes out).result.shape
+-- s is the shape that a reading answered, and these are its numbers
+module _ (bytes : List ℕ) (out : List Float) (s : Shape) where
+  abbrev pub chain_read : List Float
+  chain_read = take (entries_of s) (read_call bytes out).out
 
-abbrev pub chain_read : List ℕ → List Float → List Float
-chain_read bytes out = take (entries_of (shape_read bytes out)) (read_call bytes out).out
+  module _ (accepted : (read_call bytes out).result ≡ Ok s) where
+    read_accepted : Accepted bytes out (record { shape = s; numbers = chain_read })
+    read_accepted =
+        let r = read_fits bytes out s accepted in
+        let c = r.0 in
+        let numbers : chain_read ≡ c.numbers
+        = ap (λ (x : Exit (Answer Shape) Float). take (entries_of s) x.out) r.3
+        ∙ ap (λ (n : ℕ). take n (fit zero64 (length out) c.numbers)) (ap entries_of (sym r.2) ∙ sym r.1.sound.whole)
+        ∙ fit_used zero64 (length out) c.numbers (omega (arith, r.1.sound.whole, r.1.room)) in
+        subst (Accepted bytes out) (λ i. record { shape = r.2 i; numbers = (sym numbers) i }) r.1
 
-module _ (bytes : List ℕ) (out : List Float) (accepted : (read_call bytes out).result.verdict ≡ Ok tt) where
-  read_accepted : Accepted bytes out (record { shape = shape_read bytes out; numbers = chain_read bytes out })
-  read_accepted =
-      let r = read_fits bytes out accepted in
-      let c = r.0 in
-      let shape : shape_read bytes out ≡ c.shape = ap (λ (x : Exit Read Float). x.result.shape) r.2 in
-      let numbers : chain_read bytes out ≡ c.numbers
-      = ap (λ (x : Exit Read Float). take (entries_of x.result.shape) x.out) r.2
-      ∙ ap (λ (n : ℕ). take n (fit zero64 (length out) c.numbers)) (sym r.1.sound.whole)
-      ∙ fit_used zero64 (length out) c.numbers (omega (arith, r.1.sound.whole, r.1.room)) in
-      subst (Accepted bytes out) (sym (λ i. record { shape = shape i; numbers = numbers i })) r.1
+    pub read_trimmed : trimmed s ≡ s
+    read_trimmed = read_accepted.kept
 
-  pub read_trimmed : trimmed (shape_read bytes out) ≡ shape_read bytes out
-  read_trimmed = read_accepted.kept
+    module _ (are : AreBytes bytes) where
+      pub read_write : file_of s chain_read ≡ bytes
+      read_write = let a = read_accepted in holds_file bytes are s chain_read a.holds (sound_finite s chain_read a.sound)
 
-  module _ (are : AreBytes bytes) where
-    pub read_write : file_of (shape_read bytes out) (chain_read bytes out) ≡ bytes
-    read_write =
-        let a = read_accepted in
-        holds_file bytes are (shape_read bytes out) (chain_read bytes out) a.holds (sound_finite (shape_read bytes out) (chain_read bytes out) a.sound)
-
-    -- by the call, into an output of the bytes' length
-    pub read_write_call : (file : List ℕ) → length file ≡ length bytes → write_call (shape_read bytes out) (chain_read bytes out) file ≡ record { result = Ok tt; out = bytes }
-    unfolding write_call write_exit
-    read_write_call file long =
-        let a = read_accepted in
-        ap (write_exit file) (writing_yes (shape_read bytes out) (chain_read bytes out) file a.sound (long ∙ a.holds.long) ∙ ap Ok read_write)
+      -- by the call, into an output of the bytes' length
+      pub read_write_call : (file : List ℕ) → length file ≡ length bytes → write_call s chain_read file ≡ record { result = Ok tt; out = bytes }
+      unfolding write_call write_exit
+      read_write_call file long =
+          let a = read_accepted in
+          ap (write_exit file) (writing_yes s chain_read file a.sound (long ∙ a.holds.long) ∙ ap Ok read_write)
 
 -- ---- 3. reading accepts exactly what writing makes, where there is room for it
 pub record MadeFor (bytes : List ℕ) (out : List Float) : Type 0 where
@@ -91,20 +87,21 @@ pub record MadeFor (bytes : List ℕ) (out : List Float) : Type 0 where
   pub made : write_call shape chain file ≡ record { result = Ok tt; out = bytes }
   pub room : entries_of shape ≤ length out
 
-pub accepted_exactly : (bytes : List ℕ) → AreBytes bytes → (out : List Float) → ((read_call bytes out).result.verdict ≡ Ok tt) ↔ MadeFor bytes out
-accepted_exactly bytes are out = (there, back)
+pub accepted_exactly : (bytes : List ℕ) → AreBytes bytes → (out : List Float) → IsOk (read_call bytes out).result ↔ MadeFor bytes out
+accepted_exactly bytes are out = (there (read_call bytes out).result refl, back)
   where
-    there : (read_call bytes out).result.verdict ≡ Ok tt → MadeFor bytes out
-    there e =
-        let a = read_accepted bytes out e in
-        record { shape = shape_read bytes out; chain = chain_read bytes out; doubles = a.doubles; file = bytes; made = read_write_call bytes out e are bytes refl; room = a.room }
+    there : (a : Answer Shape) → (read_call bytes out).result ≡ a → IsOk a → MadeFor bytes out
+    there (Ok s) e h =
+        let a = read_accepted bytes out s e in
+        record { shape = s; chain = chain_read bytes out s; doubles = a.doubles; file = bytes; made = read_write_call bytes out s e are bytes refl; room = a.room }
+    there (Err r) e h = absurd (true≢false (sym h))
 
-    back : MadeFor bytes out → (read_call bytes out).result.verdict ≡ (Ok tt)
+    back : MadeFor bytes out → IsOk (read_call bytes out).result
     back m =
         let fits = ap (λ (x : Exit Check ℕ). x.result) m.made in
         let same = ap (λ (x : Exit Check ℕ). x.out) m.made in
-        ap (λ (b : List ℕ). (read_call b out).result.verdict) (sym same)
-        ∙ ap (λ (x : Exit Read Float). x.result.verdict) (write_read m.shape m.chain m.doubles m.file fits out m.room)
+        ap (λ (b : List ℕ). is_ok (read_call b out).result) (sym same)
+        ∙ ap (λ (x : Exit (Answer Shape) Float). is_ok x.result) (write_read m.shape m.chain m.doubles m.file fits out m.room)
 
 -- ---- 4. a file has one chain, and a chain one file
 pub one_chain : (s t : Shape) (l m : List Float) → AreDoubles l → AreDoubles m → (o p : List ℕ) → (write_call s l o).result ≡ Ok tt → (write_call t m p).result ≡ Ok tt
@@ -148,13 +145,13 @@ unfolding write_call write_exit
 write_refused s l o r h = go (writing s l o) h
   where
     go : (a : Answer (List ℕ)) → (write_exit o a).result ≡ Err r → (write_exit o a).out ≡ o
-    go (Ok file) e = let z : ◌≡◌ {A = ℕ} 0 1 = cc in absurd (omega arith)
+    go (Ok file) e = absurd (ok_err e)
     go (Err x) e = refl
 
-pub read_refused : (bytes : List ℕ) (out : List Float) (r : Refusal) → (read_call bytes out).result.verdict ≡ Err r → read_call bytes out ≡ record { result = record { verdict = Err r; shape = no_shape }; out = out }
+pub read_refused : (bytes : List ℕ) (out : List Float) (r : Refusal) → (read_call bytes out).result ≡ Err r → read_call bytes out ≡ record { result = Err r; out = out }
 unfolding read_call read_exit
 read_refused bytes out r h = go (reading bytes out) h
   where
-    go : (a : Answer Chain) → (read_exit out a).result.verdict ≡ Err r → read_exit out a ≡ record { result = record { verdict = Err r; shape = no_shape }; out = out }
-    go (Ok c) e = let z : ◌≡◌ {A = ℕ} 0 1 = cc in absurd (omega arith)
-    go (Err x) e = λ i. record { result = record { verdict = e i; shape = no_shape }; out = out }
+    go : (a : Answer Chain) → (read_exit out a).result ≡ Err r → read_exit out a ≡ record { result = Err r; out = out }
+    go (Ok c) e = absurd (ok_err e)
+    go (Err x) e = λ i. record { result = e i; out = out }

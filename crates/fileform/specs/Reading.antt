@@ -1,7 +1,7 @@
 -- Reading a chain file. The call is lent the file's bytes (position 0) and an output with room for at least N numbers (position 1).
 -- A read beyond the end counts as 0, but none decides anything: a header, a table and bodies are looked into only behind
 -- the check that they are there. Definitions only.
-use Rattle.std.specs.Prelude.{ℕ, ◌+◌, List, leb, eqb, length, replicate, Float, Ok, Err}
+use Rattle.std.specs.Prelude.{ℕ, ◌+◌, List, leb, eqb, length, Float, Ok, Err}
 use Rattle.answers.specs.declared.Refusal.TheVariants.{Axes, Size, Length, File}
 use Rattle.answers.specs.Outcome.{bind, Answer, Check, ◌then◌, demand}
 use Rattle.numbers.specs.Arithmetic.{zero64}
@@ -11,7 +11,6 @@ use Rattle.lists.specs.Walks.{turning}
 use Rattle.shape.specs.declared.Shape.{Shape}
 use Rattle.shape.specs.Limits.{most_axes, within}
 use Rattle.shape.specs.Shapes.{left_of, points_of, right_of, size_ok, chain_ok, entries_of}
-use Rattle.fileform.specs.declared.Read.{Read}
 use Rattle.words.specs.Bytes.{u16_at, u32_at, numbers_from}
 use Rattle.fileform.specs.File.{entry_start, body_start, file_length, mark}
 use Rattle.fileform.specs.Calls.{Exit, numbers_ok}
@@ -62,14 +61,6 @@ read_table bytes d =
 unfoldable pub read_contents : List ℕ → Answer Shape
 read_contents bytes = bind (read_header bytes) (read_table bytes)
 
--- a shape as code answers it
-abbrev pub no_shape : Shape
-no_shape = record { d = 0; left = replicate most_axes 0; n = replicate most_axes 0; right = replicate most_axes 0 }
-
-abbrev pub read_by : Answer Shape → Read
-read_by (Ok s) = record { verdict = Ok tt; shape = s }
-read_by (Err r) = record { verdict = Err r; shape = no_shape }
-
 -- ---- the lengths
 unfoldable pub lengths_ok : Shape → ℕ → ℕ → Check
 lengths_ok s bytes room =
@@ -103,11 +94,11 @@ reading bytes out =
     then bind (read_numbers bytes s) (λ chain.
     Ok record { shape = s; numbers = chain }))
 
--- accepted: the numbers at the front of the output, +0 in the rest; refused, the output is unwritten
-unfoldable pub read_exit : List Float → Answer Chain → Exit Read Float
-read_exit out (Ok c) = record { result = read_by (Ok c.shape); out = fit zero64 (length out) c.numbers }
-read_exit out (Err r) = record { result = read_by (Err r); out = out }
+-- accepted: the shape, and the numbers at the front of the output, +0 in the rest; refused, the output is unwritten
+unfoldable pub read_exit : List Float → Answer Chain → Exit (Answer Shape) Float
+read_exit out (Ok c) = record { result = Ok c.shape; out = fit zero64 (length out) c.numbers }
+read_exit out (Err r) = record { result = Err r; out = out }
 
 -- THE CALL
-unfoldable pub read_call : List ℕ → List Float → Exit Read Float
+unfoldable pub read_call : List ℕ → List Float → Exit (Answer Shape) Float
 read_call bytes out = read_exit out (reading bytes out)

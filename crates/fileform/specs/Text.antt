@@ -1,13 +1,12 @@
 -- The text that `ttlist` prints, in ASCII. Definitions only.
 use Rattle.std.specs.Prelude.{ℕ, zero, suc, ◌+◌, ◌/◌, ◌%◌, List, [], ◌∷◌, ◌++◌, ltb, length, Ok, Err}
 use Rattle.answers.specs.declared.Refusal.{Refusal}
-use Rattle.answers.specs.Outcome.{Check}
+use Rattle.answers.specs.Outcome.{Answer}
 use Rattle.answers.specs.Table.{number_of, place_of}
 use Rattle.lists.specs.Lists.{pick, joined}
 use Rattle.lists.specs.Floats.{zeros}
 use Rattle.shape.specs.declared.Shape.{Shape}
 use Rattle.shape.specs.Shapes.{left_of, points_of, right_of, entries_of}
-use Rattle.fileform.specs.declared.Read.{Read}
 use Rattle.fileform.specs.File.{body_start}
 use Rattle.fileform.specs.Reading.{read_call}
 
@@ -46,10 +45,6 @@ chain_text s = headline s ++ joined s.d (axis_line s)
 unfoldable pub refused_text : Refusal → List ℕ
 refused_text r = (114 ∷ 101 ∷ 102 ∷ 117 ∷ 115 ∷ 101 ∷ 100 ∷ 32 ∷ []) ++ (digits_of (number_of r) ++ ((32 ∷ 97 ∷ 116 ∷ 32 ∷ []) ++ field (place_of r) newline))
 
-abbrev pub verdict_text : Check → Shape → List ℕ
-verdict_text (Ok _) s = chain_text s
-verdict_text (Err r) s = refused_text r
-
 -- ---- a file: "too large" above so many bytes, else what reading it answers, with room for so many numbers
 abbrev pub most_bytes : ℕ
 most_bytes = 8392
@@ -60,8 +55,9 @@ room_for = 1049
 abbrev pub too_large : List ℕ
 too_large = 116 ∷ 111 ∷ 111 ∷ 32 ∷ 108 ∷ 97 ∷ 114 ∷ 103 ∷ 101 ∷ 10 ∷ []
 
-unfoldable pub read_text : Read → List ℕ
-read_text x = verdict_text x.verdict x.shape
+unfoldable pub read_text : Answer Shape → List ℕ
+read_text (Ok s) = chain_text s
+read_text (Err r) = refused_text r
 
 unfoldable pub listing_of : List ℕ → List ℕ
 listing_of bytes = pick (ltb most_bytes (length bytes)) too_large (read_text (read_call bytes (zeros room_for)).result)

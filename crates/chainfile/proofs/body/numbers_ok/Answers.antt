@@ -1,15 +1,9 @@
--- `chainfile::body::numbers_ok`: the first core that is not finite is the one refused, and none is found where all are (cores-found).
 use borrow.Author.Rules.{rules}
-use Rattle.chainfile.proofs.Bodies.{cores-found}
+use Rattle.lists.proofs.Demands.{fails_at}
+use Rattle.chainfile.proofs.Bodies.{body_finite, core_wrong}
 use Rattle.chainfile.proofs.body.numbers_ok.Goals as goal
 
-ruleset ways = (rules, cores-found)
-
-pub first_bad_core-core-requires : goal.first_bad_core-core-requires
-first_bad_core-core-requires c = search ways
-
-pub returns-then-core-d : goal.returns-then-core-d
-returns-then-core-d c = search ways
-
-pub returns : goal.returns
-returns c = search ways
+pub returns-then-not-all_finite : goal.returns-then-not-all_finite
+returns-then-not-all_finite c =
+    let finite = body_finite _ _ _ _ _ c.loop-k.invariant.start c.core_size-size.ensures c.loop-k-test.true _ c.all_finite.ensures in
+    core_wrong _ _ _ (fails_at _ _ _ _ c.loop-k.invariant.passed c.loop-k-test.true finite (search rules)) c.loop-k-test.true

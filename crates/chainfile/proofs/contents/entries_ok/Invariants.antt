@@ -1,10 +1,6 @@
 -- `chainfile::contents::entries_ok`: the invariant: the first k entries stand and the next body's start is known (AtEntry); the first that does not is the one refused (entries_stop).
-use Prim.Native.Nat.{◌-◌}
 use Rattle.chainfile.proofs.Tables.{AtEntry}
 use Rattle.chainfile.proofs.contents.entries_ok.Given as goal
 
 abbrev pub invariant-loop-k : goal.invariant-loop-k
 invariant-loop-k l = AtEntry l.bytes l.s l.start l.k
-
-abbrev pub decreases-loop-k : goal.decreases-loop-k
-decreases-loop-k l = l.s.d - l.k

@@ -1,7 +1,6 @@
 -- `chainfile::contents::sizes_at`: the invariant: the first k sizes are read, and zeros follow (fit_more).
-use Prim.Native.Nat.{ℕ, ◌≤◌, ◌-◌, ◌+◌}
+use Prim.Native.Nat.{ℕ, ◌+◌}
 use mathlib.Core.Path.{◌≡◌}
-use lib.ListN.{length}
 use Rattle.lists.specs.Lists.{tab}
 use Rattle.lists.specs.Slots.{fit}
 use Rattle.shape.specs.Limits.{most_axes}
@@ -10,7 +9,4 @@ use Rattle.fileform.specs.File.{entry_start}
 use Rattle.chainfile.proofs.contents.sizes_at.Given as goal
 
 abbrev pub invariant-loop-k : goal.invariant-loop-k
-invariant-loop-k l = (l.k ≤ l.d) × (length l.sizes ≡ most_axes) × (l.sizes ≡ fit 0 most_axes (tab l.k (λ (j : ℕ). u16_at l.bytes (entry_start j + l.at))))
-
-abbrev pub decreases-loop-k : goal.decreases-loop-k
-decreases-loop-k l = l.d - l.k
+invariant-loop-k l = l.sizes ≡ fit 0 most_axes (tab l.k (λ (j : ℕ). u16_at l.bytes (entry_start j + l.at)))
