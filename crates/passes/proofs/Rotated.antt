@@ -15,7 +15,7 @@ use Rattle.lists.specs.Floats.{at, all_finite, stored}
 use Rattle.lists.specs.Walks.{turning}
 use Rattle.lists.proofs.Keeps.{turning_keeps}
 use Rattle.lists.proofs.Pairs.{along_pairs}
-use Rattle.lists.proofs.Stages.{stored_staged, staged_on, staged_stop, staged_last, turning_start}
+use Rattle.lists.proofs.Stages.{stored_staged, staged_on, staged_last, stage_stop, turning_start}
 use Rattle.cutform.specs.Rotation.{tangent_of, slope_of, cosine_of, eye}
 use Rattle.cutform.proofs.Whole.{eye_length, eye_finite}
 use Rattle.pairform.specs.Columns.{turn_stored, dot, skipped}
@@ -31,8 +31,9 @@ module _ (m n p q : ℕ) (c s : Float) (a v a' v' : List Float) (ea : a' ≡ tur
   unfolding turned_svd
   opened = rw (← ea, ← ev, stored_staged a' r er)
 
-  pub turned_stop : (i : ℕ) (z : Svd) → r ≡ Err i → turned_svd m n p q c s (svd a v) ≡ staged (Err i) z
-  turned_stop i z h = opened ∙ staged_stop r a' (λ x. bind (stored v') (λ y. Ok (svd x y))) i z h
+  pub turned_stop : (i : ℕ) → r ≡ Err i → turned_svd m n p q c s (svd a v) ≡ Err i
+  unfolding staged
+  turned_stop i h = opened ∙ rw h
 
   pub turned_end : r ≡ Ok tt → (t : Stage) → t ≡ stage_of (stored v') → turned_svd m n p q c s (svd a v) ≡ staged t (svd a' v')
   turned_end h t et =
@@ -51,18 +52,18 @@ module _ (m n p q : ℕ) (a v ss : List Float) (quiet : Bool) (es : ss ≡ squar
   test : skipped (dot m a p q) (dot m a p p) (dot m a q q) ≡ b
   test = sym (eb ∙ rw (el, low, high))
 
-  pub rotate_skip : b ≡ true → rotate m n p q (passed (svd a v) quiet) ≡ staged (Ok tt) (passed (svd a v) quiet)
-  unfolding rotate pick staged
+  pub rotate_skip : b ≡ true → rotate m n p q (passed (svd a v) quiet) ≡ Ok (passed (svd a v) quiet)
+  unfolding rotate pick
   rotate_skip t = rw (test, t)
 
   pub rotate_go : b ≡ false → (x t c : Float)
       → x ≡ slope_of (at ss p) (at ss q) alpha → t ≡ tangent_of x → c ≡ cosine_of t
-      → (r : Stage) (e : Svd) → turned_svd m n p q c (times c t) (svd a v) ≡ staged r e
-      → rotate m n p q (passed (svd a v) quiet) ≡ staged r (passed e false)
+      → (o : Made Svd) → turned_svd m n p q c (times c t) (svd a v) ≡ o
+      → rotate m n p q (passed (svd a v) quiet) ≡ bind o (λ e. Ok (passed e false))
   unfolding rotate pick
-  rotate_go f x t c ex et ec r e d =
+  rotate_go f x t c ex et ec o d =
       let y : slope_of (dot m a p p) (dot m a q q) (dot m a p q) ≡ x = sym (ex ∙ rw (el, low, high)) in
-      rw (test, f, y, ← et, ← ec, d) (staged_last r e (λ z. passed z false))
+      rw (test, f, y, ← et, ← ec, d)
 
 -- ---- a row of a pass keeps the columns and the basis whole
 row_whole : (m n p : ℕ) (x y : Pass) → wholes.Whole m n x.svd → pass_row m n p x ≡ Ok y → wholes.Whole m n y.svd
@@ -81,26 +82,28 @@ held_first m n a v ss long fine ev es = record {
   kept = es;
 }
 
-module _ (m n : ℕ) (a v ss a' v' ss' : List Float) (H : Held m n a v ss) (es : ss' ≡ squares m n a') (r : Stage) (w : r ≡ Ok tt) where
+module _ (m n : ℕ) (a v ss a' v' ss' : List Float) (H : Held m n a v ss) (es : ss' ≡ squares m n a') where
   still : wholes.Whole m n (svd a v)
   still = record { columns_length = H.long; basis_length = H.wide; columns_finite = H.fine; basis_finite = H.basis_fine }
 
   held : wholes.Whole m n (svd a' v') → Held m n a' v' ss'
   held W = record { long = W.columns_length; wide = W.basis_length; fine = W.columns_finite; basis_fine = W.basis_finite; count = squares_length m n a' ss' es; kept = es }
 
-  pub rotate_held : (p q : ℕ) (b b' : Bool) → rotate m n p q (passed (svd a v) b) ≡ staged r (passed (svd a' v') b') → Held m n a' v' ss'
-  unfolding staged
-  rotate_held p q b b' e = held (wholes.rotate_whole m n p q (passed (svd a v) b) (passed (svd a' v') b') still (e ∙ rw w))
+  pub rotate_held : (p q : ℕ) (b b' : Bool) → rotate m n p q (passed (svd a v) b) ≡ Ok (passed (svd a' v') b') → Held m n a' v' ss'
+  rotate_held p q b b' e = held (wholes.rotate_whole m n p q (passed (svd a v) b) (passed (svd a' v') b') still e)
 
-  pub row_held : (p : ℕ) (b b' : Bool) → pass_row m n p (passed (svd a v) b) ≡ staged r (passed (svd a' v') b') → Held m n a' v' ss'
-  unfolding staged
-  row_held p b b' e = held (row_whole m n p (passed (svd a v) b) (passed (svd a' v') b') still (e ∙ rw w))
+  pub row_held : (p : ℕ) (b b' : Bool) → pass_row m n p (passed (svd a v) b) ≡ Ok (passed (svd a' v') b') → Held m n a' v' ss'
+  row_held p b b' e = held (row_whole m n p (passed (svd a v) b) (passed (svd a' v') b') still e)
 
-  pub pass_held : (b' : Bool) → pass m n (svd a v) ≡ staged r (passed (svd a' v') b') → Held m n a' v' ss'
-  unfolding staged
-  pass_held b' e = held (wholes.pass_whole m n (svd a v) (passed (svd a' v') b') still (e ∙ rw w))
+  pub pass_held : (b' : Bool) → pass m n (svd a v) ≡ Ok (passed (svd a' v') b') → Held m n a' v' ss'
+  pass_held b' e = held (wholes.pass_whole m n (svd a v) (passed (svd a' v') b') still e)
 
 -- ---- row by row
+-- a walk, by what is left of it: a turn that isn't finite is the answer
+pub walk_stop : {A : Type 0} (T : Made A) (hi i : ℕ) (f : ℕ → A → Made A) (a : A) → T ≡ turning (hi - i) i f a → i < hi → (x : ℕ) → f i a ≡ Err x → T ≡ Err x
+unfolding staged
+walk_stop T hi i f a e l x h = stage_stop T hi i f a e l (Err x) a h x a refl
+
 pub pass_rows : (m n : ℕ) (e : Svd) → pass m n e ≡ turning (n - 0) 0 (pass_row m n) (passed e true)
 unfolding pass pass_row
 pass_rows m n e = along_pairs n (λ (x : ℕ × ℕ). rotate m n x.0 x.1) (passed e true) ∙ turning_start n (pass_row m n) (passed e true)
@@ -111,26 +114,21 @@ module _ (T : Made Passes) (m n hi c : ℕ) (b : Bool) (e : Svd) (d : T ≡ pass
     left : hi - c ≡ suc (hi - (c + 1))
     left = omega arith
 
-    pub passes_quiet : b ≡ true → T ≡ staged (Ok tt) (made c e)
-    unfolding passes_from staged
+    pub passes_quiet : b ≡ true → T ≡ Ok (made c e)
+    unfolding passes_from
     passes_quiet h = d ∙ rw (left, h)
 
-    module _ (h : b ≡ false) (r : Stage) (x : Pass) (s : pass m n e ≡ staged r x) where
-      once : T ≡ bind (staged r x) (λ y. passes_from (hi - (c + 1)) y.quiet m n (suc c) y.svd)
-      unfolding passes_from
-      once = d ∙ rw (left, h, s)
+    pub passes_stop : b ≡ false → (i : ℕ) → pass m n e ≡ Err i → T ≡ Err i
+    unfolding passes_from
+    passes_stop h i s = d ∙ rw (left, h, s)
 
-      pub passes_stop : (i : ℕ) (w : Passes) → r ≡ Err i → T ≡ staged (Err i) w
-      unfolding staged
-      passes_stop i w t = once ∙ rw t
+    pub passes_more : b ≡ false → (x : Pass) → pass m n e ≡ Ok x → T ≡ passes_from (hi - (c + 1)) x.quiet m n (c + 1) x.svd
+    unfolding passes_from
+    passes_more h x s = d ∙ rw (left, h, s, add-one)
 
-      pub passes_more : r ≡ Ok tt → T ≡ passes_from (hi - (c + 1)) x.quiet m n (c + 1) x.svd
-      unfolding staged
-      passes_more t = once ∙ rw (t, add-one)
-
-  pub passes_done : hi ≤ c → T ≡ staged (Ok tt) (made c e)
-  unfolding passes_from staged
-  passes_done l = let z : hi - c ≡ 0 = omega arith in d ∙ rw z
+  pub passes_done : c ≤ hi → hi ≤ c → T ≡ Ok (made hi e)
+  unfolding passes_from
+  passes_done k l = let z : hi - c ≡ 0 = omega arith in let y : c ≡ hi = omega arith in d ∙ rw (z, y)
 
 pub passes_start : (m n : ℕ) (e : Svd) → orthogonalized m n e ≡ passes_from (most_passes - 0) false m n 0 e
 unfolding orthogonalized

@@ -16,7 +16,7 @@ use Rattle.columns.proofs.TwoColumns.{squares_at, squares_length, squared_again,
 use Rattle.pairform.specs.Passes.{svd, passed, pass, Passes, orthogonalized}
 use Rattle.passes.specs.Loops.{Held}
 use Rattle.std.specs.Prelude.{Ok}
-use Rattle.answers.specs.Outcome.{Made, staged}
+use Rattle.answers.specs.Outcome.{Made}
 use Rattle.passes.specs.declared.Plan.{Plan}
 use Rattle.passes.specs.Free.{rotate_free, pass_free, Squared, Beside, Planned, PlannedAt, by_plan}
 use Rattle.passes.proofs.Backward.{squares_fine, pass_same}
@@ -82,8 +82,7 @@ module _ (m n : ℕ) (a v ss a' v' ss' : List Float) (B : Beside m n a' v' ss') 
   pub now_held : Held m n a' v' ss'
   now_held = record { long = B.squared.long; wide = B.wide; fine = fa; basis_fine = fv; count = B.squared.count; kept = B.squared.kept }
 
-  pub pass_staged : Held m n a v ss → (b : Bool) → passed (svd a' v') b ≡ pass_free m n (passed (svd a v) true) → pass m n (svd a v) ≡ staged (Ok tt) (passed (svd a' v') b)
-  unfolding staged
+  pub pass_staged : Held m n a v ss → (b : Bool) → passed (svd a' v') b ≡ pass_free m n (passed (svd a v) true) → pass m n (svd a v) ≡ Ok (passed (svd a' v') b)
   pass_staged H b e = pass_same m n (svd a v) (passed (svd a' v') b) (H.long, H.wide) e (fa, fv)
 
 pub held_beside : (m n : ℕ) (a v ss : List Float) → Held m n a v ss → Beside m n a v ss

@@ -4,10 +4,9 @@
 #![tactic(auto)]
 
 pub mod careful;
-pub mod counted;
 
-ghost use Rattle.std.specs.Prelude.{◌≡◌, Bool, true, false, ◌&&◌, ◌+◌, ◌-◌, ◌*◌, ◌≤◌, ◌<◌, length, Ok};
-ghost use Rattle.answers.specs.Outcome.{staged};
+ghost use Rattle.std.specs.Prelude.{◌≡◌, Bool, true, false, ◌&&◌, ◌+◌, ◌-◌, ◌*◌, ◌≤◌, ◌<◌, length, Ok, IfSome};
+ghost use Rattle.answers.specs.Outcome.{outcome_of};
 ghost use Rattle.lists.specs.Lists.{iter};
 ghost use Rattle.lists.specs.Floats.{at, all_finite};
 ghost use Rattle.cutform.specs.Rotation.{eye};
@@ -173,8 +172,7 @@ fn spin(
     requires { Squared m n a.old ss.old × (p < q) × (q < n) × (w < n) }
     ensures { (a.new ≡ by_plan m n p q k a.old) × Squared m n a.new ss.new × (result ≡ dot m a.new p w) }
 {
-    let skip = k.skip;
-    if skip {
+    if k.skip {
         return columns::dot(a, m, n, p, w);
     }
     columns::turn(a, m, n, p, q, k.c, k.s);
@@ -189,11 +187,9 @@ fn turn_basis(v: &mut [f64], n: usize, p: usize, q: usize, k: Plan)
     requires { (length v.old ≡ n * n) × (p < q) × (q < n) }
     ensures { v.new ≡ by_plan n n p q k v.old }
 {
-    let skip = k.skip;
-    if skip {
-        return;
+    if !k.skip {
+        columns::turn(v, n, n, p, q, k.c, k.s);
     }
-    columns::turn(v, n, n, p, q, k.c, k.s);
 }
 
 // The column behind q, or q where it is the last.
@@ -416,10 +412,8 @@ fn last_rows(a: &mut [f64], v: &mut [f64], ss: &mut [f64], m: usize, n: usize, b
     ensures beside { Beside m n a.new v.new ss.new }
 {
     let mut quiet = begun.quiet;
-    let mut p = begun.p;
-    while p < n {
+    for p in begun.p..n {
         quiet = row(a, v, ss, m, n, p, quiet);
-        p += 1;
     }
     quiet
 }
@@ -434,49 +428,34 @@ fn pass(a: &mut [f64], v: &mut [f64], ss: &mut [f64], m: usize, n: usize) -> boo
     last_rows(a, v, ss, m, n, begun)
 }
 
-// Whether all numbers stayed finite, and how many passes were made.
-#[derive(Clone, Copy)]
-struct Quick {
-    fine: bool,
-    count: usize,
-}
-
 const MOST_PASSES: usize = 100;
 
 fn both_finite(v: &[f64], ss: &[f64]) -> bool
     ensures { result ≡ true → (all_finite v.now ≡ true) × (all_finite ss.now ≡ true) }
 {
-    if lists::all_finite(ss) {
-        return lists::all_finite(v);
-    }
-    false
+    lists::all_finite(ss) && lists::all_finite(v)
 }
 
-// At most 100 passes, a quiet one being the last, as long as all numbers are finite after each.
-fn quick_passes(a: &mut [f64], v: &mut [f64], ss: &mut [f64], m: usize, n: usize) -> Quick
+// At most 100 passes, a quiet one being the last: the passes made, as long as all numbers are finite after each.
+fn quick_passes(a: &mut [f64], v: &mut [f64], ss: &mut [f64], m: usize, n: usize) -> Option<usize>
     requires { Held m n a.old v.old ss.old }
-    ensures { result.fine ≡ true → (orthogonalized m n (svd a.old v.old)
-        ≡ staged (Ok tt) (made result.count (svd a.new v.new))) × (ss.new ≡ squares m n a.new) }
+    ensures { IfSome result (λ c. (orthogonalized m n (svd a.old v.old) ≡ Ok (made c (svd a.new v.new)))
+        × (ss.new ≡ squares m n a.new)) }
 {
-    let mut count: usize = 0;
     let mut quiet = false;
-    while count < MOST_PASSES {
+    for count in 0..MOST_PASSES {
         if quiet {
-            return Quick { fine: true, count };
+            return Some(count);
         }
         quiet = pass(a, v, ss, m, n);
         if !both_finite(v, ss) {
-            return Quick {
-                fine: false,
-                count: 0,
-            };
+            return None;
         }
-        count += 1;
     }
-    Quick { fine: true, count }
+    Some(MOST_PASSES)
 }
 
-// The same, and where a number isn't finite from the start again, with a look at each rotation; b keeps the columns for that.
+// The passes made; where a number isn't finite, all from the start again, with a look at each rotation; b keeps the columns for that.
 pub fn orthogonalize(
     a: &mut [f64],
     v: &mut [f64],
@@ -484,15 +463,14 @@ pub fn orthogonalize(
     b: &mut [f64],
     m: usize,
     n: usize,
-) -> counted::Passes
+) -> Result<usize, usize>
     requires { Held m n a.old v.old ss.old × (v.old ≡ eye n) × (length b.old ≡ n * m) }
     ensures { (orthogonalized m n (svd a.old v.old)
-        ≡ staged result.stage (made result.count (svd a.new v.new))) × (ss.new ≡ squares m n a.new) }
+        ≡ outcome_of result (λ c. made c (svd a.new v.new))) × (ss.new ≡ squares m n a.new) }
 {
     lists::copy(a, b);
-    let w = quick_passes(a, v, ss, m, n);
-    if w.fine {
-        return counted::passes_are(Ok(()), w.count);
+    if let Some(count) = quick_passes(a, v, ss, m, n) {
+        return Ok(count);
     }
     lists::copy(b, a);
     rotation::eye(v, n);

@@ -5,8 +5,8 @@ use Rattle.passes.proofs.spin.Goals as goal
 
 ruleset ways = (rules, by_none, by_turn, squared_spun)
 
-pub returns-then-skip : goal.returns-then-skip
-returns-then-skip c = search ways
+pub returns-then-k : goal.returns-then-k
+returns-then-k c = search ways
 
 pub returns : goal.returns
 returns c = search ways

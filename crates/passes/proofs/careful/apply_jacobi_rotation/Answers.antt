@@ -1,5 +1,7 @@
 -- `passes::careful::apply_jacobi_rotation`: columns and basis are turned and looked at (turned_stop, turned_end); elsewhere nothing changed, so the two columns' sums of squares tell.
 use native.Mathlib.Omega.{arith}
+use Rattle.std.proofs.lemmas.Result.{err_from_is_err_and}
+use Rattle.answers.specs.Outcome.{staged}
 use Rattle.columns.proofs.TwoColumns.{squares_length, turned_length, turned_elsewhere, turned_squares}
 use Rattle.passes.proofs.Rotated.{turned_stop, turned_end}
 use Rattle.passes.proofs.careful.apply_jacobi_rotation.Goals as goal
@@ -14,8 +16,8 @@ square_again-requires c = (
       _ _ _ _ _ _ c.turn.ensures _ c.requires.0.kept,
 )
 
-pub stored_squared-made-requires : goal.stored_squared-made-requires
-stored_squared-made-requires c = (
+pub stored_squared-requires : goal.stored_squared-requires
+stored_squared-requires c = (
   turned_length _ _ _ _ _ _ _ _ c.turn.ensures,
   omega (arith, c.requires.1, c.requires.2),
   c.requires.2,
@@ -25,14 +27,11 @@ stored_squared-made-requires c = (
   squares_length _ _ _ _ c.square_again.ensures,
 )
 
-pub returns-in-Err : goal.returns-in-Err
-returns-in-Err c = (
-  turned_stop _ _ _ _ _ _ _ _ _ _
-      c.turn.ensures
-      c.turn-2.ensures _
-      c.stored_squared-made.ensures _ _ c.in-Err.is,
-  c.square_again.ensures,
-)
+pub returns-in_err-stored_squared : goal.returns-in_err-stored_squared
+unfolding staged
+returns-in_err-stored_squared c =
+    let p = err_from_is_err_and c.from_residual.result c.from_residual.ensures.1 in
+    rw (p.1, p.2) (turned_stop _ _ _ _ _ _ _ _ _ _ c.turn.ensures c.turn-2.ensures _ c.stored_squared.ensures _ c.in_err-stored_squared.was, c.square_again.ensures)
 
 pub stored_but-requires : goal.stored_but-requires
 stored_but-requires c = (
@@ -47,6 +46,6 @@ pub returns : goal.returns
 returns c = (
   turned_end _ _ _ _ _ _ _ _ _ _
       c.turn.ensures c.turn-2.ensures _
-      c.stored_squared-made.ensures c.in_default.is _ c.stored_but.ensures,
+      c.stored_squared.ensures c.in_ok-stored_squared.was _ c.stored_but.ensures,
   c.square_again.ensures,
 )

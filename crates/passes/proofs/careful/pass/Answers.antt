@@ -1,70 +1,28 @@
-use Rattle.lists.proofs.Turns.{turns}
 use mathlib.Core.Path.{refl}
-use Rattle.passes.proofs.Rotated.{row_held, pass_rows}
-use Rattle.lists.proofs.Stages.{stage_more, stage_stop, stage_done}
+use Rattle.std.specs.Prelude.{Ok}
+use Rattle.std.proofs.lemmas.Result.{err_from_is_err_and}
+use Rattle.answers.specs.Outcome.{staged, outcome_of}
+use Rattle.lists.proofs.Stages.{stage_more, stage_done}
+use Rattle.passes.proofs.Rotated.{row_held, pass_rows, walk_stop}
 use Rattle.passes.proofs.careful.pass.Goals as goal
 
 pub loop-p-init : goal.loop-p-init
-loop-p-init c = (search turns, refl, refl, refl, c.requires, pass_rows _ _ _)
+loop-p-init c = record { held = c.requires; left = pass_rows _ _ _ }
 
-pub pass_row-made-requires : goal.pass_row-made-requires
-pass_row-made-requires c = search turns
-
-pub enum_known-stage : goal.enum_known-stage
-enum_known-stage c = search turns
-
-pub turn_is-requires : goal.turn_is-requires
-turn_is-requires c = search turns
-
-pub shape_of-a-in-Err : goal.shape_of-a-in-Err
-shape_of-a-in-Err c = search turns
-
-pub shape_of-v-in-Err : goal.shape_of-v-in-Err
-shape_of-v-in-Err c = search turns
-
-pub shape_of-ss-in-Err : goal.shape_of-ss-in-Err
-shape_of-ss-in-Err c = search turns
-
-pub returns-in-Err : goal.returns-in-Err
-returns-in-Err c = (
-  rw c.turn_is.ensures
-      (stage_stop _ _ _ _ _ c.loop-p.invariant.5 c.loop-p-test.true _ _ c.pass_row-made.ensures.0 _ _ c.in-Err.is),
-  c.pass_row-made.ensures.1,
-)
-
-pub enum_told-1 : goal.enum_told-1
-enum_told-1 c = search turns
-
-pub overflow_step-p : goal.overflow_step-p
-overflow_step-p c = search turns
-
-pub loop-p-smaller : goal.loop-p-smaller
-loop-p-smaller c = search turns
+pub returns-in_err-quiet : goal.returns-in_err-quiet
+unfolding staged outcome_of
+returns-in_err-quiet c =
+    let p = err_from_is_err_and c.from_residual.result c.from_residual.ensures.1 in
+    rw (p.1, p.2)
+    (walk_stop _ _ _ _ _ c.loop-p.invariant.left c.loop-p-test.true _ c.in_err-quiet.ensures.0, c.in_err-quiet.ensures.1)
 
 pub loop-p-preserved : goal.loop-p-preserved
-loop-p-preserved c = (
-  search turns,
-  search turns,
-  search turns,
-  search turns,
-  row_held _ _ _ _ _ _ _ _ c.loop-p.invariant.4 c.pass_row-made.ensures.1 _
-      c.in_default.is _ _ _ c.pass_row-made.ensures.0,
-  stage_more _ _ _ _ _ c.loop-p.invariant.5
-      c.loop-p-test.true _ _ c.pass_row-made.ensures.0
-      c.in_default.is,
-)
-
-pub turn_is-requires-2 : goal.turn_is-requires-2
-turn_is-requires-2 c = search turns
-
-pub shape_of-a : goal.shape_of-a
-shape_of-a c = search turns
-
-pub shape_of-v : goal.shape_of-v
-shape_of-v c = search turns
-
-pub shape_of-ss : goal.shape_of-ss
-shape_of-ss c = search turns
+unfolding staged outcome_of
+loop-p-preserved c = record {
+  held = row_held _ _ _ _ _ _ _ _ c.loop-p.invariant.held c.in_ok-quiet.ensures.1 _ _ _ c.in_ok-quiet.ensures.0;
+  left = stage_more _ _ _ _ _ c.loop-p.invariant.left c.loop-p-test.true (Ok tt) _ c.in_ok-quiet.ensures.0 refl;
+}
 
 pub returns : goal.returns
-returns c = (rw c.turn_is-2.ensures (stage_done _ _ _ _ _ c.loop-p.invariant.5 c.loop-p-test.false), c.loop-p.invariant.4.kept)
+unfolding staged outcome_of
+returns c = (stage_done _ _ _ _ _ c.loop-p.invariant.left c.loop-p-test.false, c.loop-p.invariant.held.kept)
