@@ -1,16 +1,11 @@
 -- Records that are equal part by part.
 use mathlib.Core.Path.{◌≡◌, ap, ◌∙◌}
-use Prim.Native.Nat.{ℕ}
 use mathlib.Core.List.{List}
 use Rattle.records.specs.declared.given.CShape.{CShape}
 use Rattle.records.specs.declared.told.CBond.{CBond}
 use Rattle.records.specs.declared.told.CFormed.{CFormed}
 use Rattle.records.specs.declared.told.CRounded.{CRounded}
 use Rattle.records.specs.declared.told.CRefusal.{CRefusal}
-
-pub told_as : (n p i m k j : ℕ) → n ≡ m → p ≡ k → i ≡ j
-    → ◌≡◌ {A = CRefusal} (record { number = n; place = p; index = i }) (record { number = m; place = k; index = j })
-told_as n p i m k j e f g = rw (e, f, g)
 
 pub formed_as : (r q : CRefusal) (s t : CShape) → r ≡ q → s ≡ t → ◌≡◌ {A = CFormed} (record { refusal = r; shape = s }) (record { refusal = q; shape = t })
 formed_as r q s t e f = ap (λ (x : CRefusal). record { refusal = x; shape = s }) e ∙ ap (λ (x : CShape). record { refusal = q; shape = x }) f

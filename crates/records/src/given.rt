@@ -4,14 +4,20 @@ ghost use Rattle.shape.specs.Limits.{most_axes};
 ghost use Rattle.stepform.specs.Axes.{axis_at, gathered};
 ghost use Rattle.records.specs.Given.{shape_in, axis_in, lent_of, cutting_in, settings_in, course_in, sizes_in};
 
+use cutform::Cutting;
+use pairform::Sizes;
+use shape::{MOST_AXES, Shape};
+use std::array;
+use stepform::{Axis, Course, PERIODIC, Settings};
+
 // d cores; core k has the sizes left[k], n[k], right[k].
 #[repr(C)]
 #[derive(Clone, Copy)]
 pub struct CShape {
     pub d: usize,
-    pub left: [usize; shape::MOST_AXES],
-    pub n: [usize; shape::MOST_AXES],
-    pub right: [usize; shape::MOST_AXES],
+    pub left: [usize; MOST_AXES],
+    pub n: [usize; MOST_AXES],
+    pub right: [usize; MOST_AXES],
 }
 
 // The settings of one axis.
@@ -29,7 +35,7 @@ pub struct CAxis {
 #[repr(C)]
 #[derive(Clone, Copy)]
 pub struct CAxes {
-    pub axis: [CAxis; shape::MOST_AXES],
+    pub axis: [CAxis; MOST_AXES],
 }
 
 // How a cut is made.
@@ -68,125 +74,108 @@ pub struct CSizes {
     pub right: usize,
 }
 
-pub fn shape_in(s: CShape) -> shape::Shape
-    ensures { result ≡ shape_in s }
-{
-    let left = s.left;
-    let n = s.n;
-    let right = s.right;
-    shape::Shape {
-        d: s.d,
-        left,
-        n,
-        right,
+impl From<CShape> for Shape {
+    ghost from_gives = { λ s t. t ≡ shape_in s };
+
+    fn from(s: CShape) -> Shape {
+        let CShape { d, left, n, right } = s;
+        Shape { d, left, n, right }
     }
 }
 
-pub fn axis_in(x: CAxis) -> stepform::Axis
-    ensures { result ≡ axis_in x }
-{
-    stepform::Axis {
-        a: x.a,
-        b: x.b,
-        xmin: x.xmin,
-        xmax: x.xmax,
-        boundary: x.boundary,
+impl From<CAxis> for Axis {
+    ghost from_gives = { λ x y. y ≡ axis_in x };
+
+    fn from(x: CAxis) -> Axis {
+        Axis {
+            a: x.a,
+            b: x.b,
+            xmin: x.xmin,
+            xmax: x.xmax,
+            boundary: x.boundary,
+        }
     }
 }
 
-// What stands in the list before its records do.
-fn no_axes() -> [stepform::Axis; shape::MOST_AXES] {
-    [stepform::Axis {
-        a: 0.0,
-        b: 0.0,
-        xmin: 0.0,
-        xmax: 0.0,
-        boundary: stepform::PERIODIC,
-    }; shape::MOST_AXES]
-}
+impl From<CCutting> for Cutting {
+    ghost from_gives = { λ x y. y ≡ cutting_in x };
 
-pub fn axes_in(xs: [CAxis; shape::MOST_AXES]) -> [stepform::Axis; shape::MOST_AXES]
-    ensures { result ≡ map axis_in xs }
-{
-    let mut list = no_axes();
-    let mut k = 0;
-    while k < shape::MOST_AXES {
-        let x = axis_in(xs[k]);
-        list[k] = x;
-        k += 1;
-    }
-    list
-}
-
-// The record of axis k, where it is among the first `count`; else a blank.
-fn axis_lent(xs: [CAxis; shape::MOST_AXES], count: usize, k: usize) -> stepform::Axis
-    requires { k < most_axes }
-    ensures { result ≡ axis_at (lent_of count xs) k }
-{
-    if k < count {
-        return axis_in(xs[k]);
-    }
-    stepform::Axis {
-        a: 0.0,
-        b: 0.0,
-        xmin: 0.0,
-        xmax: 0.0,
-        boundary: stepform::PERIODIC,
+    fn from(x: CCutting) -> Cutting {
+        Cutting {
+            eps: x.eps,
+            mode: x.mode,
+        }
     }
 }
 
-// The first `count` records as a list that was lent, gathered.
-pub fn axes_lent(xs: [CAxis; shape::MOST_AXES], count: usize) -> [stepform::Axis; shape::MOST_AXES]
-    ensures { result ≡ gathered (lent_of count xs) }
-{
-    let mut list = no_axes();
-    let mut k = 0;
-    while k < shape::MOST_AXES {
-        let x = axis_lent(xs, count, k);
-        list[k] = x;
-        k += 1;
-    }
-    list
-}
+impl From<CSettings> for Settings {
+    ghost from_gives = { λ x y. y ≡ settings_in x };
 
-pub fn cutting_in(x: CCutting) -> cutform::Cutting
-    ensures { result ≡ cutting_in x }
-{
-    cutform::Cutting {
-        eps: x.eps,
-        mode: x.mode,
+    fn from(x: CSettings) -> Settings {
+        Settings {
+            tau: x.tau,
+            c: x.c,
+            cutting: x.cutting.into(),
+        }
     }
 }
 
-pub fn settings_in(x: CSettings) -> stepform::Settings
-    ensures { result ≡ settings_in x }
-{
-    let cutting = x.cutting;
-    stepform::Settings {
-        tau: x.tau,
-        c: x.c,
-        cutting: cutting_in(cutting),
+impl From<CCourse> for Course {
+    ghost from_gives = { λ x y. y ≡ course_in x };
+
+    fn from(x: CCourse) -> Course {
+        Course {
+            t_final: x.t_final,
+            steps: x.steps,
+            c: x.c,
+            cutting: x.cutting.into(),
+        }
     }
 }
 
-pub fn course_in(x: CCourse) -> stepform::Course
-    ensures { result ≡ course_in x }
-{
-    let cutting = x.cutting;
-    stepform::Course {
-        t_final: x.t_final,
-        steps: x.steps,
-        c: x.c,
-        cutting: cutting_in(cutting),
+impl From<CSizes> for Sizes {
+    ghost from_gives = { λ x y. y ≡ sizes_in x };
+
+    fn from(x: CSizes) -> Sizes {
+        Sizes {
+            rl: x.left,
+            n: x.n,
+            rr: x.right,
+        }
     }
 }
 
-pub fn sizes_in(x: CSizes) -> pairform::Sizes
-    ensures { result ≡ sizes_in x }
-{
-    pairform::Sizes {
-        rl: x.left,
-        n: x.n,
-        rr: x.right,
+// All of them.
+impl From<CAxes> for [Axis; MOST_AXES] {
+    ghost from_gives = { λ xs ys. ys ≡ map axis_in xs.axis };
+
+    fn from(xs: CAxes) -> [Axis; MOST_AXES] {
+        xs.axis.map(Axis::from)
+    }
+}
+
+impl CAxes {
+    // The record of axis k, where it is among the first `count`; else a blank.
+    fn lent_at(&self, count: usize, k: usize) -> Axis
+        requires { k < most_axes }
+        ensures { result ≡ axis_at (lent_of count self.now.axis) k }
+    {
+        if k < count {
+            return self.axis[k].into();
+        }
+        Axis {
+            a: 0.0,
+            b: 0.0,
+            xmin: 0.0,
+            xmax: 0.0,
+            boundary: PERIODIC,
+        }
+    }
+
+    // The first `count` records as a list that was lent, gathered.
+    pub fn lent(&self, count: usize) -> [Axis; MOST_AXES]
+        ensures { result ≡ gathered (lent_of count self.now.axis) }
+    {
+        array::from_fn(|k| self.lent_at(count, k))
     }
 }

@@ -2,7 +2,10 @@
 ghost use Rattle.std.specs.Prelude.{◌≡◌, map, Err};
 ghost use Rattle.records.specs.Told.{refusal_of, shape_out, bond_out, rounded_out, figure_out, started_out, paired_out, read_out, seen_out};
 
-use crate::given;
+use crate::given::CShape;
+use answers::Refusal;
+use cutform::{Bond, Rounded};
+use shape::{MOST_AXES, Shape};
 
 // A refusal by its number in the scope's table, its place, and the index inside what was being stored; number 0 is none.
 #[repr(C)]
@@ -28,8 +31,8 @@ pub struct CBond {
 #[derive(Clone, Copy)]
 pub struct CRounded {
     pub refusal: CRefusal,
-    pub shape: given::CShape,
-    pub bonds: [CBond; shape::MOST_AXES],
+    pub shape: CShape,
+    pub bonds: [CBond; MOST_AXES],
 }
 
 // The figure, +0 where it is refused.
@@ -45,7 +48,7 @@ pub struct CFigure {
 #[derive(Clone, Copy)]
 pub struct CFormed {
     pub refusal: CRefusal,
-    pub shape: given::CShape,
+    pub shape: CShape,
 }
 
 // The rank that a pair keeps, and the passes made.
@@ -65,87 +68,60 @@ pub struct CSeen {
     pub value: f64,
 }
 
-fn refused_as(q: answers::Refusal) -> CRefusal
-    ensures { result ≡ refusal_of (Err q) }
-{
-    CRefusal {
-        number: q.number(),
-        place: q.place(),
-        index: q.index(),
+impl From<Refusal> for CRefusal {
+    ghost from_gives = { λ q c. c ≡ refusal_of (Err q) };
+
+    fn from(q: Refusal) -> CRefusal {
+        CRefusal {
+            number: q.number(),
+            place: q.place(),
+            index: q.index(),
+        }
     }
 }
 
-pub fn refusal_of(v: Result<(), answers::Refusal>) -> CRefusal
+pub fn refusal_of(v: Result<(), Refusal>) -> CRefusal
     ensures { result ≡ refusal_of v }
 {
-    if let Err(q) = v {
-        return refused_as(q);
-    }
-    CRefusal {
-        number: 0,
-        place: 0,
-        index: 0,
-    }
-}
-
-pub fn shape_out(s: shape::Shape) -> given::CShape
-    ensures { result ≡ shape_out s }
-{
-    let left = s.left;
-    let n = s.n;
-    let right = s.right;
-    given::CShape {
-        d: s.d,
-        left,
-        n,
-        right,
+    match v {
+        Err(q) => q.into(),
+        Ok(()) => CRefusal {
+            number: 0,
+            place: 0,
+            index: 0,
+        },
     }
 }
 
-fn bond_out(b: cutform::Bond) -> CBond
-    ensures { result ≡ bond_out b }
-{
-    CBond {
-        rank: b.rank,
-        sweeps: b.sweeps,
-        settled: b.settled,
-        dropped: b.dropped,
+impl From<Shape> for CShape {
+    ghost from_gives = { λ s t. t ≡ shape_out s };
+
+    fn from(s: Shape) -> CShape {
+        let Shape { d, left, n, right } = s;
+        CShape { d, left, n, right }
     }
 }
 
-// What stands in the list before its records do.
-fn no_bonds() -> [CBond; shape::MOST_AXES] {
-    [CBond {
-        rank: 0,
-        sweeps: 0,
-        settled: false,
-        dropped: 0.0,
-    }; shape::MOST_AXES]
-}
+impl From<Bond> for CBond {
+    ghost from_gives = { λ b c. c ≡ bond_out b };
 
-pub fn bonds_out(bs: [cutform::Bond; shape::MOST_AXES]) -> [CBond; shape::MOST_AXES]
-    ensures { result ≡ map bond_out bs }
-{
-    let mut list = no_bonds();
-    let mut k = 0;
-    while k < shape::MOST_AXES {
-        let b = bond_out(bs[k]);
-        list[k] = b;
-        k += 1;
+    fn from(b: Bond) -> CBond {
+        CBond {
+            rank: b.rank,
+            sweeps: b.sweeps,
+            settled: b.settled,
+            dropped: b.dropped,
+        }
     }
-    list
 }
 
-pub fn rounded_out(w: cutform::Rounded) -> CRounded
+pub fn rounded_out(w: Rounded) -> CRounded
     ensures { result ≡ rounded_out w }
 {
-    let verdict = w.verdict;
-    let shape = w.shape;
-    let bonds = w.bonds;
     CRounded {
-        refusal: refusal_of(verdict),
-        shape: shape_out(shape),
-        bonds: bonds_out(bonds),
+        refusal: refusal_of(w.verdict),
+        shape: w.shape.into(),
+        bonds: w.bonds.map(CBond::from),
     }
 }
 
@@ -166,7 +142,7 @@ pub fn started_out(w: sumform::Started) -> CFormed
     let shape = w.shape;
     CFormed {
         refusal: refusal_of(verdict),
-        shape: shape_out(shape),
+        shape: shape.into(),
     }
 }
 
@@ -177,7 +153,7 @@ pub fn read_out(w: fileform::Read) -> CFormed
     let shape = w.shape;
     CFormed {
         refusal: refusal_of(verdict),
-        shape: shape_out(shape),
+        shape: shape.into(),
     }
 }
 
@@ -192,17 +168,13 @@ pub fn paired_out(w: pairform::Paired) -> CPaired
     }
 }
 
-pub fn seen_out(w: Option<f64>) -> CSeen
-    ensures { result ≡ seen_out w }
-{
-    if let Some(x) = w {
-        return CSeen {
-            inside: true,
-            value: x,
-        };
-    }
-    CSeen {
-        inside: false,
-        value: 0.0,
+impl From<Option<f64>> for CSeen {
+    ghost from_gives = { λ w c. c ≡ seen_out w };
+
+    fn from(w: Option<f64>) -> CSeen {
+        CSeen {
+            inside: w.is_some(),
+            value: w.unwrap_or(0.0),
+        }
     }
 }

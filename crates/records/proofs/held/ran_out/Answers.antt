@@ -3,4 +3,4 @@ use Rattle.records.proofs.Runs.{ran_as}
 use Rattle.records.proofs.held.ran_out.Goals as goal
 
 pub returns : goal.returns
-returns c = ran_as c.args.w _ _ c.refusal_of.ensures c.run_out.ensures
+returns c = ran_as c.args.w _ _ c.refusal_of.ensures c.into.ensures

@@ -3,4 +3,4 @@ use Rattle.records.proofs.Refusals.{formed_as}
 use Rattle.records.proofs.told.read_out.Goals as goal
 
 pub returns : goal.returns
-returns c = formed_as _ _ _ _ c.refusal_of.ensures c.shape_out.ensures
+returns c = formed_as _ _ _ _ c.refusal_of.ensures c.into.ensures
