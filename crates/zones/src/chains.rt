@@ -11,13 +11,13 @@ ghost use Rattle.zones.specs.Ends.{EndsAs, StartsAs};
 
 use records::given::{CCutting, CShape};
 use records::told;
+use shape::Shape;
 
 #[unsafe(no_mangle)]
 pub extern "C" fn uyavsker_shape_check(s: CShape) -> told::CRefusal
     ensures { result ≡ refusal_of ((chain_ok (shape_in s))) }
 {
-    let shape = records::given::shape_in(s);
-    told::refusal_of(shape.check())
+    told::refusal_of(Shape::from(s).check())
 }
 
 #[unsafe(no_mangle)]
@@ -31,8 +31,7 @@ pub extern "C" fn uyavsker_entry_of(
 ) -> told::CSeen
     ensures { result ≡ seen_out (seen (view_of chain.entry (shape_in s) k) il im ir) }
 {
-    let shape = records::given::shape_in(s);
-    told::seen_out(view::entry_of(chain, shape, k, il, im, ir))
+    view::entry_of(chain, s.into(), k, il, im, ir).into()
 }
 
 #[unsafe(no_mangle)]
@@ -43,8 +42,7 @@ pub extern "C" fn uyavsker_rank1_separable(
 ) -> told::CFormed
     ensures { StartsAs (start_call (shape_in s) vectors.now chain.old) result chain.new }
 {
-    let shape = records::given::shape_in(s);
-    told::started_out(product::start::rank1_separable(shape, vectors, chain))
+    told::started_out(product::start::rank1_separable(s.into(), vectors, chain))
 }
 
 #[unsafe(no_mangle)]
@@ -55,8 +53,7 @@ pub extern "C" fn uyavsker_inner_separable(
 ) -> told::CFigure
     ensures { result ≡ figure_out (inner_call (shape_in s) chain.now weights.now) }
 {
-    let shape = records::given::shape_in(s);
-    told::figure_out(product::inner_separable(shape, chain, weights))
+    told::figure_out(product::inner_separable(s.into(), chain, weights))
 }
 
 #[unsafe(no_mangle)]
@@ -69,7 +66,5 @@ pub extern "C" fn uyavsker_tt_round(
     ensures { EndsAs (round_call (shape_in s) (cutting_in cutting) chain.old scratch.old)
         result chain.new scratch.new }
 {
-    let shape = records::given::shape_in(s);
-    let way = records::given::cutting_in(cutting);
-    told::rounded_out(rounding::tt_round(shape, way, chain, scratch))
+    told::rounded_out(rounding::tt_round(s.into(), cutting.into(), chain, scratch))
 }

@@ -17,11 +17,8 @@ pub extern "C" fn uyavsker_step(
     ensures { EndsAs (step_call (settings_in set) (shape_in s) (lent_of count xs.axis)
         chain.old scratch.old) result chain.new scratch.new }
 {
-    let axis = xs.axis;
-    let shape = given::shape_in(s);
-    let settings = given::settings_in(set);
-    let list = given::axes_lent(axis, count);
-    told::rounded_out(evolution::step_over(shape, settings, list, count, chain, scratch))
+    let list = xs.lent(count);
+    told::rounded_out(evolution::step_over(s.into(), set.into(), list, count, chain, scratch))
 }
 
 #[unsafe(no_mangle)]
@@ -36,9 +33,6 @@ pub extern "C" fn uyavsker_evolve(
     ensures { EndsAs (evolve_call p.t_final p.steps p.c (cutting_in p.cutting) (shape_in s) (lent_of count xs.axis)
         chain.old scratch.old) result chain.new scratch.new }
 {
-    let axis = xs.axis;
-    let shape = given::shape_in(s);
-    let course = given::course_in(p);
-    let list = given::axes_lent(axis, count);
-    told::rounded_out(evolution::evolve_over(shape, course, list, count, chain, scratch))
+    let list = xs.lent(count);
+    told::rounded_out(evolution::evolve_over(s.into(), p.into(), list, count, chain, scratch))
 }

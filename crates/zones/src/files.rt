@@ -24,8 +24,7 @@ pub extern "C" fn uyavsker_write_chain(
 ) -> told::CRefusal
     ensures { WritesAs (write_call (shape_in s) chain.now out.old) result out.new }
 {
-    let shape = given::shape_in(s);
-    told::refusal_of(chainfile::write_chain(shape, chain, out))
+    told::refusal_of(chainfile::write_chain(s.into(), chain, out))
 }
 
 // The text that `ttlist` prints of a file; answers its length.

@@ -20,7 +20,14 @@ pub extern "C" fn uyavsker_contract_and_split(
         (core_of (sizes_in r) right.now) eps lefts.old rights.old scratch.old)
         result lefts.new rights.new scratch.new }
 {
-    let a = given::sizes_in(l);
-    let b = given::sizes_in(r);
-    told::paired_out(pair::contract_and_split(a, b, eps, left, right, lefts, rights, scratch))
+    told::paired_out(pair::contract_and_split(
+        l.into(),
+        r.into(),
+        eps,
+        left,
+        right,
+        lefts,
+        rights,
+        scratch,
+    ))
 }

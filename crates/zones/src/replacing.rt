@@ -24,12 +24,16 @@ pub extern "C" fn uyavsker_fresh_run(
         (slices source.now weights.now chain.old carries.old sums.old) scratch.old)
         result (slices source.now weights.now chain.new carries.new sums.new) scratch.new }
 {
-    let axis = xs.axis;
-    let shape = given::shape_in(s);
-    let list = given::axes_in(axis);
-    let settings = given::settings_in(set);
     held::ran_out(runs::fresh_run(
-        shape, list, settings, source, weights, chain, carries, sums, scratch,
+        s.into(),
+        xs.into(),
+        set.into(),
+        source,
+        weights,
+        chain,
+        carries,
+        sums,
+        scratch,
     ))
 }
 
@@ -50,8 +54,17 @@ pub extern "C" fn uyavsker_replace_core(
         part.now scratch.old)
         result (slices source.new weights.now chain.new carries.new sums.new) scratch.new }
 {
-    let run = held::run_in(r);
-    held::ran_out(runs::replace_core(run, z, source, weights, chain, carries, sums, part, scratch))
+    held::ran_out(runs::replace_core(
+        r.into(),
+        z,
+        source,
+        weights,
+        chain,
+        carries,
+        sums,
+        part,
+        scratch,
+    ))
 }
 
 #[unsafe(no_mangle)]
@@ -71,9 +84,16 @@ pub extern "C" fn uyavsker_replace_weights(
         part.now scratch.old)
         result (slices source.now weights.new chain.now carries.now sums.new) scratch.new }
 {
-    let run = held::run_in(r);
     held::ran_out(runs::replace_weights(
-        run, z, source, weights, chain, carries, sums, part, scratch,
+        r.into(),
+        z,
+        source,
+        weights,
+        chain,
+        carries,
+        sums,
+        part,
+        scratch,
     ))
 }
 
@@ -94,7 +114,15 @@ pub extern "C" fn uyavsker_replace_axis(
         scratch.old)
         result (slices source.now weights.now chain.new carries.new sums.new) scratch.new }
 {
-    let run = held::run_in(r);
-    let axis = given::axis_in(x);
-    held::ran_out(runs::replace_axis(run, z, axis, source, weights, chain, carries, sums, scratch))
+    held::ran_out(runs::replace_axis(
+        r.into(),
+        z,
+        x.into(),
+        source,
+        weights,
+        chain,
+        carries,
+        sums,
+        scratch,
+    ))
 }

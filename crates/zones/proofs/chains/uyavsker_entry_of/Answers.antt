@@ -6,5 +6,5 @@ use Rattle.zones.proofs.Faces.{passed}
 use Rattle.zones.proofs.chains.uyavsker_entry_of.Goals as goal
 
 pub returns : goal.returns
-returns c = passed (λ (x : Shape). seen (view_of c.args.chain x c.args.k) c.args.il c.args.im c.args.ir) seen_out _ _ _ _ c.shape_in-shape.ensures
-    c.entry_of.ensures c.seen_out.ensures
+returns c = passed (λ (x : Shape). seen (view_of c.args.chain x c.args.k) c.args.il c.args.im c.args.ir) seen_out _ _ _ _ c.into.ensures
+    c.entry_of.ensures c.into-2.ensures

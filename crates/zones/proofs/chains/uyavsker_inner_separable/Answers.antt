@@ -6,5 +6,5 @@ use Rattle.zones.proofs.Faces.{passed}
 use Rattle.zones.proofs.chains.uyavsker_inner_separable.Goals as goal
 
 pub returns : goal.returns
-returns c = passed (λ (x : Shape). inner_call x c.args.chain.now c.args.weights.now) figure_out _ _ _ _ c.shape_in-shape.ensures
+returns c = passed (λ (x : Shape). inner_call x c.args.chain.now c.args.weights.now) figure_out _ _ _ _ c.into.ensures
     c.inner_separable.ensures c.figure_out.ensures

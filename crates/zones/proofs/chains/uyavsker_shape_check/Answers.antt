@@ -6,4 +6,4 @@ use Rattle.zones.proofs.Faces.{passed}
 use Rattle.zones.proofs.chains.uyavsker_shape_check.Goals as goal
 
 pub returns : goal.returns
-returns c = passed (λ (x : Shape). (chain_ok x)) refusal_of _ _ _ _ c.shape_in-shape.ensures c.check.ensures c.refusal_of.ensures
+returns c = passed (λ (x : Shape). (chain_ok x)) refusal_of _ _ _ _ c.from.ensures c.check.ensures c.refusal_of.ensures

@@ -7,4 +7,4 @@ use Rattle.zones.proofs.chains.uyavsker_tt_round.Goals as goal
 
 pub returns : goal.returns
 returns c = ends_as (λ (x : Shape) (y : Cutting). round_call x y c.args.chain.now c.args.scratch.now) _ _ _ _ _ _ _ _
-    c.shape_in-shape.ensures c.cutting_in-way.ensures c.tt_round.ensures c.rounded_out.ensures
+    c.into.ensures c.into-2.ensures c.tt_round.ensures c.rounded_out.ensures

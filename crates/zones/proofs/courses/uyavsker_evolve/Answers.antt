@@ -10,5 +10,5 @@ use Rattle.zones.proofs.courses.uyavsker_evolve.Goals as goal
 
 pub returns : goal.returns
 returns c = steps_as (λ (x : Shape) (p : Course) (k : List Axis). evolve_over p.t_final p.steps p.c p.cutting x c.args.count k c.args.chain.now c.args.scratch.now) _ _ _ _ _ _ _ _ _ _ _
-    c.shape_in-shape.ensures c.course_in-course.ensures c.axes_lent-list.ensures
+    c.into.ensures c.into-2.ensures c.lent-list.ensures
     (evolve_lent (course_in c.args.p) (shape_in c.args.s) c.args.count c.args.xs.axis c.args.chain.now c.args.scratch.now) c.evolve_over.ensures c.rounded_out.ensures

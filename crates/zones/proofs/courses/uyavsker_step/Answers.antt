@@ -10,5 +10,5 @@ use Rattle.zones.proofs.courses.uyavsker_step.Goals as goal
 
 pub returns : goal.returns
 returns c = steps_as (λ (x : Shape) (t : Settings) (k : List Axis). step_over t x c.args.count k c.args.chain.now c.args.scratch.now) _ _ _ _ _ _ _ _ _ _ _
-    c.shape_in-shape.ensures c.settings_in-settings.ensures c.axes_lent-list.ensures
+    c.into.ensures c.into-2.ensures c.lent-list.ensures
     (step_lent (settings_in c.args.set) (shape_in c.args.s) c.args.count c.args.xs.axis c.args.chain.now c.args.scratch.now) c.step_over.ensures c.rounded_out.ensures

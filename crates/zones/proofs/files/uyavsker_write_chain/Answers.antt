@@ -5,5 +5,5 @@ use Rattle.zones.proofs.Faces.{writes_as}
 use Rattle.zones.proofs.files.uyavsker_write_chain.Goals as goal
 
 pub returns : goal.returns
-returns c = writes_as (λ (x : Shape). write_call x c.args.chain.now c.args.out.now) _ _ _ _ _ c.shape_in-shape.ensures
+returns c = writes_as (λ (x : Shape). write_call x c.args.chain.now c.args.out.now) _ _ _ _ _ c.into.ensures
     c.write_chain.ensures c.refusal_of.ensures

@@ -7,6 +7,6 @@ use Rattle.zones.proofs.pairs.uyavsker_contract_and_split.Goals as goal
 pub returns : goal.returns
 returns c = splits_as
     (λ (x : Sizes) (u : Sizes). pair_call (core_of x c.args.left.now) (core_of u c.args.right.now) c.args.eps c.args.lefts.now c.args.rights.now c.args.scratch.now) _ _ _
-    _ _ _ _ _ _ c.sizes_in-a.ensures
-    c.sizes_in-b.ensures
+    _ _ _ _ _ _ c.into.ensures
+    c.into-2.ensures
     c.contract_and_split.ensures c.paired_out.ensures

@@ -11,4 +11,4 @@ use Rattle.zones.proofs.replacing.uyavsker_fresh_run.Goals as goal
 pub returns : goal.returns
 returns c = runs_as _ _ _ _ c.ran_out.ensures
     (λ (x : Shape) (k : List Axis) (t : Settings). fresh_call x k t (slices c.args.source.now c.args.weights.now c.args.chain.now c.args.carries.now c.args.sums.now) c.args.scratch.now) _ _ _ _ _ _
-    c.shape_in-shape.ensures c.axes_in-list.ensures c.settings_in-settings.ensures c.fresh_run.ensures
+    c.into.ensures c.into-2.ensures c.into-3.ensures c.fresh_run.ensures

@@ -9,4 +9,4 @@ use Rattle.zones.proofs.replacing.uyavsker_replace_axis.Goals as goal
 pub returns : goal.returns
 returns c = axis_replaced_as _ _ _ _ c.ran_out.ensures
     (λ (k : Run) (x : Axis). replace_axis_call k c.args.z x (slices c.args.source.now c.args.weights.now c.args.chain.now c.args.carries.now c.args.sums.now) c.args.scratch.now) _ _ _ _
-    c.run_in-run.ensures c.axis_in-axis.ensures c.replace_axis.ensures
+    c.into.ensures c.into-2.ensures c.replace_axis.ensures

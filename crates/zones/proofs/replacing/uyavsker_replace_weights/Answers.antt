@@ -8,4 +8,4 @@ use Rattle.zones.proofs.replacing.uyavsker_replace_weights.Goals as goal
 pub returns : goal.returns
 returns c = replaces_as _ _ _ _ c.ran_out.ensures
     (λ (k : Run). replace_weights_call k c.args.z (slices c.args.source.now c.args.weights.now c.args.chain.now c.args.carries.now c.args.sums.now) c.args.part.now c.args.scratch.now) _ _
-    c.run_in-run.ensures c.replace_weights.ensures
+    c.into.ensures c.replace_weights.ensures
