@@ -11,6 +11,8 @@ use mir.Val.{Fits}
 use Rattle.lists.specs.Slots.{offset, slot}
 use Rattle.lists.specs.Floats.{all_finite}
 use Rattle.lists.proofs.Slots.{offset_suc, offset_mono}
+use Rattle.lists.proofs.Demands.{passing}
+use Rattle.shape.proofs.Offsets.{offsets}
 
 -- slot k starts at t and has x places; the d slots lie within l
 module _ (size : ℕ → ℕ) (d : ℕ) (l : List Float) (k t x : ℕ) where
@@ -30,3 +32,6 @@ module _ (size : ℕ → ℕ) (d : ℕ) (l : List Float) (k t x : ℕ) where
       h ∙ ap (λ (n : ℕ). all_finite (take n (drop t l))) g ∙ ap (λ (n : ℕ). all_finite (take (size k) (drop n l))) e
 
 pub ruleset slotwise = (slot_end, slot_end_fits, slot_start_fits, slot_finite)
+
+-- the whole loop: it stops at the first slot that fails
+pub ruleset slot_by_slot = (offsets, slotwise, passing)

@@ -53,7 +53,7 @@ pub struct Shape {
 pub fn within(most: usize, x: usize) -> bool
     ensures { result ≡ within most x }
 {
-    (1 <= x) & (x <= most)
+    1 <= x && x <= most
 }
 
 // Scratch for a chain of n numbers.
@@ -79,6 +79,7 @@ fn capped(row: usize, n: usize, i: usize, most: usize) -> usize
 }
 
 // Where entry (il, im, ir) stands in a core of any sizes, or `most` where that is less.
+#[tactic(auto, using(crate::proofs::Places::place_capped))]
 pub fn place_within(n: usize, rr: usize, il: usize, im: usize, ir: usize, most: usize) -> usize
     requires { (im < n) × (ir < rr) }
     ensures { result ≡ min (place n rr il im ir) most }
@@ -89,14 +90,14 @@ pub fn place_within(n: usize, rr: usize, il: usize, im: usize, ir: usize, most: 
 
 impl Shape {
     // Whether the sizes of core k lie within their limits.
+    #[tactic(auto, unfolding(crate::specs::Shapes::size_ok))]
     pub fn size_ok(self, k: usize) -> bool
         requires { k < most_axes }
         ensures { result ≡ size_ok self k }
     {
-        let left = within(MOST_RANK, self.left[k]);
-        let points = within(MOST_POINTS, self.n[k]);
-        let right = within(MOST_RANK, self.right[k]);
-        left & (points & right)
+        within(MOST_RANK, self.left[k])
+            && within(MOST_POINTS, self.n[k])
+            && within(MOST_RANK, self.right[k])
     }
 
     // The first core with a size outside its limits, or d.
@@ -104,14 +105,7 @@ impl Shape {
         requires { self.d ≤ most_axes }
         ensures { result ≡ first_not (size_ok self) self.d }
     {
-        let mut k = 0;
-        while k < self.d {
-            if !self.size_ok(k) {
-                return k;
-            }
-            k += 1;
-        }
-        k
+        lists::first_not(self.d, |k| self.size_ok(k))
     }
 
     // The first axis with points outside their limits, or d.
@@ -119,26 +113,22 @@ impl Shape {
         requires { self.d ≤ most_axes }
         ensures { result ≡ first_not (λ (k : ℕ). within most_points (points_of self k)) self.d }
     {
-        let mut k = 0;
-        while k < self.d {
-            if !within(MOST_POINTS, self.n[k]) {
-                return k;
-            }
-            k += 1;
-        }
-        k
+        lists::first_not(self.d, |k| within(MOST_POINTS, self.n[k]))
     }
 
     // The shape with every rank 1.
-    pub fn rank_one(mut self) -> Shape
+    pub fn rank_one(self) -> Shape
         ensures { result ≡ record { d = self.d; left = replicate most_axes 1; n = self.n; right = replicate most_axes 1 } }
     {
-        self.left = [1; MOST_AXES];
-        self.right = [1; MOST_AXES];
-        self
+        Shape {
+            left: [1; MOST_AXES],
+            right: [1; MOST_AXES],
+            ..self
+        }
     }
 
     // Whether the bond right of core k holds: its right rank is the next core's left rank, and the last core's is 1.
+    #[tactic(auto, unfolding(crate::specs::Shapes::bond_ok))]
     pub fn bond_ok(self, k: usize) -> bool
         requires { (k < self.d) × (self.d ≤ most_axes) }
         ensures { result ≡ bond_ok self k }
@@ -154,17 +144,11 @@ impl Shape {
         requires { self.d ≤ most_axes }
         ensures { result ≡ first_not (bond_ok self) self.d }
     {
-        let mut k = 0;
-        while k < self.d {
-            if !self.bond_ok(k) {
-                return k;
-            }
-            k += 1;
-        }
-        k
+        lists::first_not(self.d, |k| self.bond_ok(k))
     }
 
     // Refusals 1 to 3.
+    #[tactic(auto, using(crate::proofs::Verdicts::verdicts, crate::proofs::Verdicts::bond_alone))]
     pub fn check(self) -> Result<(), answers::Refusal>
         ensures { result ≡ chain_ok self }
     {
@@ -187,6 +171,7 @@ impl Shape {
     }
 
     // How many numbers core k has.
+    #[tactic(auto, unfolding(crate::specs::Shapes::core_size))]
     pub fn core_size(self, k: usize) -> usize
         requires sizes_within { SizesWithin self }
         requires k_lt_d { k < self.d }
@@ -196,6 +181,7 @@ impl Shape {
     }
 
     // Where core k starts in the chain.
+    #[tactic(auto, using(crate::proofs::Offsets::offsets))]
     pub fn offset(self, k: usize) -> usize
         requires sizes_within { SizesWithin self }
         requires k_le_d { k ≤ self.d }
@@ -213,11 +199,11 @@ impl Shape {
         requires { SizesWithin self }
         ensures { result ≡ entries_of self }
     {
-        let d = self.d;
-        self.offset(d)
+        self.offset(self.d)
     }
 
     // Where axis k starts in the weights, or the vectors.
+    #[tactic(auto, using(crate::proofs::Offsets::offsets), unfolding(crate::specs::Shapes::point_size))]
     pub fn points_offset(self, k: usize) -> usize
         requires points_within { PointsWithin self }
         requires k_le_d { k ≤ self.d }
@@ -235,46 +221,43 @@ impl Shape {
         requires { PointsWithin self }
         ensures { result ≡ all_points self }
     {
-        let d = self.d;
-        self.points_offset(d)
+        self.points_offset(self.d)
     }
 
     // The first core with a number that isn't finite, or d.
+    #[tactic(auto, using(crate::proofs::Slotwise::slot_by_slot), unfolding(crate::specs::Cores::core_at))]
     pub fn first_not_finite_core(self, chain: &[f64]) -> usize
         requires sizes_within { SizesWithin self }
         requires self_in_bounds { entries_of self ≤ length chain.now }
         ensures { result ≡ first_not (λ (k : ℕ). all_finite (core_at self chain.now k).entries) self.d }
     {
         let mut start = 0;
-        let mut k = 0;
-        while k < self.d {
+        for k in 0..self.d {
             let end = start + self.core_size(k);
             if !lists::all_finite(&chain[start..end]) {
                 return k;
             }
             start = end;
-            k += 1;
         }
-        k
+        self.d
     }
 
     // The first axis with a weight, or a vector's number, that isn't finite, or d.
+    #[tactic(auto, using(crate::proofs::Slotwise::slot_by_slot), unfolding(crate::specs::Cores::points_at, crate::specs::Shapes::point_size))]
     pub fn first_not_finite_axis(self, points: &[f64]) -> usize
         requires points_within { PointsWithin self }
         requires self_in_bounds { all_points self ≤ length points.now }
         ensures { result ≡ first_not (λ (k : ℕ). all_finite (points_at self points.now k)) self.d }
     {
         let mut start = 0;
-        let mut k = 0;
-        while k < self.d {
+        for k in 0..self.d {
             let end = start + self.n[k];
             if !lists::all_finite(&points[start..end]) {
                 return k;
             }
             start = end;
-            k += 1;
         }
-        k
+        self.d
     }
 
     // The shape with other ranks at core k.
