@@ -4,7 +4,7 @@
 
 ghost use Rattle.std.specs.Prelude.{◌≡◌, ◌<◌};
 ghost use Rattle.shape.specs.Sizes.{SizesWithin};
-ghost use Rattle.view.specs.View.{nowhere, core_spot, spot_of, view_of, seen_at, seen};
+ghost use Rattle.view.specs.View.{core_spot, spot_of, view_of, seen_at, seen};
 
 // Where a core stands in its chain, and its sizes.
 #[derive(Clone, Copy)]
@@ -15,25 +15,11 @@ pub struct Spot {
     pub rr: usize,
 }
 
+// A lent chain, and where the core stands in it; nowhere, if there is no such core.
 #[derive(Clone, Copy)]
 pub struct CoreView<'a> {
     pub chain: &'a [f64],
-    pub start: usize,
-    pub rl: usize,
-    pub n: usize,
-    pub rr: usize,
-}
-
-// No core.
-fn nowhere() -> Spot
-    ensures { result ≡ nowhere }
-{
-    Spot {
-        start: 0,
-        rl: 0,
-        n: 0,
-        rr: 0,
-    }
+    pub spot: Option<Spot>,
 }
 
 // Where core k of an accepted shape stands.
@@ -50,64 +36,36 @@ fn core_spot(s: shape::Shape, k: usize) -> Spot
     }
 }
 
-// Where core k stands; nowhere, if the shape is refused or has no such core.
-pub fn spot_of(s: shape::Shape, k: usize) -> Spot
+// Where core k stands, if the shape is accepted and has one.
+pub fn spot_of(s: shape::Shape, k: usize) -> Option<Spot>
     ensures { result ≡ spot_of s k }
 {
-    let v = s.check();
-    if let Err(r) = v {
-        return nowhere();
-    }
+    s.check().ok()?;
     if s.d <= k {
-        return nowhere();
+        return None;
     }
-    core_spot(s, k)
+    Some(core_spot(s, k))
 }
 
-// Entry (il, im, ir) of the core (rl, n, rr) that starts at `start`, or none, where the indices lie outside of it or of the chain.
-pub fn entry_at(
-    chain: &[f64],
-    start: usize,
-    rl: usize,
-    n: usize,
-    rr: usize,
-    il: usize,
-    im: usize,
-    ir: usize,
-) -> Option<f64>
-    ensures { result ≡ seen_at chain.now start rl n rr il im ir }
+// Entry (il, im, ir) of the core that stands there, or none, where the indices lie outside of it or of the chain.
+pub fn entry_at(chain: &[f64], spot: Spot, il: usize, im: usize, ir: usize) -> Option<f64>
+    ensures { result ≡ seen_at chain.now spot il im ir }
 {
-    if rl <= il {
+    if spot.rl <= il || spot.n <= im || spot.rr <= ir {
         return None;
     }
-    if n <= im {
-        return None;
-    }
-    if rr <= ir {
-        return None;
-    }
-    if chain.len() <= start {
-        return None;
-    }
-    let room = chain.len() - start;
-    let place = shape::place_within(n, rr, il, im, ir, room);
-    if room <= place {
-        return None;
-    }
-    Some(chain[start + place])
+    let room = chain.get(spot.start..)?;
+    let place = shape::place_within(spot.n, spot.rr, il, im, ir, room.len());
+    room.get(place).copied()
 }
 
 // The view of core k.
 pub fn view_of<'a>(chain: &'a [f64], s: shape::Shape, k: usize) -> CoreView<'a>
     ensures { result ≡ view_of chain.entry s k }
 {
-    let at = spot_of(s, k);
     CoreView {
         chain,
-        start: at.start,
-        rl: at.rl,
-        n: at.n,
-        rr: at.rr,
+        spot: spot_of(s, k),
     }
 }
 
@@ -116,7 +74,7 @@ impl<'a> CoreView<'a> {
     pub fn get(self, il: usize, im: usize, ir: usize) -> Option<f64>
         ensures { result ≡ seen self.entry il im ir }
     {
-        entry_at(self.chain, self.start, self.rl, self.n, self.rr, il, im, ir)
+        entry_at(self.chain, self.spot?, il, im, ir)
     }
 }
 
