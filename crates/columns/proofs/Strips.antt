@@ -1,4 +1,4 @@
--- Pairs that are turned two at once, and runs of pairs one behind another. Assumes nothing.
+-- Loops down the rows of columns: pairs that are turned two at once, and runs of pairs one behind another. Assumes nothing.
 use mathlib.Core.Path.{◌≡◌, refl, sym, ap, ◌∙◌}
 use Prim.Native.Nat.{ℕ, ◌+◌, ◌*◌, ◌/◌, ◌%◌, ◌^◌, ◌<◌, ◌≤◌}
 use native.Mathlib.Nat.{le_antisymm, mul-le-mul_right, suc-mul, zero-mul}
@@ -12,9 +12,13 @@ use lib.Ieee.{Float, nan}
 use Rattle.numbers.specs.Arithmetic.{plus, minus, times}
 use Rattle.lists.specs.Lists.{iter}
 use Rattle.lists.specs.Floats.{at}
-use Rattle.lists.proofs.Cells.{exact_end}
+use Rattle.lists.proofs.Cells.{exacts, exact_end}
 use Rattle.lists.proofs.Loops.{iter_same, iter_add}
+use Rattle.lists.proofs.Turns.{turns}
 use Rattle.rotation.specs.Pairs.{turn_pair, turn_pairs}
+
+-- a loop down the rows
+pub ruleset down = (turns, exacts)
 
 -- where columns p and q of n end: the first before the second, and the second in the list
 pub columns_apart : (m n p q l : ℕ) → l ≡ n * m → p < q → q < n → (p * m + m ≤ q * m) × (q * m + m ≤ l)

@@ -9,6 +9,7 @@ ghost use Rattle.pairform.specs.Columns.{turn_stored, dot, skipped};
 ghost use Rattle.columns.specs.Loops.{squares, FiniteElsewhere};
 
 // The sum over the rows, ascending, of column p times column q.
+#[tactic(auto, using(crate::proofs::Strips::down), unfolding(pairform::specs::Columns::dot, lists::specs::Floats::sum_to, lists::specs::Floats::sum_on))]
 pub fn dot(a: &[f64], m: usize, n: usize, p: usize, q: usize) -> f64
     requires { (length a.now ≡ n * m) × (p < n) × (q < n) }
     ensures { result ≡ dot m a.now p q }
@@ -21,6 +22,7 @@ pub fn dot(a: &[f64], m: usize, n: usize, p: usize, q: usize) -> f64
 }
 
 // The sum of squares of each column.
+#[tactic(auto, using(crate::proofs::Strips::down), unfolding(crate::specs::Loops::squares))]
 pub fn square(a: &[f64], m: usize, n: usize, ss: &mut [f64])
     requires { (length a.now ≡ n * m) × (length ss.old ≡ n) }
     ensures { ss.new ≡ squares m n a.now }
@@ -30,17 +32,11 @@ pub fn square(a: &[f64], m: usize, n: usize, ss: &mut [f64])
     }
 }
 
-// Two sums.
-#[derive(Clone, Copy)]
-struct Sums {
-    first: f64,
-    second: f64,
-}
-
 // The sums of squares of columns p and q, in one loop: the two are independent, so they are compiled as one pair.
-fn squares_of(a: &[f64], m: usize, n: usize, p: usize, q: usize) -> Sums
+#[tactic(auto, using(crate::proofs::Strips::down), unfolding(pairform::specs::Columns::dot, lists::specs::Floats::sum_to, lists::specs::Floats::sum_on))]
+fn squares_of(a: &[f64], m: usize, n: usize, p: usize, q: usize) -> (f64, f64)
     requires { (length a.now ≡ n * m) × (p < n) × (q < n) }
-    ensures { (result.first ≡ dot m a.now p p) × (result.second ≡ dot m a.now q q) }
+    ensures { (result.0 ≡ dot m a.now p p) × (result.1 ≡ dot m a.now q q) }
 {
     let mut first = 0.0;
     let mut second = 0.0;
@@ -50,7 +46,7 @@ fn squares_of(a: &[f64], m: usize, n: usize, p: usize, q: usize) -> Sums
         first = first + x * x;
         second = second + y * y;
     }
-    Sums { first, second }
+    (first, second)
 }
 
 // Those of columns p and q; the others stand.
@@ -59,9 +55,9 @@ pub fn square_again(a: &[f64], m: usize, n: usize, p: usize, q: usize, ss: &mut 
         × ((k : ℕ) → k < n → ¬ (k ≡ p) → ¬ (k ≡ q) → at ss.old k ≡ dot m a.now k k) }
     ensures { ss.new ≡ squares m n a.now }
 {
-    let both = squares_of(a, m, n, p, q);
-    ss[p] = both.first;
-    ss[q] = both.second;
+    let (first, second) = squares_of(a, m, n, p, q);
+    ss[p] = first;
+    ss[q] = second;
 }
 
 // Whether products tell without a root that a pair is turned, as they do of most: 5e-28 is so far above the tolerance's square that no rounding
@@ -70,13 +66,11 @@ fn plainly_turned(alpha: f64, low: f64, high: f64) -> bool
     ensures { result ≡ true → skipped alpha low high ≡ false }
 {
     let product = low * high;
-    if 0.0 < product {
-        return !(alpha * alpha <= product * 5e-28);
-    }
-    false
+    0.0 < product && !(alpha * alpha <= product * 5e-28)
 }
 
 // Whether a pair is so near a right angle, or so small, that it isn't turned.
+#[tactic(auto, using(crate::proofs::TwoColumns::skipped_small))]
 pub fn skipped(alpha: f64, low: f64, high: f64) -> bool
     ensures { result ≡ skipped alpha low high }
 {
@@ -106,6 +100,7 @@ fn turn_two(a: &mut [f64], i: usize, j: usize, c: f64, s: f64)
     a[j + 1] = s * y + c * w;
 }
 
+#[tactic(auto, using(crate::proofs::Strips::eight_turned))]
 fn turn_eight(a: &mut [f64], i: usize, j: usize, c: f64, s: f64)
     requires { (i + 8 ≤ j) × (j + 8 ≤ length a.old) }
     ensures { a.new ≡ turn_pairs 8 1 i j c s a.old }
@@ -117,6 +112,7 @@ fn turn_eight(a: &mut [f64], i: usize, j: usize, c: f64, s: f64)
 }
 
 // A strip of sixteen rows. A loop over strips of eight would be compiled two strips at a time, with a shuffle for every number.
+#[tactic(auto, using(crate::proofs::Strips::strip_turned))]
 fn turn_strip(a: &mut [f64], i: usize, j: usize, c: f64, s: f64)
     requires { (i + 16 ≤ j) × (j + 16 ≤ length a.old) }
     ensures { a.new ≡ turn_pairs 16 1 i j c s a.old }
@@ -158,6 +154,7 @@ pub fn turn(a: &mut [f64], m: usize, n: usize, p: usize, q: usize, c: f64, s: f6
     rotation::turn_pairs(a, m % 2, 1, i + even, j + even, c, s);
 }
 
+#[tactic(auto, using(crate::proofs::Strips::down))]
 fn column_finite(a: &[f64], m: usize, n: usize, p: usize) -> bool
     requires { (length a.now ≡ n * m) × (p < n) }
     ensures { result ≡ all_finite (take (p * m + m - p * m) (drop (p * m) a.now)) }
@@ -186,6 +183,7 @@ pub fn stored_squared(
 }
 
 // The same by a look at both columns.
+#[tactic(auto, using(crate::proofs::TwoColumns::two_finite))]
 pub fn stored_but(a: &[f64], m: usize, n: usize, p: usize, q: usize) -> Result<(), usize>
     requires { (length a.now ≡ n * m) × (p < n) × (q < n) × FiniteElsewhere m n p q a.now }
     ensures { result ≡ stage_of (stored a.now) }

@@ -1,5 +1,5 @@
 // One core of a lent chain, read through a view that holds the chain and the core's place. Each function over the view is
-// thin: it takes the view apart, or puts it together, and leaves the work to a function over a plain slice and numbers.
+// thin: it takes the view apart, or puts it together, and leaves the work to a function over a plain slice and a spot.
 #![tactic(auto)]
 
 ghost use Rattle.std.specs.Prelude.{◌≡◌, ◌<◌};

@@ -1,5 +1,5 @@
 -- `columns::dot`: the invariant: the sum is that of the rows passed.
-use Prim.Native.Nat.{ℕ, ◌-◌, ◌≤◌}
+use Prim.Native.Nat.{ℕ}
 use mathlib.Core.Path.{◌≡◌}
 use lib.Ieee.{Float}
 use Rattle.numbers.specs.Arithmetic.{plus, times}
@@ -8,7 +8,4 @@ use Rattle.lists.specs.Floats.{cell}
 use Rattle.columns.proofs.dot.Given as goal
 
 abbrev pub invariant-loop-row : goal.invariant-loop-row
-invariant-loop-row l = (l.row ≤ l.m) × (l.sum ≡ iter l.row (λ (i : ℕ) (s : Float). plus s (times (cell l.m l.a l.p i) (cell l.m l.a l.q i))) l.initial.sum)
-
-abbrev pub decreases-loop-row : goal.decreases-loop-row
-decreases-loop-row l = l.m - l.row
+invariant-loop-row l = (l.sum ≡ iter l.row (λ (i : ℕ) (s : Float). plus s (times (cell l.m l.a l.p i) (cell l.m l.a l.q i))) l.initial.sum)

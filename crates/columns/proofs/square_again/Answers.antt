@@ -3,5 +3,5 @@ use Rattle.columns.proofs.TwoColumns.{squared_again}
 use Rattle.columns.proofs.square_again.Goals as goal
 
 pub returns : goal.returns
-returns c = squared_again _ _ c.args.a.now c.args.ss.now _ _ _ _ c.requires.1 c.requires.2 c.requires.3 c.requires.4 c.squares_of-both.ensures.0
-    c.squares_of-both.ensures.1
+returns c = squared_again _ _ c.args.a.now c.args.ss.now _ _ _ _ c.requires.1 c.requires.2 c.requires.3 c.requires.4 c.squares_of-first.ensures.0
+    c.squares_of-first.ensures.1

@@ -1,5 +1,5 @@
 -- `columns::squares_of`: the invariant: both sums are those of the rows passed.
-use Prim.Native.Nat.{ℕ, ◌-◌, ◌≤◌}
+use Prim.Native.Nat.{ℕ}
 use mathlib.Core.Path.{◌≡◌}
 use lib.Ieee.{Float}
 use Rattle.numbers.specs.Arithmetic.{plus, times}
@@ -9,8 +9,5 @@ use Rattle.columns.proofs.squares_of.Given as goal
 
 abbrev pub invariant-loop-row : goal.invariant-loop-row
 invariant-loop-row l =
-    (l.row ≤ l.m) × (l.first ≡ iter l.row (λ (i : ℕ) (s : Float). plus s (times (cell l.m l.a l.p i) (cell l.m l.a l.p i))) l.initial.first) ×
+    (l.first ≡ iter l.row (λ (i : ℕ) (s : Float). plus s (times (cell l.m l.a l.p i) (cell l.m l.a l.p i))) l.initial.first) ×
     (l.second ≡ iter l.row (λ (i : ℕ) (s : Float). plus s (times (cell l.m l.a l.q i) (cell l.m l.a l.q i))) l.initial.second)
-
-abbrev pub decreases-loop-row : goal.decreases-loop-row
-decreases-loop-row l = l.m - l.row
