@@ -1,5 +1,5 @@
 -- The sums done by hand of the scope, as one list: what the definitions give, and what is written there. Definitions only.
-use Rattle.std.specs.Prelude.{ℕ, ◌≡◌, List, [], ◌∷◌, ◌++◌, map, ℤ, pos, negsuc, length, take, replicate, Float, true, false, cond, Ok, Err}
+use Rattle.std.specs.Prelude.{ℕ, suc, ◌≡◌, List, [], ◌∷◌, ◌++◌, map, ℤ, pos, negsuc, length, take, replicate, Float, true, false, Ok, Err}
 use Rattle.std.specs.Float.{fin, binary64}
 use Rattle.std.specs.Float.Ieee.{to_bits}
 use Rattle.answers.specs.Outcome.{Check}
@@ -7,8 +7,7 @@ use Rattle.answers.specs.Table.{told_of}
 use Rattle.numbers.specs.Arithmetic.{zero64, one64, two64, half64, quarter64}
 use Rattle.numbers.specs.Root.{root_of}
 use Rattle.numbers.specs.Floor.{floor_of}
-use Rattle.numbers.specs.declared.WholeNumber.{WholeNumber}
-use Rattle.numbers.specs.Whole.{fraction_of, whole_parts}
+use Rattle.numbers.specs.Whole.{fraction_of, whole_in_reach}
 use Rattle.lists.specs.Floats.{zeros}
 use Rattle.shape.specs.declared.Shape.{Shape}
 use Rattle.shape.specs.Limits.{scratch_for}
@@ -35,8 +34,9 @@ abbrev pub whole : ℕ → Float
 whole m = fin false m (pos 0)
 
 -- an integer: 1 where it is below zero, and its size
-abbrev integer : WholeNumber → List ℕ
-integer w = cond w.below 1 0 ∷ w.size ∷ []
+abbrev integer : ℤ → List ℕ
+integer (pos k) = 0 ∷ k ∷ []
+integer (negsuc k) = 1 ∷ suc k ∷ []
 
 -- ---- chains
 abbrev pub two_cores : ℕ → ℕ → ℕ → Shape
@@ -110,7 +110,7 @@ cases =
     ∷ case 2 (bits (root_of two64 ∷ [])) (0x3FF6A09E667F3BCD ∷ [])
     ∷ case 4 (bits (floor_of (fin true 1 (negsuc 1)) ∷ [])) (bits (fin true 1 (pos 0) ∷ []))
     -- the floor, the integer s0 that the shift takes for it, and t
-    ∷ case 5 (bits (floor_of P5-ratio ∷ []) ++ (integer (whole_parts P5-ratio) ++ bits (fraction_of P5-ratio ∷ [])))
+    ∷ case 5 (bits (floor_of P5-ratio ∷ []) ++ (integer (whole_in_reach P5-ratio) ++ bits (fraction_of P5-ratio ∷ [])))
     (bits (fin true 1 (pos 0) ∷ []) ++ (1 ∷ 1 ∷ bits (one64 ∷ [])))
     ∷ case 7 (ended_bits 1 (step_call P7-settings P7-shape (P7-axis ∷ []) P7-core (zeros (scratch_for 4))))
     (1 ∷ 0 ∷ bits (power 1 (pos 2) ∷ whole 9 ∷ power 5 (pos 1) ∷ whole 5 ∷ []))

@@ -1,7 +1,7 @@
--- `whole_root` is the whole root, and only one number is. Assumes nothing.
+-- `whole_root` is the whole root. Assumes nothing.
 use mathlib.Core.Path.{◌≡◌, refl, ap, subst}
 use Prim.Native.Nat.{ℕ, zero, suc, ◌+◌, ◌*◌, ◌/◌, ◌≤◌, ◌<◌}
-use native.Mathlib.Nat.{le_trans, lt_of_not-le, not-le_of_lt, le_antisymm, le_of_suc-le-suc, mul-le-mul}
+use native.Mathlib.Nat.{le_trans, lt_of_not-le, not-le_of_lt, le_of_suc-le-suc, mul-le-mul}
 use native.Mathlib.Omega.{arith}
 use mathlib.Core.Bool.{cond}
 use lib.Dec.{leb}
@@ -24,9 +24,6 @@ whole_root_ok n = subst (IsRoot n) (same (size n) n) (whole_part n)
 
 below : (n a b : ℕ) → a * a ≤ n → n < (b + 1) * (b + 1) → a ≤ b
 below n a b h k = le_of_suc-le-suc (lt_of_not-le (λ (g : suc b ≤ a). not-le_of_lt k (le_trans (mul-le-mul {n₁ = b + 1} {m₁ = b + 1} {n₂ = a} {m₂ = a} (omega arith) (omega arith)) h)))
-
-pub unique : (n a b : ℕ) → IsRoot n a → IsRoot n b → a ≡ b
-unique n a b p q = le_antisymm (below n a b p.0 q.1) (below n b a q.0 p.1)
 
 pub at_least : (n a q : ℕ) → a * a ≤ n → IsRoot n q → a ≤ q
 at_least n a q h r = below n a q h r.1

@@ -1,10 +1,9 @@
 -- The floor of an f64 as an integer, and what the f64 has above it. Definitions only.
-use Rattle.std.specs.Prelude.{ℕ, suc, ◌*◌, Bool, true, false, ◌&&◌, cond, ℤ, pos, negsuc, neg_ℤ, Float}
+use Rattle.std.specs.Prelude.{ℕ, ◌*◌, Bool, true, false, ◌&&◌, cond, ℤ, pos, neg_ℤ, Float}
 use Rattle.std.specs.Float.{nan, inf, fin, binary64}
 use Rattle.std.specs.Float.Ieee.{up, down, neg, le, of_int}
 use Rattle.numbers.specs.Arithmetic.{minus, farthest64}
 use Rattle.numbers.specs.Floor.{cut}
-use Rattle.numbers.specs.declared.WholeNumber.{WholeNumber}
 
 -- c, or -c
 abbrev pub signed : Bool → ℕ → ℤ
@@ -25,11 +24,6 @@ fraction_of x = minus x (of_int binary64 (whole_of x))
 abbrev pub in_reach : Float → Bool
 in_reach x = le (neg farthest64) x && le x farthest64
 
--- an integer as `whole` answers it: whether it is below zero, and its size
-abbrev pub parts_of : ℤ → WholeNumber
-parts_of (pos k) = record { below = false; size = k }
-parts_of (negsuc k) = record { below = true; size = suc k }
-
 -- the floor of an x within reach, and 0 for any other
-abbrev pub whole_parts : Float → WholeNumber
-whole_parts x = parts_of (cond (in_reach x) (whole_of x) (pos 0))
+abbrev pub whole_in_reach : Float → ℤ
+whole_in_reach x = cond (in_reach x) (whole_of x) (pos 0)

@@ -2,12 +2,12 @@
 // as an integer with what is left above it, and integers modulo n.
 #![tactic(auto)]
 
-ghost use Rattle.std.specs.Prelude.{◌≡◌, ◌^◌, ◌≤◌, ◌<◌, pos, ◌+ℤ◌, ◌-ℤ◌};
+ghost use Rattle.std.specs.Prelude.{◌≡◌, ◌^◌, ◌≤◌, ◌<◌, pos, ◌+ℤ◌, nat_abs};
 ghost use Rattle.numbers.specs.Finite.{finite};
 ghost use Rattle.numbers.specs.Root.{root_of};
 ghost use Rattle.numbers.specs.Floor.{floor_of};
 ghost use Rattle.numbers.specs.Magnitude.{magnitude_of};
-ghost use Rattle.numbers.specs.Whole.{signed, in_reach, whole_parts, fraction_of};
+ghost use Rattle.numbers.specs.Whole.{in_reach, whole_in_reach, fraction_of};
 ghost use Rattle.numbers.specs.Residues.{wrap};
 
 // Whether x is neither a NaN nor an infinity.
@@ -42,13 +42,6 @@ pub fn floor(x: f64) -> f64
     x.floor()
 }
 
-// A whole number by its sign and its size.
-#[derive(Clone, Copy)]
-pub struct WholeNumber {
-    pub below: bool,
-    pub size: usize,
-}
-
 // Whether x is at most 2^31 in size, which no NaN is.
 pub fn in_reach(x: f64) -> bool
     ensures { result ≡ in_reach x }
@@ -56,21 +49,14 @@ pub fn in_reach(x: f64) -> bool
     x >= -2147483648.0 && x <= 2147483648.0
 }
 
-// The floor of an x within reach as an integer, and 0 for any other x.
-pub fn whole(x: f64) -> WholeNumber
-    ensures { result ≡ whole_parts x }
+// The floor of an x within reach as an integer, and 0 for any other x. The floor -0 becomes +0, which the cast asks.
+pub fn whole(x: f64) -> isize
+    ensures { result ≡ whole_in_reach x }
 {
     if in_reach(x) {
-        let y = floor(x);
-        let size = magnitude(y) as usize;
-        return WholeNumber {
-            below: y < 0.0,
-            size,
-        };
-    }
-    WholeNumber {
-        below: false,
-        size: 0,
+        (floor(x) + 0.0) as isize
+    } else {
+        0
     }
 }
 
@@ -86,29 +72,10 @@ pub fn fraction(x: f64) -> f64
     }
 }
 
-// i + s modulo n.
-pub fn ahead(i: usize, s: usize, n: usize) -> usize
-    requires { (0 < n) × (i ≤ 2 ^ 32) × (s ≤ 2 ^ 32) }
-    ensures { result ≡ wrap n (pos i +ℤ pos s) }
-{
-    (i + s) % n
-}
-
-// i - s modulo n.
-pub fn behind(i: usize, s: usize, n: usize) -> usize
-    requires { (0 < n) × (n ≤ 2 ^ 32) × (i ≤ 2 ^ 32) }
-    ensures { result ≡ wrap n (pos i -ℤ pos s) }
-{
-    (i + (n - s % n)) % n
-}
-
 // i plus a whole number, modulo n.
-pub fn stepped(i: usize, by: WholeNumber, n: usize) -> usize
-    requires { (0 < n) × (n ≤ 2 ^ 32) × (i ≤ 2 ^ 32) × (by.size ≤ 2 ^ 32) }
-    ensures { result ≡ wrap n (pos i +ℤ signed by.below by.size) }
+pub fn stepped(i: usize, by: isize, n: usize) -> usize
+    requires { (0 < n) × (n ≤ 2 ^ 32) × (i ≤ 2 ^ 32) × (nat_abs by ≤ 2 ^ 32) }
+    ensures { result ≡ wrap n (pos i +ℤ by) }
 {
-    if by.below {
-        return behind(i, by.size, n);
-    }
-    ahead(i, by.size, n)
+    (i as isize + by).rem_euclid(n as isize) as usize
 }

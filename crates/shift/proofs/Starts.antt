@@ -5,15 +5,14 @@ use native.Mathlib.Nat.{le_of_lt, mul-le-mul_right, add-mul}
 use native.Mathlib.Numerals.{add-one}
 use native.Mathlib.Omega.{arith}
 use mathlib.Core.List.{List, [], ◌∷◌}
-use lib.IntN.{ℤ, pos, ◌+ℤ◌, ◌-ℤ◌, +ℤ_idr, +ℤ_assoc, +ℤ_comm, -ℤ-+ℤ_cancel}
+use lib.IntN.{ℤ, pos, nat_abs, ◌+ℤ◌, ◌-ℤ◌, +ℤ_idr, +ℤ_assoc, +ℤ_comm, -ℤ-+ℤ_cancel}
 use lib.Ieee.{Float}
 use mir.Syntax.{w64}
 use mir.Val.{Fits}
 use Rattle.numbers.specs.Residues.{wrap}
-use Rattle.numbers.specs.Whole.{whole_parts}
-use Rattle.numbers.specs.declared.WholeNumber.{WholeNumber}
+use Rattle.numbers.specs.Whole.{whole_in_reach}
 use Rattle.numbers.proofs.Residues.{wrap_lt, wrap_before}
-use Rattle.numbers.proofs.Reach.{parts_small}
+use Rattle.numbers.proofs.Reach.{in_reach_small}
 use Rattle.lists.specs.Lists.{listed}
 use Rattle.lists.proofs.Tables.{get_or_tab_lem}
 use Rattle.shift.specs.Starts.{nat_at, starts_of, StartRoom}
@@ -40,8 +39,8 @@ pub start_fits : (a n rr : ℕ) (z : ℤ) → a ≡ wrap n z → 1 ≤ n → n *
 start_fits a n rr z e h l = rw e (record { fits = omega (arith, mul-le-mul_right rr (le_of_lt (wrap_lt n z h))) })
 
 -- a whole number that was within reach can be stepped by
-pub size_fits : (x : Float) (w : WholeNumber) → w ≡ whole_parts x → w.size ≤ 2 ^ 32
-size_fits x w e = omega (arith, parts_small x w e)
+pub size_fits : (x : Float) (z : ℤ) → z ≡ whole_in_reach x → nat_abs z ≤ 2 ^ 32
+size_fits x z e = omega (arith, in_reach_small x z e)
 
 pub start_at : (n rr : ℕ) (z : ℤ) (m : ℕ) → m < 4 → nat_at (starts_of n rr z) m ≡ wrap n (z -ℤ pos 1 +ℤ pos m) * rr
 unfolding starts_of

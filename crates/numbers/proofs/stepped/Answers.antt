@@ -1,9 +1,8 @@
--- `numbers::stepped`: one step ahead or behind, as the flag says.
-
+-- `numbers::stepped`: the library's remainder of the sum is its residue (euclid_wrap, Residues.antt).
+use Rattle.std.proofs.Common.{arith}
+use Rattle.std.proofs.lemmas.Int.{to_z-of_z}
+use Rattle.numbers.proofs.Residues.{euclid_wrap}
 use Rattle.numbers.proofs.stepped.Goals as goal
 
-pub returns-then-by : goal.returns-then-by
-returns-then-by c = rw c.if-by.true c.behind.ensures
-
 pub returns : goal.returns
-returns c = rw c.if-by.false c.ahead.ensures
+returns c = grind (arith, to_z-of_z, euclid_wrap)

@@ -1,6 +1,6 @@
 -- `shift::bands::starts_of`: each of the four places fits (size_fits, start_fits), and is the start that the shift by the whole part has (starts_are).
 use borrow.Author.Rules.{rules}
-use Rattle.numbers.proofs.Reach.{parts_whole}
+use Rattle.numbers.proofs.Reach.{in_reach_whole}
 use Rattle.shift.proofs.Starts.{starts_are, start_fits, size_fits}
 use Rattle.shift.proofs.bands.starts_of.Goals as goal
 
@@ -29,4 +29,4 @@ pub overflow_mul-result-4 : goal.overflow_mul-result-4
 overflow_mul-result-4 c = search (rules, start_fits)
 
 pub returns : goal.returns
-returns c = search (rules, parts_whole, starts_are)
+returns c = search (rules, in_reach_whole, starts_are)
