@@ -2,7 +2,6 @@
 use mathlib.Core.Path.{◌≡◌, refl, sym, ap, ◌∙◌}
 use Prim.Native.Nat.{ℕ, zero, suc, ◌+◌, ◌*◌, ◌/◌, ◌%◌, ◌^◌, ◌≤◌, ◌<◌, zero-le, suc-le-suc}
 use native.Mathlib.Nat.{not-suc-le-zero, le_of_suc-le-suc}
-use native.Mathlib.Numerals.{add-one}
 use native.Mathlib.Omega.{arith}
 use mathlib.Core.Bool.{true}
 use mathlib.Core.List.{List, [], ◌∷◌, ◌++◌}
@@ -11,6 +10,7 @@ use lib.ListN.{length, get_or, take, drop, length-take, length-drop}
 use lib.Seq.{drop-cons}
 use lib.Ieee.{Float, binary64, fits, to_bits, of_bits}
 use lib.Ieee.Bits.{of_bits-to_bits, to_bits-lt, to_bits-of_bits}
+use Rattle.std.specs.Int.{w16, w32, w64, from_le_bytes, to_le_bytes}
 use Rattle.numbers.specs.Finite.{finite}
 use Rattle.lists.specs.Lists.{listed, flat}
 use Rattle.lists.specs.Floats.{at}
@@ -88,30 +88,51 @@ f64_reads x p l fit e = ap (of_bits binary64) (reads 8 (to_bits binary64 x) p l 
 pub f64_written : (l : List ℕ) → AreBytes l → (p : ℕ) → p + 8 ≤ length l → finite (f64_at l p) ≡ true → f64 (f64_at l p) ≡ cut p 8 l
 f64_written l bytes p le e = ap (bytes_of 8) (to_bits-of_bits binary64 (number_at 8 l p) (number_lt l bytes 8 p le) (finite_known (f64_at l p) e)) ∙ written l bytes 8 p le
 
--- ---- what code reads and makes: two bytes, four, eight, and the numbers of a loop
-module _ (l : List ℕ) (p : ℕ) where
-  pub two_at : (a b : ℕ) → (a ≡ get_or l p 0) × (a < 256) → (b ≡ get_or l (p + 1) 0) × (b < 256) → (a + 256 * b ≡ u16_at l p) × (a + 256 * b < 65536)
+-- ---- what the library reads and makes
+abbrev cells : ℕ → ℕ → List ℕ → List ℕ
+cells zero p l = []
+cells (suc w) p l = get_or l p 0 ∷ cells w (suc p) l
+
+cut_cells : (w p : ℕ) (l : List ℕ) → p + w ≤ length l → cut p w l ≡ cells w p l
+cut_cells zero p l h = refl
+cut_cells (suc w) p l h = cut_cons w p l (omega arith) ∙ ap (λ (t : List ℕ). get_or l p 0 ∷ t) (cut_cells w (suc p) l (omega arith))
+
+module _ (l b : List ℕ) (p : ℕ) where
+  pub two_at : p + 2 ≤ length l → b ≡ take 2 (drop p l) → from_le_bytes w16 b ≡ u16_at l p
   unfolding number_at
-  two_at a b h g = let e : b ≡ get_or l (suc p) 0 = rw add-one at g.0 in (omega arith, omega arith)
+  two_at h e = rw (e ∙ cut_cells 2 p l h) (omega arith)
 
-  pub four_at : (a b : ℕ) → (a ≡ u16_at l p) × (a < 65536) → (b ≡ u16_at l (p + 2)) × (b < 65536) → (a + 65536 * b ≡ u32_at l p) × (a + 65536 * b < 4294967296)
+  pub four_at : p + 4 ≤ length l → b ≡ take 4 (drop p l) → from_le_bytes w32 b ≡ u32_at l p
   unfolding number_at
-  four_at a b h g = let s : p + 2 ≡ suc (suc p) = omega arith in let e = rw s at g.0 in (omega arith, omega arith)
+  four_at h e = rw (e ∙ cut_cells 4 p l h) (omega arith)
 
-  pub eight_at : (a b : ℕ) → (a ≡ u32_at l p) × (a < 4294967296) → (b ≡ u32_at l (p + 4)) × (b < 4294967296) → a + 4294967296 * b ≡ number_at 8 l p
+  pub eight_at : p + 8 ≤ length l → b ≡ take 8 (drop p l) → from_le_bytes w64 b ≡ number_at 8 l p
   unfolding number_at
-  eight_at a b h g = let s : p + 4 ≡ suc (suc (suc (suc p))) = omega arith in let e = rw s at g.0 in omega arith
+  eight_at h e = rw (e ∙ cut_cells 8 p l h) (omega arith)
 
-module _ (x a b : ℕ) (e : a ≡ x % 256) (f : b ≡ x / 256 % 256) where
-  pub two_bytes : a ∷ b ∷ [] ≡ bytes_of 2 x
-  unfolding bytes_of
-  two_bytes = rw (e, f)
-
-  pub four_bytes : (c d : ℕ) → c ≡ x / 256 / 256 % 256 → d ≡ x / 256 / 256 / 256 % 256 → a ∷ b ∷ c ∷ d ∷ [] ≡ bytes_of 4 x
-  unfolding bytes_of
-  four_bytes c d g h = rw (e, f, g, h)
-
-pub eight_bytes : (x : ℕ) (l h : List ℕ) → l ≡ bytes_of 4 x → h ≡ bytes_of 4 (x / 4294967296)
-    → get_or l 0 0 ∷ get_or l 1 0 ∷ get_or l 2 0 ∷ get_or l 3 0 ∷ get_or h 0 0 ∷ get_or h 1 0 ∷ get_or h 2 0 ∷ get_or h 3 0 ∷ [] ≡ bytes_of 8 x
+pub two_bytes : (x : ℕ) → to_le_bytes w16 (x % 65536) ≡ bytes_of 2 x
 unfolding bytes_of
-eight_bytes x l h e f = let d : x / 4294967296 ≡ x / 256 / 256 / 256 / 256 = omega arith in rw (e, f, d)
+two_bytes x =
+    let a : x % 65536 % 256 ≡ x % 256 = omega arith in
+    let b : x % 65536 / 256 % 256 ≡ x / 256 % 256 = omega arith in
+    λ i. a i ∷ b i ∷ []
+
+pub four_bytes : (x : ℕ) → to_le_bytes w32 (x % 4294967296) ≡ bytes_of 4 x
+unfolding bytes_of
+four_bytes x =
+    let a : x % 4294967296 % 256 ≡ x % 256 = omega arith in
+    let b : x % 4294967296 / 256 % 256 ≡ x / 256 % 256 = omega arith in
+    let c : x % 4294967296 / 65536 % 256 ≡ x / 256 / 256 % 256 = omega arith in
+    let d : x % 4294967296 / 16777216 % 256 ≡ x / 256 / 256 / 256 % 256 = omega arith in
+    λ i. a i ∷ b i ∷ c i ∷ d i ∷ []
+
+pub eight_bytes : (x : ℕ) → to_le_bytes w64 x ≡ bytes_of 8 x
+unfolding bytes_of
+eight_bytes x =
+    let c : x / 65536 ≡ x / 256 / 256 = omega arith in
+    let d : x / 16777216 ≡ x / 256 / 256 / 256 = omega arith in
+    let e : x / 4294967296 ≡ x / 256 / 256 / 256 / 256 = omega arith in
+    let f : x / 1099511627776 ≡ x / 256 / 256 / 256 / 256 / 256 = omega arith in
+    let g : x / 281474976710656 ≡ x / 256 / 256 / 256 / 256 / 256 / 256 = omega arith in
+    let h : x / 72057594037927936 ≡ x / 256 / 256 / 256 / 256 / 256 / 256 / 256 = omega arith in
+    rw (c, d, e, f, g, h)

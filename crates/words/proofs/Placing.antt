@@ -1,12 +1,12 @@
 -- Laws of a list placed within another: its length, one place after another, and all of it. Assumes nothing.
 use mathlib.Core.Path.{◌≡◌, sym, ap, ◌∙◌}
-use Prim.Native.Nat.{ℕ, ◌+◌, ◌*◌, ◌≤◌, ◌<◌}
+use Prim.Native.Nat.{ℕ, ◌+◌, ◌*◌, ◌≤◌}
 use native.Mathlib.Nat.{add-zero}
 use native.Mathlib.Numerals.{add-one}
 use native.Mathlib.Omega.{arith}
-use mathlib.Core.List.{List, [], ◌∷◌, ◌++◌, append_assoc, append-nil}
-use lib.ListN.{length, take, drop, get_or, set, length-append, length-drop, take-append-drop, drop_of_length-le}
-use lib.Seq.{length-take-le, take_at, drop-drop, take_all, take-suc, set_at, drop-cons, drop-append-add}
+use mathlib.Core.List.{List, [], ◌++◌, append_assoc, append-nil}
+use lib.ListN.{length, take, drop, length-append, length-drop, take-append-drop, drop_of_length-le}
+use lib.Seq.{length-take-le, take_at, drop-drop, drop-append-add}
 use Rattle.lists.specs.Lists.{joined}
 use Rattle.lists.proofs.Tables.{joined_none, joined_more, length_joined}
 use Rattle.words.specs.Placed.{placed}
@@ -46,29 +46,6 @@ placed_none p l = rw add-zero (sym (take-append-drop p l))
 pub placed_all : {A : Type 0} (x l : List A) → length x ≡ length l → placed 0 x l ≡ x
 unfolding placed
 placed_all x l e = let h : length l ≤ 0 + length x = omega arith in rw (drop_of_length-le l h, append-nil)
-
--- ---- a loop that places one element a turn: i of x are placed
-module _ {A : Type 0} (o : A) (p : ℕ) (x l : List A) (room : p + length x ≤ length l) where
-  one_more : (i : ℕ) (y : A) (u : List A) → p + i < length l → length u ≡ p + i → set (u ++ drop (p + i) l) (p + i) y ≡ u ++ (y ∷ drop (p + i + 1) l)
-  one_more i y u h e = ap (λ (t : List A). set (u ++ t) (p + i) y) (drop-cons l (p + i) o h) ∙ set_at u (get_or l (p + i) o) _ y (p + i) e ∙ rw add-one
-
-  pub puts_more : (i : ℕ) (u : List A) (y : A) → u ≡ placed p (take i x) l → i < length x → y ≡ get_or x i o → set u (p + i) y ≡ placed p (take (i + 1) x) l
-  unfolding placed
-  puts_more i u y e h g =
-      let a = length-take-le i x (omega arith) in
-      let b = length-take-le (i + 1) x (omega arith) in
-      let t = length-take-le p l (omega arith) in
-      let n : p + length (take i x) ≡ p + i = omega arith in
-      let m : p + i + 1 ≡ p + length (take (i + 1) x) = omega arith in
-      let f : length (take p l ++ take i x) ≡ p + i = length-append (take p l) (take i x) ∙ omega arith in
-      let s : take (i + 1) x ≡ take i x ++ (y ∷ []) = rw (add-one, g) (take-suc x i o h) in
-      ap (λ (w : List A). set w (p + i) y) (e ∙ ap (λ (j : ℕ). take p l ++ (take i x ++ drop j l)) n ∙ sym (append_assoc (take p l) (take i x) (drop (p + i) l)))
-      ∙ one_more i y (take p l ++ take i x) (omega arith) f
-      ∙ append_assoc (take p l) (take i x) (y ∷ drop (p + i + 1) l)
-      ∙ ap (λ (w : List A). take p l ++ w) (sym (append_assoc (take i x) (y ∷ []) (drop (p + i + 1) l)) ∙ ap (λ (w : List A). w ++ drop (p + i + 1) l) (sym s) ∙ ap (λ (j : ℕ). take (i + 1) x ++ drop j l) m)
-
-  pub puts_done : (i : ℕ) (u : List A) → u ≡ placed p (take i x) l → length x ≤ i → u ≡ placed p x l
-  puts_done i u e h = e ∙ ap (λ (y : List A). placed p y l) (take_all i x h)
 
 -- ---- a loop that places one list of m elements a turn
 module _ {A : Type 0} (m : ℕ) (f : ℕ → List A) (even : (i : ℕ) → length (f i) ≡ m) (p : ℕ) (l : List A) where

@@ -1,5 +1,5 @@
 -- Loops over numbers in bytes: whether all are finite, each read, each written. Assumes nothing.
-use mathlib.Core.Path.{◌≡◌, sym, ap, ◌∙◌}
+use mathlib.Core.Path.{◌≡◌, sym, ap, ◌∙◌, refl}
 use Prim.Native.Nat.{ℕ, ◌+◌, ◌*◌, ◌≤◌, ◌<◌}
 use native.Mathlib.Omega.{arith}
 use mathlib.Core.Bool.{Bool, true, ◌&&◌}
@@ -31,8 +31,8 @@ module _ (bytes : List ℕ) (p m : ℕ) where
   unfolding numbers_from
   number_at i h = get_or_tab_lem m found i nan h
 
-  pub flag_number : (i : ℕ) (b x c : Bool) → Flag (numbers_from bytes p m) i b → i < m → x ≡ finite (f64_at bytes (p + 8 * i)) → c ≡ b && x → Flag (numbers_from bytes p m) (i + 1) c
-  flag_number i b x c e h d f = let n = numbers_length in flag_more (numbers_from bytes p m) i b x c e (omega arith) (d ∙ ap finite (sym (number_at i h))) f
+  pub flag_number : (i : ℕ) (b x : Bool) → Flag (numbers_from bytes p m) i b → i < m → x ≡ finite (f64_at bytes (p + 8 * i)) → Flag (numbers_from bytes p m) (i + 1) (b && x)
+  flag_number i b x e h d = let n = numbers_length in flag_more (numbers_from bytes p m) i b x (b && x) e (omega arith) (d ∙ ap finite (sym (number_at i h))) refl
 
   pub flag_numbers : (i : ℕ) (b : Bool) → Flag (numbers_from bytes p m) i b → m ≤ i → b ≡ all_finite (numbers_from bytes p m)
   flag_numbers i b e h = let n = numbers_length in flag_done (numbers_from bytes p m) i b e (omega arith)
@@ -43,8 +43,6 @@ module _ (bytes : List ℕ) (p m : ℕ) where
 pub numbers_done : (bytes : List ℕ) (p : ℕ) (d : List Float) (i : ℕ) (u : List Float) → u ≡ tab_over (λ (j : ℕ). f64_at bytes (p + 8 * j)) d i → length d ≤ i → u ≡ numbers_from bytes p (length d)
 unfolding numbers_from
 numbers_done bytes p d i u e h = tabs_done (λ (j : ℕ). f64_at bytes (p + 8 * j)) d i u e h
-
-pub ruleset numbers-read = (flag_number, flag_numbers, number_finite, numbers_done)
 
 -- ---- to bytes
 pub f64_length : (x : Float) → length (f64 x) ≡ 8
@@ -66,5 +64,3 @@ module _ (list : List Float) (p : ℕ) (l : List ℕ) where
   pub write_done : (k : ℕ) (u : List ℕ) → u ≡ written k → k ≤ length list → length list ≤ k → u ≡ placed p (bytes_of_all list) l
   unfolding bytes_of_all
   write_done k u e a b = let n : k ≡ length list = omega arith in e ∙ ap written n
-
-pub ruleset numbers-written = (write_none, write_more, write_done)
