@@ -327,18 +327,21 @@ at_any s z k t h A = record {
 
 -- ---- the loop over zones: T is the whole
 module _ (cutting : Cutting) (s : Shape) (T : Answer (Shape × Stepped)) (z k : ℕ) (t : Shape) (h : Stepped) (e : T ≡ turning (s.d - k) k (zone_turn cutting s) (t, h)) where
-  module _ (lt : k < s.d) (v : Check) (t' : Shape) (h' : Stepped) (f : zone_turn cutting s k (t, h) ≡ answered v (t', h')) where
-    pub loop_more : v ≡ Ok tt → T ≡ turning (s.d - (k + 1)) (k + 1) (zone_turn cutting s) (t', h')
-    loop_more g = answer_more T s.d k (zone_turn cutting s) (t, h) e lt v (t', h') f g
+  module _ (lt : k < s.d) where
+    module _ (t' : Shape) (h' : Stepped) (f : zone_turn cutting s k (t, h) ≡ Ok (t', h')) where
+      pub loop_more : T ≡ turning (s.d - (k + 1)) (k + 1) (zone_turn cutting s) (t', h')
+      unfolding answered
+      loop_more = answer_more T s.d k (zone_turn cutting s) (t, h) e lt (Ok tt) (t', h') f refl
 
-    pub loop_stop : (q : Refusal) → v ≡ Err q → (x : Shape × Stepped) → T ≡ answered (Err q) x
-    loop_stop q g x = answer_stop T s.d k (zone_turn cutting s) (t, h) e lt v (t', h') f q x g
+      pub loop_next : AtZone s z k t h → AtZone s z (k + 1) t' h'
+      loop_next A = turn_next cutting s z k t h A lt t' h' f
 
-    pub loop_next : AtZone s z k t h → v ≡ Ok tt → AtZone s z (k + 1) t' h'
+    pub loop_stop : (q : Refusal) → zone_turn cutting s k (t, h) ≡ Err q → T ≡ Err q
     unfolding answered
-    loop_next A g = turn_next cutting s z k t h A lt t' h' (f ∙ rw g)
+    loop_stop q f = answer_stop T s.d k (zone_turn cutting s) (t, h) e lt (Err q) (t, h) f q (t, h) refl
 
-  pub loop_end : s.d ≤ k → T ≡ answered (Ok tt) (t, h)
+  pub loop_end : s.d ≤ k → T ≡ Ok (t, h)
+  unfolding answered
   loop_end l = answer_done T s.d k (zone_turn cutting s) (t, h) e l
 
 -- the chain at the end stands in the room of its source

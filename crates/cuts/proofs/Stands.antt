@@ -12,7 +12,8 @@ use lib.Seq.{drop-drop, set-get_or, get_or-set_same}
 use lib.Ieee.{Float}
 use Rattle.numbers.specs.Arithmetic.{zero64}
 use Rattle.std.specs.Prelude.{Ok, Err}
-use Rattle.answers.specs.Outcome.{Answer, bind, answered, Check}
+use Rattle.answers.specs.declared.Refusal.{Refusal}
+use Rattle.answers.specs.Outcome.{Answer, bind, outcome_of}
 use Rattle.answers.proofs.Outcomes.{ok_inj, err_inj, ok_err}
 use Rattle.lists.specs.Slots.{offset, slot, put, fit}
 use Rattle.lists.proofs.Tests.{ltb_yes, ltb_is, ltb_not}
@@ -128,7 +129,7 @@ module _ (s : Shape) (z k : ℕ) (t : Shape) (h : Stepped) (w : SizesWithin s) (
     start_fits = subst (λ (p : Places). p.at ≤ p.end) (sym e) (omega arith)
 
   -- ---- the zone, by what its code says of the parts it was lent
-  module _ (cutting : Cutting) (r : ℕ) (q : r ≡ rank_left k t h.bonds) (v : Check) (b : Bond) (x carries : List Float) where
+  module _ (cutting : Cutting) (r : ℕ) (q : r ≡ rank_left k t h.bonds) (u : Answer Bond) (x carries : List Float) where
     abbrev lent : Places → List Float
     lent p = take (p.end - p.at) (drop p.at h.chain)
 
@@ -144,10 +145,10 @@ module _ (s : Shape) (z k : ℕ) (t : Shape) (h : Stepped) (w : SizesWithin s) (
         (carry_from k r (take (r * left_of t k) (take (p.mid - p.from) (drop p.from h.carries))))
         (core_with (left_of t k) (points_of t k) (right_of t k) (take (left_of t k * points_of t k * right_of t k) (lent p)))
         (length (lent p)) (p.to - p.mid)
-        ≡ answered v (laid_as (ltb (k + 1) s.d) r b x (own p))
+        ≡ outcome_of u (λ (b : Bond). laid_as (ltb (k + 1) s.d) r b x (own p))
         → carries ≡ take p.mid h.carries ++ (own p ++ drop p.to h.carries)
         → length x ≡ length (lent p)
-        → ZoneCut cutting s k t h v b (take p.at h.chain ++ (x ++ drop (p.end - p.at) (drop p.at h.chain))) carries
+        → ZoneCut cutting s k t h u (take p.at h.chain ++ (x ++ drop (p.end - p.at) (drop p.at h.chain))) carries
 
     claim : Claim (places_of s k)
     unfolding slot put standing core_size
@@ -177,10 +178,10 @@ module _ (s : Shape) (z k : ℕ) (t : Shape) (h : Stepped) (w : SizesWithin s) (
               (carry_from k r (take (r * left_of t k) (take (P.mid - P.from) (drop P.from h.carries))))
               (core_with (left_of t k) (points_of t k) (right_of t k) (take (core_size t k) (lent P))) (length (lent P)) n) (sym own-size)
               ∙ f
-              ∙ ap (λ (n : ℕ). answered v (laid_as (ltb n s.d) r b x (own P))) (add-one k)
-              ∙ ap (λ (n : ℕ). answered v (laid_as (ltb (suc k) s.d) n b x (own P))) q
-              ∙ ap (λ (y : List Float). answered v (laid_as (ltb (suc k) s.d) (rank_left k t h.bonds) b y (own P))) (sym c)
-              ∙ ap (λ (y : List Float). answered v (laid_as (ltb (suc k) s.d) (rank_left k t h.bonds) b (slot (core_size s) k new) y)) (sym d);
+              ∙ ap (λ (n : ℕ). outcome_of u (λ (b : Bond). laid_as (ltb n s.d) r b x (own P))) (add-one k)
+              ∙ ap (λ (n : ℕ). outcome_of u (λ (b : Bond). laid_as (ltb (suc k) s.d) n b x (own P))) q
+              ∙ ap (λ (y : List Float). outcome_of u (λ (b : Bond). laid_as (ltb (suc k) s.d) (rank_left k t h.bonds) b y (own P))) (sym c)
+              ∙ ap (λ (y : List Float). outcome_of u (λ (b : Bond). laid_as (ltb (suc k) s.d) (rank_left k t h.bonds) b (slot (core_size s) k new) y)) (sym d);
           chain = ap (λ (y : List Float). take P.at h.chain ++ (y ++ drop (P.end - P.at) (drop P.at h.chain))) (sym c)
               ∙ ap (λ (y : List Float). take P.at h.chain ++ (slot (core_size s) k new ++ y)) (drop-drop (P.end - P.at) P.at h.chain ∙ ap (λ (n : ℕ). drop n h.chain) end_is);
           carried = g
@@ -193,12 +194,14 @@ module _ (s : Shape) (z k : ℕ) (t : Shape) (h : Stepped) (w : SizesWithin s) (
 
 -- ---- a turn, by what its zone came to
 -- what code says of one reading of an answer it says of another
-answered_by : {A B C : Type 0} (o : Answer A) (g : A → B) (f : A → C) (v : Check) (y : B) (z : C) → bind o (λ x. Ok (g x)) ≡ answered v y → ((x : A) → g x ≡ y → f x ≡ z) → bind o (λ x. Ok (f x)) ≡ answered v z
-unfolding answered
-answered_by (Ok x) g f (Ok _) y z e h = ap Ok (h x (ok_inj e))
-answered_by (Ok x) g f (Err q) y z e h = absurd (ok_err e)
-answered_by (Err r) g f (Ok _) y z e h = absurd (ok_err (sym e))
-answered_by (Err r) g f (Err q) y z e h = ap Err (err_inj e)
+module _ {A B C : Type 0} (g : A → B) (f : A → C) where
+  read_ok : (o : Answer A) (y : B) (z : C) → bind o (λ x. Ok (g x)) ≡ Ok y → ((x : A) → g x ≡ y → f x ≡ z) → bind o (λ x. Ok (f x)) ≡ Ok z
+  read_ok (Ok x) y z e h = ap Ok (h x (ok_inj e))
+  read_ok (Err r) y z e h = absurd (ok_err (sym e))
+
+  read_err : (o : Answer A) (q : Refusal) → bind o (λ x. Ok (g x)) ≡ Err q → bind o (λ x. Ok (f x)) ≡ Err q
+  read_err (Ok x) q e = absurd (ok_err e)
+  read_err (Err r) q e = ap Err (err_inj e)
 
 -- the slots of a zone, one by one
 turned_is : (s : Shape) (k : ℕ) (h : Stepped) {bonds : List Bond} {chain carries : List Float} (r : Carry × Cut)
@@ -209,8 +212,16 @@ turned_is : (s : Shape) (k : ℕ) (h : Stepped) {bonds : List Bond} {chain carri
 unfolding zone_turned
 turned_is s k h r a b c = cc (a, b, c)
 
-module _ (cutting : Cutting) (s : Shape) (k : ℕ) (t : Shape) (h : Stepped) (v : Check) (b : Bond) (work carries : List Float)
-    (Z : ZoneCut cutting s k t h v b work carries) (lt : k < s.d) (room : k < length h.bonds) where
+module _ (cutting : Cutting) (s : Shape) (k : ℕ) (t : Shape) (h : Stepped) (u : Answer Bond) (work carries : List Float) (Z : ZoneCut cutting s k t h u work carries) where
+  -- a refused zone stops the turn
+  pub zone_stopped : (q : Refusal) → u ≡ Err q → zone_turn cutting s k (t, h) ≡ Err q
+  unfolding zone_turn outcome_of
+  zone_stopped q e =
+      read_err (laid_cut (core_size s k) (carry_size s k)) (λ (x : Carry × Cut). (with_core t k x.1.core, zone_turned s k x h))
+      (round_core cutting (ltb (suc k) s.d) k (carry_left s t h k) (standing s t h.chain k)) q (Z.laid ∙ rw e)
+
+module _ (cutting : Cutting) (s : Shape) (k : ℕ) (t : Shape) (h : Stepped) (u : Answer Bond) (work carries : List Float) (Z : ZoneCut cutting s k t h u work carries)
+    (b : Bond) (ok : u ≡ Ok b) (lt : k < s.d) (room : k < length h.bonds) where
   abbrev answer : Bool → Laid
   answer more = laid_as more (rank_left k t h.bonds) b (slot (core_size s) k work) (slot (carry_size s) k carries)
 
@@ -238,12 +249,12 @@ module _ (cutting : Cutting) (s : Shape) (k : ℕ) (t : Shape) (h : Stepped) (v 
   -- THE TURN: the core's ranks in the shape, the bond in its place
   pub zone_turned_lem : (r : ℕ) → r ≡ rank_left k t h.bonds → (t' : Shape) → t' ≡ with_core t k (core_with r (points_of t k) b.rank [])
       → (p : Bond) → p ≡ cond (ltb (k + 1) s.d) b (get_or h.bonds k past_bond)
-      → zone_turn cutting s k (t, h) ≡ answered v (t', held (set h.bonds k p) work carries)
-  unfolding zone_turn
+      → zone_turn cutting s k (t, h) ≡ Ok (t', held (set h.bonds k p) work carries)
+  unfolding zone_turn outcome_of
   zone_turned_lem r q t' et p ep =
       let more = ltb (suc k) s.d in
-      answered_by (round_core cutting more k (carry_left s t h k) (standing s t h.chain k)) (laid_cut (core_size s k) (carry_size s k))
-      (λ (x : Carry × Cut). (with_core t k x.1.core, zone_turned s k x h)) v (answer more) (t', held (set h.bonds k p) work carries) Z.laid
+      read_ok (laid_cut (core_size s k) (carry_size s k)) (λ (x : Carry × Cut). (with_core t k x.1.core, zone_turned s k x h))
+      (round_core cutting more k (carry_left s t h k) (standing s t h.chain k)) (answer more) (t', held (set h.bonds k p) work carries) (Z.laid ∙ rw ok)
       (λ x e.
       let L : x.1.core.rl ≡ r = ap (λ (l : Laid). l.left) e ∙ answer_left more ∙ sym q in
       let R : x.1.core.rr ≡ b.rank = ap (λ (l : Laid). l.right) e ∙ answer_right more in

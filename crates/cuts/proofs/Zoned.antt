@@ -13,7 +13,8 @@ use mir.Val as val
 use Rattle.answers.specs.declared.Part.TheVariants.{Factor}
 use Rattle.answers.specs.declared.Refusal.{Refusal}
 use Rattle.std.specs.Prelude.{Ok, Err}
-use Rattle.answers.specs.Outcome.{Made, Answer, bind, making, stage_of, staged, answered, stored_in, Stage, Check}
+use Rattle.std.specs.Result.{IfOk}
+use Rattle.answers.specs.Outcome.{Made, Answer, bind, making, stage_of, staged, answered, outcome_of, stored_in, Stage, Check}
 use Rattle.answers.proofs.Outcomes.{stored_answered}
 use Rattle.numbers.specs.Arithmetic.{zero64}
 use Rattle.lists.specs.Slots.{fit}
@@ -127,61 +128,69 @@ module _ (k r rl n rr : ℕ) (carry slot : List Float) where
         go (Ok _) = refl
         go (Err q) = refl
 
+-- a value that code answers, read at what is said of it
+pub value_of : {A B : Type 0} (T : Answer A) (o : Answer B) (f : B → A) → T ≡ outcome_of o f → (b : B) → o ≡ Ok b → T ≡ Ok (f b)
+unfolding outcome_of
+value_of T o f e b h = e ∙ rw h
+
 -- ---- a bond cut
-module _ (k : ℕ) (cutting : Cutting) (c : Core) (v : Check) (b : CutCore) (e : cut_bond k cutting c ≡ answered v b) where
+module _ (k : ℕ) (cutting : Cutting) (c : Core) where
   abbrev laying : ℕ → ℕ → Answer CutCore → Answer Laid
   laying x y o = bind (bind o (λ b. Ok (some b.bond.rank b.carry, record { core = b.core; bonds = b.bond ∷ [] }))) (λ p. Ok (laid_cut x y p))
 
-  pub rank_most : v ≡ Ok tt → 1 ≤ c.rr → b.bond.rank ≤ c.rr
-  unfolding answered
-  rank_most h o = (cut_from_lem k cutting c b (e ∙ rw h)).most o
+  pub rank_most : (b : CutCore) → cut_bond k cutting c ≡ Ok b → 1 ≤ c.rr → b.bond.rank ≤ c.rr
+  rank_most b e o = (cut_from_lem k cutting c b e).most o
 
   -- what it leaves, laid into slots of x and y numbers
-  pub cut_laid : v ≡ Ok tt → (x y x' y' : ℕ) (core carry : List Float) → core ≡ fit zero64 x' b.core.entries → carry ≡ fit zero64 y' b.carry → x' ≡ x → y' ≡ y
-      → bind (cut_if true k cutting c) (λ p. Ok (laid_cut x y p)) ≡ answered v (laid_as true b.core.rl b.bond core carry)
-  unfolding answered
-  cut_laid h x y x' y' core carry f g i j =
-      let d : cut_bond k cutting c ≡ Ok b = e ∙ rw h in
-      ap (laying x y) d ∙ rw (h, f, g, i, j, (cut_from_lem k cutting c b d).kept)
+  pub cut_laid : (b : CutCore) → cut_bond k cutting c ≡ Ok b → (x y x' y' : ℕ) (core carry : List Float) → core ≡ fit zero64 x' b.core.entries → carry ≡ fit zero64 y' b.carry → x' ≡ x → y' ≡ y
+      → bind (cut_if true k cutting c) (λ p. Ok (laid_cut x y p)) ≡ Ok (laid_as true b.core.rl b.bond core carry)
+  cut_laid b d x y x' y' core carry f g i j = ap (laying x y) d ∙ rw (f, g, i, j, (cut_from_lem k cutting c b d).kept)
 
-  pub cut_stopped : (q : Refusal) → v ≡ Err q → (x y : ℕ) (l : Laid) → bind (cut_if true k cutting c) (λ p. Ok (laid_cut x y p)) ≡ answered v l
-  unfolding answered
-  cut_stopped q h x y l = let d : cut_bond k cutting c ≡ Err q = e ∙ rw h in ap (laying x y) d ∙ rw h
+  pub cut_stopped : (q : Refusal) → cut_bond k cutting c ≡ Err q → (x y : ℕ) → bind (cut_if true k cutting c) (λ p. Ok (laid_cut x y p)) ≡ Err q
+  cut_stopped q d x y = ap (laying x y) d
 
 -- the front of a slot that was lent and came back as p
-module _ (k : ℕ) (cutting : Cutting) (rl n rr : ℕ) (slot : List Float) (v : Check) (b : Bond) (p carry : List Float)
-    (e : cut_bond k cutting (core_with rl n rr (take (rl * n * rr - 0) slot)) ≡ answered v (cut_into rl n rr b p carry)) where
-  front_whole : cut_bond k cutting (core_with rl n rr (take (rl * n * rr) slot)) ≡ answered v (cut_into rl n rr b p carry)
+module _ (k : ℕ) (cutting : Cutting) (rl n rr : ℕ) (slot : List Float) (o : Answer Bond) (p carry : List Float)
+    (e : cut_bond k cutting (core_with rl n rr (take (rl * n * rr - 0) slot)) ≡ outcome_of o (λ (b : Bond). cut_into rl n rr b p carry)) where
+  front_whole : cut_bond k cutting (core_with rl n rr (take (rl * n * rr) slot)) ≡ outcome_of o (λ (b : Bond). cut_into rl n rr b p carry)
   front_whole = ap (λ (m : ℕ). cut_bond k cutting (core_with rl n rr (take m slot))) (sym (sub-zero (rl * n * rr))) ∙ e
 
-  pub front_rank : 1 ≤ rr → v ≡ Ok tt → b.rank ≤ rr
-  front_rank o h = rank_most k cutting (core_with rl n rr (take (rl * n * rr) slot)) v _ front_whole h o
+  rank_fine : 1 ≤ rr → (b : Bond) → o ≡ Ok b → b.rank ≤ rr
+  unfolding outcome_of
+  rank_fine l b h = rank_most k cutting (core_with rl n rr (take (rl * n * rr) slot)) (cut_into rl n rr b p carry) (value_of _ o _ front_whole b h) l
+
+  pub front_rank : 1 ≤ rr → IfOk o (λ (b : Bond). b.rank ≤ rr)
+  front_rank l = go o refl
+    where
+      go : (u : Answer Bond) → o ≡ u → IfOk u (λ (b : Bond). b.rank ≤ rr)
+      go (Ok b) h = rank_fine l b h
+      go (Err q) h = tt
 
   pub front_cut : 1 ≤ rr → length p ≡ rl * n * rr → (rest : List Float)
-      → cut_bond k cutting (core_with rl n rr (take (rl * n * rr) slot)) ≡ answered v (cut_into rl n rr b (p ++ rest) carry)
-  unfolding answered
-  front_cut o l rest = go v refl
+      → cut_bond k cutting (core_with rl n rr (take (rl * n * rr) slot)) ≡ outcome_of o (λ (b : Bond). cut_into rl n rr b (p ++ rest) carry)
+  unfolding outcome_of
+  front_cut l i rest = go o refl
     where
-      go : (w : Check) → v ≡ w → cut_bond k cutting (core_with rl n rr (take (rl * n * rr) slot)) ≡ answered v (cut_into rl n rr b (p ++ rest) carry)
-      go (Ok _) h =
-          let m : rl * n * b.rank ≤ length p = omega (arith, mul-le-mul_left (rl * n) (front_rank o h), l) in
-          front_whole ∙ ap (λ (x : List Float). answered v (record { core = core_with rl n b.rank x; bond = b; carry = take (b.rank * rr) carry }))
-          (sym (take-append-le (rl * n * b.rank) p rest m))
+      go : (u : Answer Bond) → o ≡ u → cut_bond k cutting (core_with rl n rr (take (rl * n * rr) slot)) ≡ outcome_of u (λ (b : Bond). cut_into rl n rr b (p ++ rest) carry)
+      go (Ok b) h =
+          let m : rl * n * b.rank ≤ length p = omega (arith, mul-le-mul_left (rl * n) (rank_fine l b h), i) in
+          front_whole
+          ∙ rw h (ap (λ (x : List Float). Ok (record { core = core_with rl n b.rank x; bond = b; carry = take (b.rank * rr) carry })) (sym (take-append-le (rl * n * b.rank) p rest m)))
       go (Err q) h = front_whole ∙ rw h
 
 -- ---- with a bond to the right or without
 module _ (k : ℕ) (cutting : Cutting) (c : Core) (x y : ℕ) (more : Bool) where
-  pub if_cut : more ≡ true → (v : Check) (l : ℕ) (b : Bond) (core carry : List Float)
-      → bind (cut_if true k cutting c) (λ p. Ok (laid_cut x y p)) ≡ answered v (laid_as true l b core carry)
-      → bind (cut_if more k cutting c) (λ p. Ok (laid_cut x y p)) ≡ answered v (laid_as more l b core carry)
-  if_cut h v l b core carry e = rw h e
+  pub if_cut : more ≡ true → (o : Answer Bond) (l : ℕ) (core carry : List Float)
+      → bind (cut_if true k cutting c) (λ p. Ok (laid_cut x y p)) ≡ outcome_of o (λ (b : Bond). laid_as true l b core carry)
+      → bind (cut_if more k cutting c) (λ p. Ok (laid_cut x y p)) ≡ outcome_of o (λ (b : Bond). laid_as more l b core carry)
+  if_cut h o l core carry e = rw h e
 
   -- the last core has no room for a carry
-  pub if_last : more ≡ false → (v : Check) (b : Bond) (core carry : List Float) → v ≡ Ok tt → b.rank ≡ c.rr → core ≡ fit zero64 x c.entries → length carry ≡ y → y ≡ 0
-      → bind (cut_if more k cutting c) (λ p. Ok (laid_cut x y p)) ≡ answered v (laid_as more c.rl b core carry)
-  unfolding answered fit
-  if_last h v b core carry f g i j z =
-      rw (h, f, g, i)
+  pub if_last : more ≡ false → (b : Bond) (core carry : List Float) → b.rank ≡ c.rr → core ≡ fit zero64 x c.entries → length carry ≡ y → y ≡ 0
+      → bind (cut_if more k cutting c) (λ p. Ok (laid_cut x y p)) ≡ Ok (laid_as more c.rl b core carry)
+  unfolding fit
+  if_last h b core carry g i j z =
+      rw (h, g, i)
       (ap (λ (l : List Float). Ok (record { left = c.rl; right = c.rr; bonds = []; core = fit zero64 x c.entries; carry = l })) (go carry (omega arith)))
     where
       go : (l : List Float) → length l ≡ 0 → fit zero64 y [] ≡ l
@@ -190,21 +199,21 @@ module _ (k : ℕ) (cutting : Cutting) (c : Core) (x y : ℕ) (more : Bool) wher
 
 -- ---- a zone: the carry taken in, then the cut
 module _ (cutting : Cutting) (more : Bool) (k : ℕ) (s : Carry) (c : Core) (v : Check) (t : Core) (e : taken_in k s c ≡ answered v t) (x y : ℕ) where
-  pub zone_stops : (q : Refusal) → v ≡ Err q → (w : Check) → w ≡ Err q → (l : Laid) → bind (round_core cutting more k s c) (λ p. Ok (laid_cut x y p)) ≡ answered w l
+  pub zone_stops : (q : Refusal) → v ≡ Err q → bind (round_core cutting more k s c) (λ p. Ok (laid_cut x y p)) ≡ Err q
   unfolding round_core answered
-  zone_stops q h w g l = let d : taken_in k s c ≡ Err q = e ∙ rw h in rw g (ap (λ (o : Answer Core). bind (bind o (λ t. cut_if more k cutting t)) (λ p. Ok (laid_cut x y p))) d)
+  zone_stops q h = let d : taken_in k s c ≡ Err q = e ∙ rw h in ap (λ (o : Answer Core). bind (bind o (λ t. cut_if more k cutting t)) (λ p. Ok (laid_cut x y p))) d
 
-  pub zone_goes : v ≡ Ok tt → (w : Check) (l : ℕ) (b : Bond) (core carry carry' : List Float) (x' y' : ℕ)
-      → bind (cut_if more k cutting t) (λ p. Ok (laid_cut x' y' p)) ≡ answered w (laid_as more l b core carry) → x' ≡ x → y' ≡ y → carry' ≡ carry
-      → bind (round_core cutting more k s c) (λ p. Ok (laid_cut x y p)) ≡ answered w (laid_as more l b core carry')
+  pub zone_goes : v ≡ Ok tt → (u : Answer Bond) (l : ℕ) (core carry carry' : List Float) (x' y' : ℕ)
+      → bind (cut_if more k cutting t) (λ p. Ok (laid_cut x' y' p)) ≡ outcome_of u (λ (b : Bond). laid_as more l b core carry) → x' ≡ x → y' ≡ y → carry' ≡ carry
+      → bind (round_core cutting more k s c) (λ p. Ok (laid_cut x y p)) ≡ outcome_of u (λ (b : Bond). laid_as more l b core carry')
   unfolding round_core answered
-  zone_goes h w l b core carry carry' x' y' f i j g =
+  zone_goes h u l core carry carry' x' y' f i j g =
       let d : taken_in k s c ≡ Ok t = e ∙ rw h in
       ap (λ (o : Answer Core). bind (bind o (λ t. cut_if more k cutting t)) (λ p. Ok (laid_cut x y p))) d
       ∙ ap (λ (m : ℕ). bind (cut_if more k cutting t) (λ p. Ok (laid_cut m y p))) (sym i)
       ∙ ap (λ (m : ℕ). bind (cut_if more k cutting t) (λ p. Ok (laid_cut x' m p))) (sym j)
       ∙ f
-      ∙ ap (λ (z : List Float). answered w (laid_as more l b core z)) (sym g)
+      ∙ ap (λ (z : List Float). outcome_of u (λ (b : Bond). laid_as more l b core z)) (sym g)
 
 -- ---- a part of a list, from `from` up to `to`
 module _ (from to : ℕ) (l : List Float) (h : from ≤ to) (w : to ≤ length l) where

@@ -1,7 +1,7 @@
 -- Zone after zone in their slots. Definitions for loops only.
 use Rattle.std.specs.Prelude.{◌≡◌, ℕ, zero, suc, ◌+◌, ◌-◌, ◌≤◌, ◌<◌, List, ltb, length, get_or, replicate, Float, Ok}
 use Rattle.numbers.specs.Arithmetic.{zero64}
-use Rattle.answers.specs.Outcome.{Answer, bind, answered, Check}
+use Rattle.answers.specs.Outcome.{Answer, bind, outcome_of}
 use Rattle.lists.specs.Slots.{offset, slot, put, fit}
 use Rattle.shape.specs.declared.Shape.{Shape}
 use Rattle.shape.specs.Limits.{most_axes}
@@ -84,9 +84,9 @@ places_of s k = record {
 }
 
 -- zone k as its code answers it: only its own slots are written
-pub record ZoneCut (cutting : Cutting) (s : Shape) (k : ℕ) (t : Shape) (h : Stepped) (v : Check) (b : Bond) (work carries : List Float) : Type 0 where
+pub record ZoneCut (cutting : Cutting) (s : Shape) (k : ℕ) (t : Shape) (h : Stepped) (o : Answer Bond) (work carries : List Float) : Type 0 where
   pub laid : bind (round_core cutting (ltb (suc k) s.d) k (carry_left s t h k) (standing s t h.chain k))
       (λ x. Ok (laid_cut (core_size s k) (carry_size s k) x))
-      ≡ answered v (laid_as (ltb (suc k) s.d) (rank_left k t h.bonds) b (slot (core_size s) k work) (slot (carry_size s) k carries))
+      ≡ outcome_of o (λ (b : Bond). laid_as (ltb (suc k) s.d) (rank_left k t h.bonds) b (slot (core_size s) k work) (slot (carry_size s) k carries))
   pub chain : work ≡ put (core_size s) k (slot (core_size s) k work) h.chain
   pub carried : carries ≡ put (carry_size s) k (slot (carry_size s) k carries) h.carries

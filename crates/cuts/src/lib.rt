@@ -120,18 +120,15 @@ fn zone_cut(
     work: &mut [f64],
     carries: &mut [f64],
     room: &mut [f64],
-) -> bond::BondCut
+) -> Result<cutform::Bond, answers::Refusal>
     requires sizes_within { SizesWithin s }
     requires k_lt_d { (k < s.d) × (most_core ≤ length room.old) × Ready s k t r work.old carries.old }
     ensures { (ready : Ready s k t r work.old carries.old)
-        → ZoneCut cutting s k t (held ready.bonds work.old carries.old)
-        result.verdict result.bond work.new carries.new }
+        → ZoneCut cutting s k t (held ready.bonds work.old carries.old) result work.new carries.new }
 {
     let p = places_of(s, k);
-    let at = p.at;
-    let end = p.end;
     zone::round_core(
-        &mut work[at..end],
+        &mut work[p.at..p.end],
         k,
         k + 1 < s.d,
         r,
@@ -175,23 +172,20 @@ pub fn round_from(
     let mut shape = w.shape;
     let mut bonds = w.bonds;
     let mut r = left_rank(z, w);
-    let mut k = z;
-    while k < s.d {
-        let cut = zone_cut(k, s, shape, r, cutting, work, carries, room);
-        let verdict = cut.verdict;
-        if let Err(q) = verdict {
-            return Walked {
-                verdict: Err(q),
-                shape,
-                bonds,
-            };
-        }
-        let rank = cut.bond.rank;
-        shape = shape.with_core(k, r, rank);
-        let new = cut.bond;
-        bonds[k] = placed(k + 1 < s.d, new, bonds[k]);
-        r = rank;
-        k += 1;
+    for k in z..s.d {
+        let cut = match zone_cut(k, s, shape, r, cutting, work, carries, room) {
+            Ok(cut) => cut,
+            Err(q) => {
+                return Walked {
+                    verdict: Err(q),
+                    shape,
+                    bonds,
+                };
+            }
+        };
+        shape = shape.with_core(k, r, cut.rank);
+        bonds[k] = placed(k + 1 < s.d, cut, bonds[k]);
+        r = cut.rank;
     }
     Walked {
         verdict: Ok(()),

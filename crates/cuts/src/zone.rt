@@ -1,12 +1,14 @@
 // One core of a rounding in place: the carry on its left absorbed, its bond cut.
-ghost use Rattle.std.specs.Prelude.{◌≡◌, true, false, ◌-◌, ◌*◌, ◌≤◌, ◌<◌, ◌++◌, length, take, drop, Ok, Err};
-ghost use Rattle.answers.specs.Outcome.{staged, answered, bind};
+ghost use Rattle.std.specs.Prelude.{◌≡◌, true, false, ◌-◌, ◌*◌, ◌≤◌, ◌<◌, ◌++◌, length, take, drop, Ok};
+ghost use Rattle.std.specs.Result.{IfOk};
+ghost use Rattle.answers.specs.Outcome.{staged, answered, outcome_of, bind};
 ghost use Rattle.numbers.specs.Arithmetic.{zero64};
 ghost use Rattle.lists.specs.Slots.{fit};
 ghost use Rattle.lists.specs.Floats.{stored};
 ghost use Rattle.shape.specs.Limits.{most_rank};
 ghost use Rattle.shape.specs.Cores.{core_with};
-ghost use Rattle.cutform.specs.Bonds.{no_bond, cut_bond, absorb};
+ghost use Rattle.cutform.specs.declared.Bond.{Bond};
+ghost use Rattle.cutform.specs.Bonds.{cut_bond, absorb};
 ghost use Rattle.cutform.specs.Rounding.{taken_in, cut_if, round_core};
 ghost use Rattle.bond.specs.Stages.{cut_into};
 ghost use Rattle.cuts.specs.ZoneSlots.{carry_from, laid_cut, laid_as, ZoneFits};
@@ -91,11 +93,11 @@ fn cut_front(
     cutting: cutform::Cutting,
     carry: &mut [f64],
     room: &mut [f64],
-) -> bond::BondCut
+) -> Result<cutform::Bond, answers::Refusal>
     requires { (rl * n * rr ≤ length slot.old) × (rl * n * rr ≤ length room.old) × (1 ≤ rl) × (1 ≤ n) × (1 ≤ rr) × (rr ≤ most_rank)
         × (rr * rr ≤ length carry.old) }
     ensures { (cut_bond k cutting (core_with rl n rr (take (rl * n * rr) slot.old))
-        ≡ answered result.verdict (cut_into rl n rr result.bond slot.new carry.new)) × (result.verdict ≡ Ok tt → result.bond.rank ≤ rr) }
+        ≡ outcome_of result (λ (b : Bond). cut_into rl n rr b slot.new carry.new)) × IfOk result (λ (b : Bond). b.rank ≤ rr) }
 {
     let size = rl * n * rr;
     bond::cut_bond(&mut slot[0..size], k, rl, n, rr, cutting, carry, room)
@@ -111,39 +113,31 @@ fn cut_in(
     cutting: cutform::Cutting,
     carry: &mut [f64],
     room: &mut [f64],
-) -> bond::BondCut
+) -> Result<cutform::Bond, answers::Refusal>
     requires { (rl * n * rr ≤ length slot.old) × (rl * n * rr ≤ length room.old) × (1 ≤ rl) × (1 ≤ n) × (1 ≤ rr) × (rr ≤ most_rank)
         × (rr * rr ≤ length carry.old) }
     ensures { bind (cut_if true k cutting (core_with rl n rr (take (rl * n * rr) slot.old)))
         (λ x. Ok (laid_cut (length slot.old) (length carry.old) x))
-        ≡ answered result.verdict (laid_as true rl result.bond slot.new carry.new) }
+        ≡ outcome_of result (λ (b : Bond). laid_as true rl b slot.new carry.new) }
 {
-    let cut = cut_front(slot, k, rl, n, rr, cutting, carry, room);
-    let verdict = cut.verdict;
-    if let Err(q) = verdict {
-        return cut;
-    }
-    let rank = cut.bond.rank;
-    clear_behind(slot, rl * n * rank);
-    clear_behind(carry, rank * rr);
-    cut
+    let cut = cut_front(slot, k, rl, n, rr, cutting, carry, room)?;
+    clear_behind(slot, rl * n * cut.rank);
+    clear_behind(carry, cut.rank * rr);
+    Ok(cut)
 }
 
 // The last core is not cut: it keeps its right rank, makes no sweeps and drops nothing.
-fn last_in(slot: &mut [f64], rl: usize, n: usize, rr: usize) -> bond::BondCut
+fn last_in(slot: &mut [f64], rl: usize, n: usize, rr: usize) -> cutform::Bond
     requires { (rl * n * rr ≤ length slot.old) × (1 ≤ rr) }
-    ensures { (result ≡ record { verdict = Ok tt; bond = record { rank = rr; sweeps = 0; settled = false; dropped = zero64 } })
+    ensures { (result ≡ record { rank = rr; sweeps = 0; settled = false; dropped = zero64 })
         × (slot.new ≡ fit zero64 (length slot.old) (take (rl * n * rr) slot.old)) }
 {
     clear_behind(slot, rl * n * rr);
-    bond::BondCut {
-        verdict: Ok(()),
-        bond: cutform::Bond {
-            rank: rr,
-            sweeps: 0,
-            settled: false,
-            dropped: 0.0,
-        },
+    cutform::Bond {
+        rank: rr,
+        sweeps: 0,
+        settled: false,
+        dropped: 0.0,
     }
 }
 
@@ -158,26 +152,17 @@ fn cut_if(
     cutting: cutform::Cutting,
     carry: &mut [f64],
     room: &mut [f64],
-) -> bond::BondCut
+) -> Result<cutform::Bond, answers::Refusal>
     requires { (rl * n * rr ≤ length slot.old) × (rl * n * rr ≤ length room.old) × (1 ≤ rl) × (1 ≤ n) × (1 ≤ rr) × (rr ≤ most_rank)
         × (more ≡ true → rr * rr ≤ length carry.old) × (more ≡ false → length carry.old ≡ 0) }
     ensures { bind (cut_if more k cutting (core_with rl n rr (take (rl * n * rr) slot.old)))
         (λ x. Ok (laid_cut (length slot.old) (length carry.old) x))
-        ≡ answered result.verdict (laid_as more rl result.bond slot.new carry.new) }
+        ≡ outcome_of result (λ (b : Bond). laid_as more rl b slot.new carry.new) }
 {
     if more {
         return cut_in(slot, k, rl, n, rr, cutting, carry, room);
     }
-    last_in(slot, rl, n, rr)
-}
-
-pub fn refused_cut(q: answers::Refusal) -> bond::BondCut
-    ensures { result ≡ record { verdict = Err q; bond = no_bond } }
-{
-    bond::BondCut {
-        verdict: Err(q),
-        bond: bond::no_bond(),
-    }
+    Ok(last_in(slot, rl, n, rr))
 }
 
 // One zone: its core stands at the front of its slot, the carry on its left at `from` to `mid` among the carries, and its own
@@ -196,18 +181,15 @@ pub fn round_core(
     mid: usize,
     to: usize,
     room: &mut [f64],
-) -> bond::BondCut
+) -> Result<cutform::Bond, answers::Refusal>
     requires { ZoneFits k more r rl n rr from mid to (length slot.old) (length carries.old) (length room.old) }
     ensures { (bind (round_core cutting more k (carry_from k r (take (r * rl) (take (mid - from) (drop from carries.old))))
         (core_with rl n rr (take (rl * n * rr) slot.old))) (λ x. Ok (laid_cut (length slot.old) (to - mid) x))
-        ≡ answered result.verdict (laid_as more r result.bond slot.new (take (to - mid) (drop mid carries.new))))
+        ≡ outcome_of result (λ (b : Bond). laid_as more r b slot.new (take (to - mid) (drop mid carries.new))))
         × (carries.new ≡ take mid carries.old
         ++ (take (to - mid) (drop mid carries.new) ++ drop to carries.old)) }
 {
-    let ready = taken(slot, k, rl, n, rr, &carries[from..mid], r, room);
-    if let Err(q) = ready {
-        return refused_cut(q);
-    }
+    taken(slot, k, rl, n, rr, &carries[from..mid], r, room)?;
     cut_if(
         more,
         slot,

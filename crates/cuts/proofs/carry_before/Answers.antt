@@ -8,9 +8,3 @@ ruleset ways = (rules, carry-slots, before_none)
 
 pub returns-then-k-lt1 : goal.returns-then-k-lt1
 returns-then-k-lt1 c = search ways
-
-pub carry_offset-requires : goal.carry_offset-requires
-carry_offset-requires c = search ways
-
-pub returns : goal.returns
-returns c = search ways

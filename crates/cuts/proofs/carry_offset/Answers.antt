@@ -8,20 +8,8 @@ ruleset ways = (rules, carry-slots, offsets)
 pub loop-j-init : goal.loop-j-init
 loop-j-init c = search ways
 
-pub carry_size-total-requires : goal.carry_size-total-requires
-carry_size-total-requires c = search ways
-
 pub overflow_add-total : goal.overflow_add-total
 overflow_add-total c = search ways
 
-pub overflow_step-j : goal.overflow_step-j
-overflow_step-j c = search ways
-
-pub loop-j-smaller : goal.loop-j-smaller
-loop-j-smaller c = search ways
-
 pub loop-j-preserved : goal.loop-j-preserved
 loop-j-preserved c = search ways
-
-pub returns : goal.returns
-returns c = search ways

@@ -6,17 +6,8 @@ use Rattle.cuts.proofs.left_rank.Goals as goal
 
 ruleset ways = (rules, rank_first)
 
-pub bounds-t-0 : goal.bounds-t-0
-bounds-t-0 c = search ways
+pub returns : goal.returns
+returns c = let l : 1 ≤ c.args.k = search rules in rank_next _ _ _ l
 
 pub returns-then-k-lt1 : goal.returns-then-k-lt1
 returns-then-k-lt1 c = search ways
-
-pub offset_bounds-w-k : goal.offset_bounds-w-k
-offset_bounds-w-k c = search ways
-
-pub bounds-w-k : goal.bounds-w-k
-bounds-w-k c = search ways
-
-pub returns : goal.returns
-returns c = let l : 1 ≤ c.args.k = search rules in rank_next _ _ _ l

@@ -1,25 +1,30 @@
-use mathlib.Core.Path.{refl, ◌∙◌}
+use mathlib.Core.Path.{refl}
 use native.Mathlib.Omega.{arith}
+use Prim.Native.Nat.{◌<◌}
+use lib.ListN.{length}
+use Rattle.answers.specs.Outcome.{answered}
 use Rattle.cuts.proofs.From.{from_is, at_any, loop_more, loop_stop, loop_next, loop_end, end_inside, refused_fits}
-use Rattle.cuts.proofs.Stands.{zone_turned_lem, rank_carried}
+use Rattle.cuts.proofs.Stands.{zone_turned_lem, zone_stopped, rank_carried}
 use Rattle.cuts.proofs.round_from.Goals as goal
 
 pub left_rank-r-requires : goal.left_rank-r-requires
 left_rank-r-requires c = omega (arith, c.requires.sizes_within.axes.most, c.requires.z_le_d.0)
 
 pub loop-k-init : goal.loop-k-init
-loop-k-init c = (refl, refl, refl, c.requires.z_le_d.0, λ l. c.left_rank-r.ensures, c.requires.z_le_d.2, from_is _ _ _ _ _ _ c.requires.z_le_d.0 c.requires.z_le_d.2)
+loop-k-init c = record { rank = λ l. c.left_rank-r.ensures; zone = c.requires.z_le_d.2; left = from_is _ _ _ _ _ _ c.requires.z_le_d.0 c.requires.z_le_d.2 }
 
-pub zone_cut-cut-requires : goal.zone_cut-cut-requires
-zone_cut-cut-requires c = record {
+pub zone_cut-requires : goal.zone_cut-requires
+zone_cut-requires c = record {
   sizes_within = c.requires.sizes_within;
-  k_lt_d = (c.loop-k-test.true, omega (arith, c.requires.z_le_d.1, c.loop-k.invariant.2), record { bonds = _; left = c.loop-k.invariant.4 c.loop-k-test.true; zone = at_any _ _ _ _ _ c.loop-k.invariant.5 });
+  k_lt_d = (c.loop-k-test.true, omega (arith, c.requires.z_le_d.1, c.loop-k.auto.room), record { bonds = _; left = c.loop-k.invariant.rank c.loop-k-test.true; zone = at_any _ _ _ _ _ c.loop-k.invariant.zone });
 }
 
 pub returns-in-Err : goal.returns-in-Err
-returns-in-Err c = let zone = c.zone_cut-cut.ensures (record { bonds = _; left = c.loop-k.invariant.4 c.loop-k-test.true; zone = at_any _ _ _ _ _ c.loop-k.invariant.5 }) in
-    let turn = zone_turned_lem _ _ _ _ _ _ _ _ _ zone c.loop-k-test.true (omega (arith, c.loop-k.invariant.5.bonds, c.requires.sizes_within.axes.most, c.loop-k-test.true)) _ (c.loop-k.invariant.4 c.loop-k-test.true) _ refl _ refl in
-    (loop_stop _ _ _ c.args.z _ _ _ c.loop-k.invariant.6 c.loop-k-test.true _ _ _ turn _ c.in-Err.is _, λ o f. refused_fits _ _ refl f)
+unfolding answered
+returns-in-Err c =
+    let zone = c.zone_cut.ensures (record { bonds = _; left = c.loop-k.invariant.rank c.loop-k-test.true; zone = at_any _ _ _ _ _ c.loop-k.invariant.zone }) in
+    let turn = zone_stopped _ _ _ _ _ _ _ _ zone _ c.in-Err.is in
+    (loop_stop _ _ _ c.args.z _ _ _ c.loop-k.invariant.left c.loop-k-test.true _ turn, λ o f. refused_fits _ _ refl f)
 
 pub with_core-shape-requires : goal.with_core-shape-requires
 with_core-shape-requires c = omega (arith, c.requires.sizes_within.axes.most, c.loop-k-test.true)
@@ -37,17 +42,17 @@ pub bounds-bonds-k-in-loop-k : goal.bounds-bonds-k-in-loop-k
 bounds-bonds-k-in-loop-k c = omega (arith, c.requires.sizes_within.axes.most, c.loop-k-test.true)
 
 pub loop-k-preserved : goal.loop-k-preserved
-loop-k-preserved c = let zone = c.zone_cut-cut.ensures (record { bonds = _; left = c.loop-k.invariant.4 c.loop-k-test.true; zone = at_any _ _ _ _ _ c.loop-k.invariant.5 }) in
-    let turn = zone_turned_lem _ _ _ _ _ _ _ _ _ zone c.loop-k-test.true (omega (arith, c.loop-k.invariant.5.bonds, c.requires.sizes_within.axes.most, c.loop-k-test.true)) _
-    (c.loop-k.invariant.4 c.loop-k-test.true) _ c.with_core-shape.ensures _ c.placed.ensures in (
-      c.zone_cut-cut.auto.work ∙ c.loop-k.invariant.0,
-      c.zone_cut-cut.auto.carries ∙ c.loop-k.invariant.1,
-      c.zone_cut-cut.auto.room ∙ c.loop-k.invariant.2,
-      omega (arith, c.loop-k-test.true),
-      λ m. rank_carried _ _ _ _ _ _ _ _ _ zone c.loop-k-test.true (omega (arith, c.loop-k.invariant.5.bonds, c.requires.sizes_within.axes.most, c.loop-k-test.true)) _ c.placed.ensures _ m,
-      loop_next _ _ _ c.args.z _ _ _ c.loop-k.invariant.6 c.loop-k-test.true _ _ _ turn c.loop-k.invariant.5 c.in_default.is,
-      loop_more _ _ _ c.args.z _ _ _ c.loop-k.invariant.6 c.loop-k-test.true _ _ _ turn c.in_default.is,
-    )
+loop-k-preserved c =
+    let zone = c.zone_cut.ensures (record { bonds = _; left = c.loop-k.invariant.rank c.loop-k-test.true; zone = at_any _ _ _ _ _ c.loop-k.invariant.zone }) in
+    let room : c.loop-k.k < length c.loop-k.bonds = omega (arith, c.loop-k.invariant.zone.bonds, c.requires.sizes_within.axes.most, c.loop-k-test.true) in
+    let turn = zone_turned_lem _ _ _ _ _ _ _ _ zone _ c.in-Ok.is c.loop-k-test.true room _
+    (c.loop-k.invariant.rank c.loop-k-test.true) _ c.with_core-shape.ensures _ c.placed.ensures in
+    record {
+      rank = λ m. rank_carried _ _ _ _ _ _ _ _ zone _ c.in-Ok.is c.loop-k-test.true room _ c.placed.ensures _ m;
+      zone = loop_next _ _ _ c.args.z _ _ _ c.loop-k.invariant.left c.loop-k-test.true _ _ turn c.loop-k.invariant.zone;
+      left = loop_more _ _ _ c.args.z _ _ _ c.loop-k.invariant.left c.loop-k-test.true _ _ turn;
+    }
 
 pub returns : goal.returns
-returns c = (loop_end _ _ _ c.args.z _ _ _ c.loop-k.invariant.6 c.loop-k-test.false, λ o f. end_inside _ _ _ _ _ c.loop-k.invariant.5 c.loop-k-test.false o)
+unfolding answered
+returns c = (loop_end _ _ _ c.args.z _ _ _ c.loop-k.invariant.left c.loop-k-test.false, λ o f. end_inside _ _ _ _ _ c.loop-k.invariant.zone c.loop-k-test.false o)

@@ -7,8 +7,8 @@ use lib.ListN.{length}
 use Prim.Native.Nat.{◌*◌, ◌^◌, ◌<◌}
 use Rattle.cuts.proofs.zone_cut.Goals as goal
 
-pub offset_bounds-work-at : goal.offset_bounds-work-at
-offset_bounds-work-at c = let h = held c.requires.k_lt_d.2.bonds c.args.work.now c.args.carries.now in
+pub offset_bounds-work-p : goal.offset_bounds-work-p
+offset_bounds-work-p c = let h = held c.requires.k_lt_d.2.bonds c.args.work.now c.args.carries.now in
     let small : length c.args.work.now * 8 < 2 ^ 63 = search rules in
     record {
       fits = omega (
@@ -35,5 +35,5 @@ round_core-requires c = let h = held c.requires.k_lt_d.2.bonds c.args.work.now c
 
 pub returns : goal.returns
 returns c = λ ready.
-    zone_made c.args.s 1 c.args.k _ (held ready.bonds c.args.work.now c.args.carries.now) c.requires.sizes_within ready.zone c.requires.k_lt_d.0 _ _ ready.left _ _ _ _ _
+    zone_made c.args.s 1 c.args.k _ (held ready.bonds c.args.work.now c.args.carries.now) c.requires.sizes_within ready.zone c.requires.k_lt_d.0 _ _ ready.left _ _ _ _
     c.places_of-p.ensures c.round_core.ensures.0 c.round_core.ensures.1 c.round_core.auto.slot

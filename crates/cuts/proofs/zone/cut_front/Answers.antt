@@ -7,36 +7,8 @@ use Rattle.cuts.proofs.zone.cut_front.Goals as goal
 
 ruleset ways = (rules, sizes)
 
-pub overflow_mul-size : goal.overflow_mul-size
-overflow_mul-size c = search ways
-
-pub overflow_mul-size-2 : goal.overflow_mul-size-2
-overflow_mul-size-2 c = search ways
-
-pub slice_bounds-cut_bond-count : goal.slice_bounds-cut_bond-count
-slice_bounds-cut_bond-count c = search ways
-
-pub slice_bounds-cut_bond-start : goal.slice_bounds-cut_bond-start
-slice_bounds-cut_bond-start c = search ways
-
-pub slice_bounds-cut_bond-end : goal.slice_bounds-cut_bond-end
-slice_bounds-cut_bond-end c = search ways
-
-pub cut_bond-requires : goal.cut_bond-requires
-cut_bond-requires c = search ways
-
-pub shape_of-slot : goal.shape_of-slot
-shape_of-slot c = search ways
-
-pub shape_of-carry : goal.shape_of-carry
-shape_of-carry c = search ways
-
-pub shape_of-room : goal.shape_of-room
-shape_of-room c = search ways
-
 pub returns : goal.returns
 returns c = (
-  front_cut _ _ _ _ _ _ _ _ _ _ c.cut_bond.ensures c.requires.4 (c.cut_bond.auto.core ∙ span_length _ _ c.requires.0) _,
-  front_rank _ _ _ _ _ _ _ _ _ _ c.cut_bond.ensures
-      c.requires.4,
+  front_cut _ _ _ _ _ _ _ _ _ c.cut_bond.ensures c.requires.4 (c.cut_bond.auto.core ∙ span_length _ _ c.requires.0) _,
+  front_rank _ _ _ _ _ _ _ _ _ c.cut_bond.ensures c.requires.4,
 )
