@@ -16,6 +16,8 @@ use Rattle.lists.specs.Lists.{tab}
 use Rattle.lists.specs.Floats.{at, sum_on}
 use Rattle.lists.proofs.Cells.{cell_lt, row_end}
 use Rattle.lists.proofs.Loops.{iter_same}
+use Rattle.lists.proofs.Turns.{turns}
+use Rattle.lists.proofs.Over.{joins_none, joins_done}
 use Rattle.shape.specs.Cores.{Core, core_with, entry}
 use Rattle.shape.proofs.Places.{entry_line, block_lines}
 use Rattle.stepform.specs.Boundaries.{wrapped}
@@ -30,6 +32,9 @@ use Rattle.shift.proofs.Unrolled.{period_least, unrolled_at, unrolled_front}
 -- a list that has just its length has at least that
 pub at_least : (a b : ℕ) → a ≡ b → b ≤ a
 at_least a b e = le_of_eq (sym e)
+
+-- rows that are written one after another
+pub ruleset rows = (turns, joins_none, joins_done, at_least)
 
 -- block k of h numbers, as it is lent
 pub part_long : {A : Type 0} (l : List A) (k m h : ℕ) → k < m → length l ≡ m * h → length (take (k * h + h - k * h) (drop (k * h) l)) ≡ h

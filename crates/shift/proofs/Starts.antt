@@ -65,3 +65,5 @@ pub room_at : (starts : List ℕ) (j h l : ℕ) → StartRoom starts h l → j <
 room_at starts j h l r g m s = omega (arith, r m s)
 
 pub ruleset rooms = (near_lt, near_fits, near_scaled, room_at)
+
+pub ruleset starting = (starts_are, start_fits, size_fits)

@@ -15,6 +15,7 @@ use Rattle.numbers.specs.Residues.{wrap}
 use Rattle.numbers.proofs.Residues.{wrap_plus, wrap_around}
 use Rattle.lists.specs.Lists.{pick, tab, joined, grid}
 use Rattle.lists.specs.Floats.{at}
+use Rattle.lists.proofs.Parts.{part_count}
 use Rattle.lists.proofs.Tables.{length_grid, get_or_grid_lem, grid_is, grid_same, tab_is, joined_add}
 use Rattle.shape.specs.Limits.{most_points}
 use Rattle.stepform.specs.Boundaries.{reflecting, reflected, wrapped}
@@ -179,3 +180,9 @@ module _ (s : List Float) (n rr : ℕ) (long : length s ≡ n * rr) where
   unrolled_front b i x l m =
       get_or_grid_lem (period b n + n) rr (λ (q y : ℕ). at s (wrapped b n (pos q) * rr + y)) i x nan (omega (arith, period_least b n)) m
       ∙ ap (λ (k : ℕ). at s (k * rr + x)) (wrapped_inside b n i l)
+
+pub ruleset periods = (period_reflecting, period_other)
+
+pub ruleset unrolling = (long_reflecting, long_other, unrolled_reflecting, unrolled_other)
+
+pub ruleset in_parts = (part_count, parts_are, backwards_length, behind_long)

@@ -6,6 +6,7 @@ ghost use Rattle.stepform.specs.Weights.{cubic_band_weights};
 ghost use Rattle.shift.specs.Starts.{starts_of, StartRoom, band_in, entry_in};
 
 // The four weights of a fraction, for the offsets -1 to 2.
+#[tactic(auto, unfolding(stepform::specs::Weights::cubic_band_weights))]
 pub fn cubic_band_weights(t: f64) -> [f64; 4]
     ensures { result ≡ cubic_band_weights t }
 {
@@ -30,6 +31,7 @@ pub fn weights_of(ratio: f64) -> [f64; 4]
 }
 
 // Where the rows of a band start, which come again after `period`: at the offsets s0 - 1 to s0 + 2, for the floor s0 of the ratio.
+#[tactic(auto, using(numbers::proofs::Reach::parts_whole, crate::proofs::Starts::starting))]
 pub fn starts_of(ratio: f64, period: usize, rr: usize) -> [usize; 4]
     requires { (1 ≤ period) × (period ≤ 2 * most_points) × (period * rr < 2 ^ 64) × (in_reach ratio ≡ true) }
     ensures { result ≡ starts_of period rr (whole_of ratio) }
@@ -44,18 +46,20 @@ pub fn starts_of(ratio: f64, period: usize, rr: usize) -> [usize; 4]
 }
 
 // acc, then the four terms of a band at number j of t.
+#[tactic(auto, using(lists::proofs::Turns::turns, crate::proofs::Starts::rooms), unfolding(crate::specs::Starts::band_in, lists::specs::Floats::sum_on))]
 fn band(acc: f64, t: &[f64], j: usize, weights: &[f64; 4], starts: &[usize; 4]) -> f64
     requires { StartRoom starts.now (suc j) (length t.now) }
     ensures { result ≡ band_in acc t.now j weights.now starts.now 4 }
 {
     let mut x = acc;
     for m in 0..4 {
-        x = x + (0.25 * weights[m]) * t[starts[m] + j];
+        x += (0.25 * weights[m]) * t[starts[m] + j];
     }
     x
 }
 
 // Number j of a block, shifted; t is the block, written on.
+#[tactic(auto, unfolding(crate::specs::Starts::entry_in))]
 pub fn entry_at(
     t: &[f64],
     j: usize,

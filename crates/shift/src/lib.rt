@@ -18,6 +18,7 @@ ghost use Rattle.shift.specs.Starts.{StartRoom, entry_in};
 use stepform::Shift;
 
 // How far a step goes along the axis.
+#[tactic(auto, unfolding(stepform::specs::Shifts::distance))]
 pub fn distance(x: stepform::Axis, tau: f64) -> f64
     ensures { result ≡ distance x tau }
 {
@@ -26,6 +27,7 @@ pub fn distance(x: stepform::Axis, tau: f64) -> f64
 }
 
 // How far apart the points of the axis lie.
+#[tactic(auto, unfolding(stepform::specs::Shifts::spacing, lists::specs::Lists::pick))]
 pub fn spacing(x: stepform::Axis, n: usize) -> f64
     requires { n ≤ most_points }
     ensures { result ≡ spacing x n }
@@ -37,16 +39,14 @@ pub fn spacing(x: stepform::Axis, n: usize) -> f64
 }
 
 // What a step does to the core of an axis of n points.
+#[tactic(auto, unfolding(stepform::specs::Shifts::shift_of, lists::specs::Lists::pick))]
 pub fn shift_of(x: stepform::Axis, tau: f64, n: usize) -> Shift
     requires { n ≤ most_points }
     ensures { result ≡ shift_of x tau n }
 {
     let h = distance(x, tau);
     let dx = spacing(x, n);
-    if dx <= 0.0 {
-        return Shift::Stay;
-    }
-    if h == 0.0 {
+    if dx <= 0.0 || h == 0.0 {
         return Shift::Stay;
     }
     Shift::By(h / dx, x.boundary)
@@ -63,6 +63,7 @@ pub fn reaches(s: Shift) -> bool
 }
 
 // A block, shifted; t is the block, written on.
+#[tactic(auto, using(lists::proofs::Turns::turns, lists::proofs::Over::tabs, crate::proofs::Starts::rooms))]
 fn shift_block(
     t: &[f64],
     forward: &[f64; 4],
@@ -78,12 +79,12 @@ fn shift_block(
         (entry_in t.now forward.now ahead.now backward.now behind.now) }
 {
     for j in 0..out.len() {
-        let x = bands::entry_at(t, j, forward, ahead, backward, behind);
-        out[j] = x;
+        out[j] = bands::entry_at(t, j, forward, ahead, backward, behind);
     }
 }
 
 // rl blocks of n rows of rr numbers, each shifted; t has room for one of them, written on.
+#[tactic(auto, using(crate::proofs::Around::rows), unfolding(crate::specs::Unrolled::blocks_of))]
 fn shift_blocks(
     core: &[f64],
     rl: usize,
@@ -147,6 +148,7 @@ pub fn shift_core(
 }
 
 // Core k along its axis, into out; one that stays is copied.
+#[tactic(auto, using(crate::proofs::Stored::entries_stored), unfolding(answers::specs::Outcome::answered))]
 pub fn move_core(
     core: &[f64],
     k: usize,
@@ -176,14 +178,13 @@ pub fn move_core(
 fn multiply(s: &mut [f64], factor: f64)
     ensures { s.new ≡ map (λ (v : Float). times v factor) s.old }
 {
-    let mut i = 0;
-    while i < s.len() {
-        s[i] = s[i] * factor;
-        i += 1;
+    for v in s.iter_mut() {
+        *v *= factor;
     }
 }
 
 // Core 0 times 1 + tau*c.
+#[tactic(auto, using(crate::proofs::Stored::entries_stored), unfolding(stepform::specs::Shifts::scaled))]
 pub fn scale(core: &mut [f64], tau: f64, c: f64) -> Result<(), answers::Refusal>
     ensures { scaled tau c core.old ≡ answered result core.new }
 {

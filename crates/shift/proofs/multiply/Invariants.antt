@@ -1,15 +1,10 @@
--- `shift::multiply`: the invariant: the first i numbers are multiplied (maps_more), and after the last all are (maps_done).
-use Prim.Native.Nat.{◌≤◌, ◌-◌}
+-- `shift::multiply`: the invariant: the numbers before the index are multiplied.
 use mathlib.Core.Path.{◌≡◌}
 use mathlib.Core.List.{map}
-use lib.ListN.{length}
 use lib.Ieee.{Float}
 use Rattle.numbers.specs.Arithmetic.{times}
 use Rattle.lists.proofs.Over.{over_to}
 use Rattle.shift.proofs.multiply.Given as goal
 
-abbrev pub invariant-loop-i : goal.invariant-loop-i
-invariant-loop-i l = (l.i ≤ length l.initial.s) × (length l.s ≡ length l.initial.s) × (l.s ≡ over_to l.i (map (λ (v : Float). times v l.factor) l.initial.s) l.initial.s)
-
-abbrev pub decreases-loop-i : goal.decreases-loop-i
-decreases-loop-i l = length l.initial.s - l.i
+abbrev pub invariant-loop-v : goal.invariant-loop-v
+invariant-loop-v l = l.s ≡ over_to l.v-index (map (λ (v : Float). times v l.factor) l.initial.s) l.initial.s

@@ -1,13 +1,8 @@
 -- `shift::shift_block`: the invariant: the first j numbers are those of the shifted block (tabs), whose bands are in the block written twice (rooms).
-use Prim.Native.Nat.{◌≤◌, ◌-◌}
 use mathlib.Core.Path.{◌≡◌}
-use lib.ListN.{length}
 use Rattle.lists.proofs.Over.{tab_over}
 use Rattle.shift.specs.Starts.{entry_in}
 use Rattle.shift.proofs.shift_block.Given as goal
 
 abbrev pub invariant-loop-j : goal.invariant-loop-j
-invariant-loop-j l = (l.j ≤ length l.initial.out) × (length l.out ≡ length l.initial.out) × (l.out ≡ tab_over (entry_in l.t l.forward l.ahead l.backward l.behind) l.initial.out l.j)
-
-abbrev pub decreases-loop-j : goal.decreases-loop-j
-decreases-loop-j l = length l.initial.out - l.j
+invariant-loop-j l = (l.out ≡ tab_over (entry_in l.t l.forward l.ahead l.backward l.behind) l.initial.out l.j)

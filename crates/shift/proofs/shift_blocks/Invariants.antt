@@ -1,5 +1,5 @@
 -- `shift::shift_blocks`: the invariant: the first k blocks are shifted (joins_more), each from its copy that is written on (block_shifted).
-use Prim.Native.Nat.{ℕ, ◌*◌, ◌≤◌, ◌-◌}
+use Prim.Native.Nat.{ℕ, ◌*◌}
 use mathlib.Core.Path.{◌≡◌}
 use lib.ListN.{length}
 use Rattle.lists.specs.Lists.{tab}
@@ -10,8 +10,5 @@ use Rattle.shift.proofs.shift_blocks.Given as goal
 
 abbrev pub invariant-loop-k : goal.invariant-loop-k
 invariant-loop-k l =
-    (l.k ≤ l.rl) × (length l.out ≡ length l.initial.out) × (length l.t ≡ length l.initial.t)
+    (length l.t ≡ length l.initial.t)
     × (l.out ≡ join_over (l.n * l.rr) (λ (i : ℕ). tab (l.n * l.rr) (entry_in (unrolled_of l.boundary (block_of l.core (l.n * l.rr) i) l.n l.rr) l.forward l.ahead l.backward l.behind)) l.initial.out l.k)
-
-abbrev pub decreases-loop-k : goal.decreases-loop-k
-decreases-loop-k l = l.rl - l.k

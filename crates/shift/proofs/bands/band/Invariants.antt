@@ -1,11 +1,7 @@
 -- `shift::bands::band`: the invariant: x is the sum of the first m bands (band_in), whose weights and starts are in the list (rooms).
-use Prim.Native.Nat.{◌≤◌, ◌-◌}
 use mathlib.Core.Path.{◌≡◌}
 use Rattle.shift.specs.Starts.{band_in}
 use Rattle.shift.proofs.bands.band.Given as goal
 
 abbrev pub invariant-loop-m : goal.invariant-loop-m
-invariant-loop-m l = (l.m ≤ 4) × (l.x ≡ band_in l.acc l.t l.j l.weights l.starts l.m)
-
-abbrev pub decreases-loop-m : goal.decreases-loop-m
-decreases-loop-m l = 4 - l.m
+invariant-loop-m l = (l.x ≡ band_in l.acc l.t l.j l.weights l.starts l.m)
