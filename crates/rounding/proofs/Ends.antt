@@ -301,3 +301,7 @@ module _ (s : Shape) (cutting : Cutting) (chain scratch : List Float) (v : Check
     pub round_goes : (x : Ended) → x ≡ ended_by s chain scratch (rounding cutting (cores_of s chain)) → x ≡ round_call s cutting chain scratch
     unfolding round_call
     round_goes x f = f ∙ sym (ap (λ (c : Check). ended_by s chain scratch (c then rounding cutting (cores_of s chain))) passed)
+
+pub ruleset finish_ends = (finish_stops, finish_goes)
+
+pub ruleset round_call_ends = (round_asks, round_goes)

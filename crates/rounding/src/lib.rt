@@ -19,40 +19,31 @@ use cutform::Rounded;
 pub fn refused_rounding(r: answers::Refusal, s: shape::Shape) -> Rounded
     ensures { result ≡ record { verdict = Err r; shape = s; bonds = replicate most_axes no_bond } }
 {
-    let none = bond::no_bond();
     Rounded {
         verdict: Err(r),
         shape: s,
-        bonds: [none; shape::MOST_AXES],
-    }
-}
-
-fn rounded_of(w: cuts::Walked) -> Rounded
-    ensures { result ≡ record { verdict = Ok tt; shape = w.shape; bonds = w.bonds } }
-{
-    let shape = w.shape;
-    let bonds = w.bonds;
-    Rounded {
-        verdict: Ok(()),
-        shape,
-        bonds,
+        bonds: [bond::no_bond(); shape::MOST_AXES],
     }
 }
 
 // The end of a call that rounds: where nothing was refused the chain is written, and scratch is +0 in any case.
+#[tactic(auto, using(crate::proofs::Ends::finish_ends))]
 pub fn finish(s: shape::Shape, w: cuts::Walked, chain: &mut [f64], scratch: &mut [f64]) -> Rounded
     requires sizes_within { SizesWithin s }
     requires inside { (w.verdict ≡ Ok tt → Inside s w.shape) × (entries_of s ≤ length chain.old) × (entries_of s ≤ length scratch.old) }
     ensures { record { result = result; chain = chain.new; scratch = scratch.new }
         ≡ finished s w chain.old scratch.old }
 {
-    let verdict = w.verdict;
-    let t = w.shape;
-    packing::leave(verdict, s, t, chain, scratch);
-    if let Err(q) = verdict {
+    packing::leave(w.verdict, s, w.shape, chain, scratch);
+    if let Err(q) = w.verdict {
         return refused_rounding(q, s);
     }
-    rounded_of(w)
+    let bonds = w.bonds;
+    Rounded {
+        verdict: Ok(()),
+        shape: w.shape,
+        bonds,
+    }
 }
 
 // The chain at the front of scratch, where its cores are worked on.
@@ -92,6 +83,7 @@ fn round_all(
 }
 
 // Rounds a chain: bond by bond from the left.
+#[tactic(auto, using(crate::proofs::Ends::round_call_ends))]
 pub fn tt_round(
     s: shape::Shape,
     cutting: cutform::Cutting,
@@ -101,9 +93,8 @@ pub fn tt_round(
     ensures { record { result = result; chain = chain.new; scratch = scratch.new }
         ≡ round_call s cutting chain.old scratch.old }
 {
-    let ok = checks::round_ok(s, cutting, chain, scratch.len());
-    if let Err(r) = ok {
-        return refused_rounding(r, s);
+    match checks::round_ok(s, cutting, chain, scratch.len()) {
+        Ok(()) => round_all(s, cutting, chain, scratch),
+        Err(r) => refused_rounding(r, s),
     }
-    round_all(s, cutting, chain, scratch)
 }

@@ -10,6 +10,7 @@ ghost use Rattle.rounding.specs.Left.{left_by};
 
 // The cores' numbers, which stand in `work` where the cores of shape s begin, one after another at the chain's front,
 // the rest +0. The shape t says how many numbers a core has now.
+#[tactic(auto, using(shape::proofs::Offsets::offsets, shape::proofs::Slotwise::slotwise))]
 fn pack(s: shape::Shape, t: shape::Shape, work: &[f64], chain: &mut [f64])
     requires sizes_within { (SizesWithin s) × (SizesWithin t) × (t.d ≡ s.d) }
     requires by_index { (k : ℕ) → k < s.d → core_size t k ≤ core_size s k }
@@ -19,19 +20,18 @@ fn pack(s: shape::Shape, t: shape::Shape, work: &[f64], chain: &mut [f64])
 {
     let mut from = 0;
     let mut at = 0;
-    let mut k = 0;
-    while k < s.d {
+    for k in 0..s.d {
         let size = t.core_size(k);
         let end = at + size;
         lists::copy(&work[from..from + size], &mut chain[at..end]);
         from += s.core_size(k);
         at = end;
-        k += 1;
     }
     lists::fill(&mut chain[at..], 0.0);
 }
 
 // Where nothing was refused the chain is written, with the sizes of t, and scratch is +0 in any case.
+#[tactic(auto, using(crate::proofs::Rooms::inside_rooms))]
 pub fn leave(
     verdict: Result<(), answers::Refusal>,
     s: shape::Shape,
@@ -44,10 +44,8 @@ pub fn leave(
     ensures chain_after { chain.new ≡ left_by verdict s t chain.old scratch.old }
     ensures scratch_after { scratch.new ≡ zeros (length scratch.old) }
 {
-    if let Err(q) = verdict {
-        lists::fill(scratch, 0.0);
-        return;
+    if verdict.is_ok() {
+        pack(s, t, scratch, chain);
     }
-    pack(s, t, scratch, chain);
     lists::fill(scratch, 0.0);
 }

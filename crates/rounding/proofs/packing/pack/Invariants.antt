@@ -1,11 +1,7 @@
 -- `rounding::packing::pack`: the invariant (Packing): k cores stand packed at the chain's front, and the next is read where its source begins.
-use Prim.Native.Nat.{◌-◌}
 use Rattle.shape.specs.Shapes.{core_size}
 use Rattle.lists.proofs.Packs.{Packing}
 use Rattle.rounding.proofs.packing.pack.Given as goal
 
 abbrev pub invariant-loop-k : goal.invariant-loop-k
 invariant-loop-k l = Packing (core_size l.s) (core_size l.t) l.s.d l.work l.initial.chain l.k l.from l.at l.chain
-
-abbrev pub decreases-loop-k : goal.decreases-loop-k
-decreases-loop-k l = l.s.d - l.k
