@@ -66,3 +66,5 @@ module _ (s : Shape) (w : SizesWithin s) (last : ℕ) (e : last ≡ offset (sum_
 
   pub last_fits : Fits w64 (last * 8)
   last_fits = record { fits = omega (arith, sums_most s w (s.d - 1) (omega arith)) }
+
+pub ruleset committing = (slot_starts, over_at, last_within, last_fits)

@@ -42,6 +42,7 @@ pub fn take_sum(z: usize, s: shape::Shape, sums: &[f64], summed: &mut [f64])
 }
 
 // What the work left of the zones from z on goes into the run's slices. The figure is the first number of the last axis' sums.
+#[tactic(auto, using(crate::proofs::Taken::committing))]
 pub fn commit(
     z: usize,
     s: shape::Shape,
