@@ -8,12 +8,13 @@ use Rattle.answers.specs.declared.Refusal.{Refusal}
 use Rattle.answers.specs.declared.Refusal.TheVariants.{Length, Reach}
 use Rattle.std.specs.Prelude.{Ok, Err}
 use Rattle.answers.specs.Outcome.{Check, ◌then◌, demand_each}
-use Rattle.answers.proofs.Checks.{then_stops, then_passes}
 use Rattle.shape.specs.declared.Shape.{Shape}
 use Rattle.shape.specs.Limits.{scratch_for}
 use Rattle.shape.specs.Shapes.{chain_ok, entries_of}
 use Rattle.stepform.specs.Zones.{rules}
 use Rattle.stepform.specs.Call.{axis_reaches}
+use Rattle.shape.proofs.Shaped.{fits_sizes, fits_points}
+use Rattle.product.proofs.Checks.{refuses, passes}
 use Rattle.run_checks.proofs.Guards.{size_stops, size_passes}
 use Rattle.runform.specs.Slices.{Outputs, outputs_in_order, slice_count}
 use Rattle.runform.specs.Kept.{Inputs}
@@ -53,32 +54,33 @@ module _ (i : Inputs) (m : Outputs ℕ) (n : ℕ) where
       ∙ row (chain_ok s) (inputs_lent i) (outputs_lent s m) (scratch_lent s slice_count n) numbers
       ∙ ap (λ (l : Check). chain_ok s then l then scratch_lent s slice_count n then numbers) (sym parts)
 
-  module _ (v : Check) (e : v ≡ chain_ok s) where
-    pub shape_stops : (r : Refusal) → v ≡ Err r → Err r ≡ Fresh
-    shape_stops r h = then_stops (chain_ok s) (Lent then scratch_lent s slice_count n then numbers) v e r h ∙ (sym fresh_row)
+  pub shape_stops : (r : Refusal) → Err r ≡ chain_ok s → Err r ≡ Fresh
+  shape_stops r h = refuses (chain_ok s) (Lent then scratch_lent s slice_count n then numbers) r h ∙ sym fresh_row
 
-    module _ (h : v ≡ Ok tt) (w : Check) (f : w ≡ Lent) where
-      past : (x : Check) → x ≡ (Lent then scratch_lent s slice_count n then numbers) → x ≡ Fresh
-      past x o = then_passes (chain_ok s) (Lent then scratch_lent s slice_count n then numbers) v e x h o ∙ (sym fresh_row)
+  module _ (shaped : Ok tt ≡ chain_ok s) where
+    past : (x : Check) → x ≡ (Lent then scratch_lent s slice_count n then numbers) → x ≡ Fresh
+    past x o = passes (chain_ok s) (Lent then scratch_lent s slice_count n then numbers) x shaped o ∙ sym fresh_row
 
-      pub lent_stops : (r : Refusal) → w ≡ Err r → Err r ≡ Fresh
-      lent_stops r g = past (Err r) (then_stops Lent (scratch_lent s slice_count n then numbers) w f r g)
+    pub lent_stops : (r : Refusal) → Err r ≡ Lent → Err r ≡ Fresh
+    lent_stops r g = past (Err r) (refuses Lent (scratch_lent s slice_count n then numbers) r g)
 
-      module _ (g : w ≡ Ok tt) (a : ℕ) (o : a ≡ scratch_for (entries_of s)) where
-        further : (x : Check) → x ≡ (scratch_lent s slice_count n then numbers) → x ≡ Fresh
-        further x p = past x (then_passes Lent (scratch_lent s slice_count n then numbers) w f x g p)
+    module _ (lent : Ok tt ≡ Lent) (a : ℕ) (o : a ≡ scratch_for (entries_of s)) where
+      further : (x : Check) → x ≡ (scratch_lent s slice_count n then numbers) → x ≡ Fresh
+      further x p = past x (passes Lent (scratch_lent s slice_count n then numbers) x lent p)
 
-        pub scratch_stops : (n ≡ a → ⊥) → Err (Length slice_count) ≡ Fresh
+      pub scratch_stops : (n ≡ a → ⊥) → Err (Length slice_count) ≡ Fresh
+      unfolding scratch_lent
+      scratch_stops q = further (Err (Length slice_count)) (size_stops numbers (Length slice_count) n (scratch_for (entries_of s)) a o q)
+
+      module _ (q : n ≡ a) where
+        onward : (x : Check) → x ≡ numbers → x ≡ Fresh
         unfolding scratch_lent
-        scratch_stops q = further (Err (Length slice_count)) (size_stops numbers (Length slice_count) n (scratch_for (entries_of s)) a o q)
+        onward x b = further x (size_passes numbers (Length slice_count) n (scratch_for (entries_of s)) a o q x b)
 
-        module _ (q : n ≡ a) (y : Check) (p : y ≡ made_ok i) where
-          onward : (x : Check) → x ≡ numbers → x ≡ Fresh
-          unfolding scratch_lent
-          onward x b = further x (size_passes numbers (Length slice_count) n (scratch_for (entries_of s)) a o q x b)
+        pub numbers_stop : (r : Refusal) → Err r ≡ made_ok i → Err r ≡ Fresh
+        numbers_stop r h = onward (Err r) (refuses (made_ok i) shifts r h)
 
-          pub numbers_stop : (r : Refusal) → y ≡ Err r → Err r ≡ Fresh
-          numbers_stop r h = onward (Err r) (then_stops (made_ok i) shifts y p r h)
+        pub fresh_fits : Ok tt ≡ made_ok i → (x : Check) → x ≡ shifts → x ≡ Fresh
+        fresh_fits h x b = onward x (passes (made_ok i) shifts x h b)
 
-          pub fresh_fits : y ≡ Ok tt → (x : Check) → x ≡ shifts → x ≡ Fresh
-          fresh_fits h x b = onward x (then_passes (made_ok i) shifts y p x h b)
+pub ruleset sized = (fits_sizes, fits_points)

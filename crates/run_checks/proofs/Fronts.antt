@@ -1,9 +1,10 @@
 -- What is found in the used room of a slot, and of the shifts from a zone on. Assumes nothing.
 use mathlib.Core.Path.{◌≡◌, refl, sym, ap, ◌∙◌}
 use Prim.Native.Nat.{ℕ, suc, ◌+◌, ◌-◌, ◌*◌, ◌≤◌, ◌<◌}
-use native.Mathlib.Nat.{zero-add, mul-le-mul, mul-le-mul_right}
+use native.Mathlib.Nat.{mul-le-mul, mul-le-mul_right}
+use native.Mathlib.Numerals.{add-one}
 use native.Mathlib.Omega.{arith}
-use mathlib.Core.Bool.{Bool, true, cond, ◌||◌}
+use mathlib.Core.Bool.{Bool, true, false, cond, not}
 use mathlib.Core.List.{List}
 use lib.ListN.{length, take, drop}
 use lib.Seq.{take-take}
@@ -13,12 +14,11 @@ use mir.Val as val
 use Rattle.numbers.specs.Finite.{finite}
 use Rattle.answers.specs.declared.Refusal.TheVariants.{Reach}
 use Rattle.std.specs.Prelude.{Ok, Err}
-use Rattle.answers.specs.Outcome.{demand_each}
-use Rattle.answers.proofs.Checks.{each_same, each_from}
-use Rattle.lists.specs.Lists.{first_not}
+use Rattle.answers.specs.Outcome.{Check, ◌then◌, demand, demand_each}
+use Rattle.answers.proofs.Checks.{then_stops, then_passes}
 use Rattle.lists.specs.Slots.{offset, slot}
 use Rattle.lists.specs.Floats.{all_finite}
-use Rattle.lists.proofs.Asked.{place_wrong, places_right}
+use Rattle.lists.proofs.Asked.{test_wrong, test_right}
 use Rattle.lists.proofs.Tests.{ltb_yes, ltb_no}
 use Rattle.lists.proofs.Slots.{offset_suc, offset_mono}
 use Rattle.shape.specs.declared.Shape.{Shape}
@@ -35,7 +35,6 @@ use Rattle.stepform.specs.Call.{axis_reaches}
 use Rattle.cutform.specs.declared.Bond.{Bond}
 use Rattle.runform.specs.Kept.{all_carries, all_sums, left_held, right_held, held_core, held_carry}
 use Rattle.runform.specs.Checks.{rank_ok, core_held, carry_held, sums_held, dropped_held}
-use Rattle.run_checks.specs.Reach.{reach_from}
 use Rattle.runform.proofs.KeptRanks.{rank_within, right_within, left_within}
 
 pub front_found : (l : List Float) (at used : ℕ) (b : Bool) → b ≡ all_finite (take (at + used - at) (drop at l)) → b ≡ all_finite (take used (drop at l))
@@ -130,30 +129,24 @@ module _ (s : Shape) (bonds : List Bond) (ok : shape_ok s (rank_ok s bonds) ≡ 
         ∙ ap all_finite (front_is (sum_size s) s.d k sums lt room at r e less)
         ∙ ap (λ (m : ℕ). all_finite (take m (slot (sum_size s) k sums))) f
 
--- ---- the shifts from z on
-module _ (z : ℕ) (set : Settings) (s : Shape) (xs : List Axis) where
-  pub reach_before : (k : ℕ) → k < z → true ≡ reach_from z set s xs k
-  unfolding reach_from
-  reach_before k l = sym (ap (λ (b : Bool). b || axis_reaches set s xs k) (ltb_yes k z l))
+-- ---- the shifts from a zone on: T is the whole check, of which those from k on are left
+module _ (set : Settings) (s : Shape) (xs : List Axis) (T : Check) (k : ℕ) (e : T ≡ demand_each Reach (axis_reaches set s xs) (s.d - k) k) where
+  module _ (l : k < s.d) (r : Bool) (f : r ≡ axis_reaches set s xs k) where
+    next : T ≡ demand r (Reach k) then demand_each Reach (axis_reaches set s xs) (s.d - (k + 1)) (k + 1)
+    unfolding demand_each
+    next = let z : s.d - k ≡ suc (s.d - (k + 1)) = omega arith in e ∙ rw (z, ← f, add-one)
 
-  pub reach_found : (k : ℕ) → z ≤ k → (b : Bool) → b ≡ axis_reaches set s xs k → b ≡ reach_from z set s xs k
-  unfolding reach_from
-  reach_found k l b e = e ∙ sym (ap (λ (x : Bool). x || axis_reaches set s xs k) (ltb_no k z l))
+    pub reach_stops : not r ≡ true → Err (Reach k) ≡ T
+    reach_stops h = then_stops (demand r (Reach k)) (demand_each Reach (axis_reaches set s xs) (s.d - (k + 1)) (k + 1)) (Err (Reach k)) (test_wrong r r (Reach k) refl h) (Reach k) refl ∙ sym next
 
-  reach_all : z ≤ s.d → demand_each Reach (reach_from z set s xs) s.d 0 ≡ demand_each Reach (axis_reaches set s xs) (s.d - z) z
-  reach_all l =
-      let e : s.d ≡ z + (s.d - z) = omega arith in
-      ap (λ (m : ℕ). demand_each Reach (reach_from z set s xs) m 0) e
-      ∙ each_from Reach (reach_from z set s xs) z (s.d - z) 0 (λ j a b. sym (reach_before j (omega arith)))
-      ∙ ap (λ (m : ℕ). demand_each Reach (reach_from z set s xs) (s.d - z) m) (zero-add z)
-      ∙ each_same Reach (reach_from z set s xs) (axis_reaches set s xs) (s.d - z) z (λ j a b. sym (reach_found j a (axis_reaches set s xs j) refl))
+    pub reach_more : not r ≡ false → T ≡ demand_each Reach (axis_reaches set s xs) (s.d - (k + 1)) (k + 1)
+    reach_more h = next ∙ sym (then_passes (demand r (Reach k)) (demand_each Reach (axis_reaches set s xs) (s.d - (k + 1)) (k + 1)) (Ok tt) (test_right r r (Reach k) refl h) (demand_each Reach (axis_reaches set s xs) (s.d - (k + 1)) (k + 1)) refl refl)
 
-  module _ (l : z ≤ s.d) (i : ℕ) (e : i ≡ first_not (reach_from z set s xs) s.d) where
-    pub far_wrong : i < s.d → Err (Reach i) ≡ (demand_each Reach (axis_reaches set s xs) (s.d - z) z)
-    far_wrong m = place_wrong (reach_from z set s xs) s.d i e Reach m ∙ (reach_all l)
+  pub reach_done : s.d ≤ k → Ok tt ≡ T
+  unfolding demand_each
+  reach_done l = let z : s.d - k ≡ 0 = omega arith in sym (e ∙ rw z)
 
-    pub far_right : s.d ≤ i → Ok tt ≡ (demand_each Reach (axis_reaches set s xs) (s.d - z) z)
-    far_right m = places_right (reach_from z set s xs) s.d i e Reach m ∙ (reach_all l)
+pub ruleset reaching = (reach_stops, reach_more, reach_done)
 
 -- what a bond dropped
 module _ (s : Shape) (bonds : List Bond) (k : ℕ) where
@@ -164,3 +157,9 @@ module _ (s : Shape) (bonds : List Bond) (k : ℕ) where
   pub dropped_none : s.d ≤ k + 1 → true ≡ dropped_held s bonds k
   unfolding dropped_held
   dropped_none l = sym (ap (λ (x : Bool). cond x (finite (dropped_among bonds k)) true) (ltb_no (suc k) s.d (omega arith)))
+
+pub ruleset core_fronts = (core_part_fits, core_used_fits, core_room, core_found)
+
+pub ruleset carry_fronts = (carry_used_fits, carry_room, carry_found, carry_none)
+
+pub ruleset sums_fronts = (sums_room, sums_found)

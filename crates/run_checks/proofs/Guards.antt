@@ -8,19 +8,21 @@ use mathlib.Core.List.{List}
 use lib.Ieee.{Float}
 use Rattle.answers.specs.declared.Refusal.{Refusal}
 use Rattle.answers.specs.declared.Refusal.TheVariants.{Number, Setting}
-use Rattle.std.specs.Prelude.{Ok, Err}
+use Rattle.std.specs.Prelude.{Ok, Err, min}
 use Rattle.answers.specs.Outcome.{Check, ◌then◌, demand, demand_each}
 use Rattle.answers.proofs.Checks.{demand_yes, demand_no, then_stops, then_passes}
 use Rattle.lists.specs.Lists.{pick, first_not}
 use Rattle.lists.specs.Floats.{all_finite}
 use Rattle.shape.specs.declared.Shape.{Shape}
 use Rattle.shape.specs.Cores.{core_at, points_at}
+use Rattle.shape.proofs.Shaped.{fits_sizes}
+use Rattle.product.proofs.Checks.{refuses, passes}
 use Rattle.stepform.specs.declared.Axis.{Axis}
 use Rattle.stepform.specs.Axes.{axis_finite, axis_at}
 use Rattle.cutform.specs.Call.{core_finite}
 use Rattle.runform.specs.Checks.{made_finite}
 use Rattle.lists.proofs.Tests.{below_or_not, ltb_yes, ltb_no, eqb_yes, eqb_no}
-use Rattle.lists.proofs.Demands.{both_left, both_right, first_is}
+use Rattle.lists.proofs.Demands.{both_left, both_right, first_is, fails_most}
 use Rattle.lists.proofs.Asked.{length_wrong, length_right, test_wrong, test_right, place_wrong, places_right}
 
 module _ (o : Check) (r : Refusal) where
@@ -50,16 +52,18 @@ module _ (r : Refusal) (a x m : ℕ) (e : m ≡ x) where
 pub all_asked : ◌≡◌ {A = Check} (Ok tt) (Ok tt)
 all_asked = refl
 
-pub ruleset sized = (all_asked, size_stops, size_passes, below_stops, below_passes, size_wrong, size_right, then_stops, then_passes)
+pub ruleset sized = (all_asked, size_stops, size_passes, below_stops, below_passes, size_wrong, size_right, refuses, passes, fits_sizes)
 
 -- the lesser of two first places
-pub least_fails : (p q : ℕ → Bool) (n i j m : ℕ) → i ≡ first_not p n → j ≡ first_not q n → (i ≤ j → m ≡ i) × (j < i → m ≡ j) → m ≡ first_not (λ (k : ℕ). p k && q k) n
-least_fails p q n i j m e f h =
-    below_or_not j i (λ l. h.1 l ∙ both_right p q n i j e f (omega arith)) (λ l. h.0 l ∙ both_left p q n i j e f l)
+pub least_fails : (p q : ℕ → Bool) (n i j : ℕ) → i ≡ first_not p n → j ≡ first_not q n → min i j ≡ first_not (λ (k : ℕ). p k && q k) n
+least_fails p q n i j e f =
+    below_or_not j i
+    (λ l. let m : min i j ≡ j = omega arith in m ∙ both_right p q n i j e f (omega arith))
+    (λ l. let m : min i j ≡ i = omega arith in m ∙ both_left p q n i j e f l)
 
 -- a part that passes, or fails at z
 module _ (z d : ℕ) (lt : z < d) where
-  pub part_passes_lem : (b : Bool) → b ≡ true → d ≡ first_not (λ (k : ℕ). pick (eqb k z) b true) d
+  part_passes_lem : (b : Bool) → b ≡ true → d ≡ first_not (λ (k : ℕ). pick (eqb k z) b true) d
   unfolding first_not pick
   part_passes_lem b e = first_is (λ (k : ℕ). not (pick (eqb k z) b true)) d d (omega arith) (λ j l. ap not (ap (λ (x : Bool). pick (eqb j z) x true) e ∙ go (eqb j z))) (λ l. let n : ⊥ = omega arith in absurd n)
     where
@@ -67,12 +71,22 @@ module _ (z d : ℕ) (lt : z < d) where
       go true = refl
       go false = refl
 
-  pub part_fails : (b : Bool) → b ≡ false → z ≡ first_not (λ (k : ℕ). pick (eqb k z) b true) d
+  part_fails_lem : (b : Bool) → b ≡ false → z ≡ first_not (λ (k : ℕ). pick (eqb k z) b true) d
   unfolding first_not pick
-  part_fails b e =
+  part_fails_lem b e =
       first_is (λ (k : ℕ). not (pick (eqb k z) b true)) d z (omega arith)
       (λ j l. ap (λ (x : Bool). not (pick x b true)) (eqb_no j z (λ q. let n : ⊥ = omega arith in n)))
       (λ l. ap (λ (x : Bool). not (pick x b true)) (eqb_yes z z refl) ∙ ap not e)
+
+  -- i is the first place that fails p
+  module _ (p : ℕ → Bool) (i : ℕ) (f : i ≡ first_not p d) (b : Bool) where
+    pub part_passes : b ≡ true → i ≡ first_not (λ (k : ℕ). p k && pick (eqb k z) b true) d
+    part_passes e =
+        let m : i ≡ min i d = omega (arith, fails_most p d i f) in
+        m ∙ least_fails p (λ (k : ℕ). pick (eqb k z) b true) d i d f (part_passes_lem b e)
+
+    pub part_fails : b ≡ false → min i z ≡ first_not (λ (k : ℕ). p k && pick (eqb k z) b true) d
+    part_fails e = least_fails p (λ (k : ℕ). pick (eqb k z) b true) d i z f (part_fails_lem b e)
 
 -- 6 and 7
 module _ (lone mild : Bool) (number setting d : ℕ) (p q : ℕ → Bool) (e : number ≡ first_not p d) (f : setting ≡ first_not q d) where
@@ -109,18 +123,18 @@ module _ (lone mild : Bool) (number setting d : ℕ) (p q : ℕ → Bool) (e : n
         pub all_right : d ≤ setting → Ok tt ≡ all
         all_right m = last (Ok tt) (places_right q d setting f Setting m)
 
-pub ruleset numbers-found = (lone_wrong, number_wrong, mild_wrong, setting_wrong, all_right)
+pub ruleset numbers_asked = (lone_wrong, number_wrong, mild_wrong, setting_wrong, all_right)
 
--- ---- the first zone with a number that isn't finite: i, j and l are the first of each kind, m of the last two, n of all
-module _ (s : Shape) (i j l m n : ℕ) (f : (j ≤ l → m ≡ j) × (l < j → m ≡ l)) (g : (i ≤ m → n ≡ i) × (m < i → n ≡ m)) where
+-- ---- the first zone with a number that isn't finite: i, j and l are the first of each kind
+module _ (s : Shape) (i j l : ℕ) where
   pub made_first : (xs : List Axis) (source weights : List Float)
       → i ≡ first_not (λ (k : ℕ). all_finite (core_at s source k).entries) s.d → j ≡ first_not (λ (k : ℕ). axis_finite (axis_at xs k)) s.d
       → l ≡ first_not (λ (k : ℕ). all_finite (points_at s weights k)) s.d
-      → n ≡ first_not (made_finite s xs source weights) s.d
+      → min i (min j l) ≡ first_not (made_finite s xs source weights) s.d
   unfolding made_finite core_finite
   made_first xs source weights a b c =
-      least_fails (λ (k : ℕ). all_finite (core_at s source k).entries) (λ (k : ℕ). axis_finite (axis_at xs k) && all_finite (points_at s weights k)) s.d i m n a
-      (least_fails (λ (k : ℕ). axis_finite (axis_at xs k)) (λ (k : ℕ). all_finite (points_at s weights k)) s.d j l m b c f) g
+      least_fails (λ (k : ℕ). all_finite (core_at s source k).entries) (λ (k : ℕ). axis_finite (axis_at xs k) && all_finite (points_at s weights k)) s.d i (min j l) a
+      (least_fails (λ (k : ℕ). axis_finite (axis_at xs k)) (λ (k : ℕ). all_finite (points_at s weights k)) s.d j l b c)
 
 -- two tests of one bond, by what code finds
 pub both_found : (a b p q : Bool) → a ≡ p → b ≡ q → (a && b) ≡ (p && q)

@@ -8,6 +8,7 @@ ghost use Rattle.stepform.specs.Zones.{rules};
 ghost use Rattle.runform.specs.Requests.{new_core, new_weights, replace_ok};
 
 // All that a fresh run asks.
+#[tactic(auto, using(crate::proofs::Afresh::sized))]
 pub fn fresh_ok(
     s: shape::Shape,
     xs: [stepform::Axis; shape::MOST_AXES],
@@ -22,10 +23,7 @@ pub fn fresh_ok(
     ensures { result ≡ (fresh_ok rules (room_lent s (outputs chain carries sums) scratch)
         (record { shape = s; axes = xs; set = set; source = source.now; weights = weights.now })) }
 {
-    let shaped = s.check();
-    if let Err(q) = shaped {
-        return Err(q);
-    }
+    s.check()?;
     let l = runform::Lengths {
         source: source.len(),
         weights: weights.len(),
@@ -33,21 +31,16 @@ pub fn fresh_ok(
         carries,
         sums,
     };
-    let lent = crate::found::lent(s, l);
-    if let Err(q) = lent {
-        return Err(q);
-    }
+    crate::found::lent(s, l)?;
     if scratch != checks::scratch_of(s) {
         return Err(answers::Refusal::Length(runform::SLICES));
     }
-    let numbers = crate::numeric::numbers_made(s, xs, set, source, weights);
-    if let Err(q) = numbers {
-        return Err(q);
-    }
+    crate::numeric::numbers_made(s, xs, set, source, weights)?;
     crate::rooms::reaches_ok(0, set, s, xs)
 }
 
 // All that new weights ask.
+#[tactic(auto, using(crate::proofs::InRow::found_right))]
 pub fn weights_ok(
     r: runform::Run,
     z: usize,
@@ -64,10 +57,7 @@ pub fn weights_ok(
         (new_weights z part.now)) }
 {
     let s = r.shape;
-    let found = crate::found::found_ok(r, z, source, weights, chain, carries, sums);
-    if let Err(q) = found {
-        return Err(q);
-    }
+    crate::found::found_ok(r, z, source, weights, chain, carries, sums)?;
     if part.len() != s.n[z] {
         return Err(answers::Refusal::Length(runform::SLICES));
     }
@@ -79,6 +69,7 @@ pub fn weights_ok(
 }
 
 // All that a new core asks.
+#[tactic(auto, using(crate::proofs::InRow::found_right))]
 pub fn core_ok(
     r: runform::Run,
     z: usize,
@@ -95,10 +86,7 @@ pub fn core_ok(
         (new_core z part.now)) }
 {
     let s = r.shape;
-    let found = crate::found::found_ok(r, z, source, weights, chain, carries, sums);
-    if let Err(q) = found {
-        return Err(q);
-    }
+    crate::found::found_ok(r, z, source, weights, chain, carries, sums)?;
     if part.len() != s.core_size(z) {
         return Err(answers::Refusal::Length(runform::SLICES));
     }
@@ -106,13 +94,6 @@ pub fn core_ok(
         return Err(answers::Refusal::Length(runform::BEHIND_PART));
     }
     let finite = lists::all_finite(part);
-    let numbers = crate::numeric::numbers_found(
-        r, z, finite, true, source, weights, chain, carries, sums,
-    );
-    if let Err(q) = numbers {
-        return Err(q);
-    }
-    let set = r.set;
-    let xs = r.axes;
-    crate::rooms::reaches_ok(z, set, s, xs)
+    crate::numeric::numbers_found(r, z, finite, true, source, weights, chain, carries, sums)?;
+    crate::rooms::reaches_ok(z, r.set, s, r.axes)
 }

@@ -11,6 +11,7 @@ ghost use Rattle.runform.specs.Checks.{slices_lent, made_finite};
 ghost use Rattle.runform.specs.Requests.{found_ok};
 
 // Refusal 5 of a run's slices.
+#[tactic(auto, using(crate::proofs::Guards::sized), unfolding(runform::specs::Checks::lent_from))]
 pub fn lent(s: shape::Shape, l: runform::Lengths) -> Result<(), answers::Refusal>
     requires { SizesWithin s }
     ensures { result ≡ slices_lent s (lengths_in l) }
@@ -36,6 +37,7 @@ pub fn lent(s: shape::Shape, l: runform::Lengths) -> Result<(), answers::Refusal
 }
 
 // Refusals 1 to 5 of a run and a zone of it.
+#[tactic(auto, using(crate::proofs::Guards::sized), unfolding(runform::specs::Requests::found_ok))]
 pub fn found_ok(
     r: runform::Run,
     z: usize,
@@ -49,11 +51,7 @@ pub fn found_ok(
         (kept_of r (slices source.now weights.now chain.now carries.now sums.now)) z) }
 {
     let s = r.shape;
-    let bonds = r.bonds;
-    let shaped = crate::ranks::shape_ok(s, bonds);
-    if let Err(q) = shaped {
-        return Err(q);
-    }
+    crate::ranks::shape_ok(s, r.bonds)?;
     if z >= s.d {
         return Err(answers::Refusal::Zone);
     }
@@ -67,17 +65,8 @@ pub fn found_ok(
     lent(s, l)
 }
 
-// The lesser of two.
-fn least(a: usize, b: usize) -> usize
-    ensures { (a ≤ b → result ≡ a) × (b < a → result ≡ b) }
-{
-    if a <= b {
-        return a;
-    }
-    b
-}
-
 // The first zone made from a number that isn't finite, or d.
+#[tactic(auto, using(crate::proofs::Guards::made_first))]
 pub fn first_bad_made(
     s: shape::Shape,
     xs: [stepform::Axis; shape::MOST_AXES],
@@ -88,38 +77,18 @@ pub fn first_bad_made(
     requires s_in_bounds { (entries_of s ≤ length source.now) × (all_points s ≤ length weights.now) }
     ensures { result ≡ first_not (made_finite s xs source.now weights.now) s.d }
 {
-    let d = s.d;
     let core = s.first_not_finite_core(source);
-    let axis = checks::settings::first_not_finite(d, xs);
+    let axis = checks::settings::first_not_finite(s.d, xs);
     let weight = s.first_not_finite_axis(weights);
-    let other = least(axis, weight);
-    least(core, other)
-}
-
-// The zone of a new part that fails a test, or d.
-fn part_place(ok: bool, z: usize, d: usize) -> usize
-    requires { z < d }
-    ensures { result ≡ first_not (λ (k : ℕ). pick (eqb k z) ok true) d }
-{
-    if ok {
-        return d;
-    }
-    z
+    core.min(axis.min(weight))
 }
 
 // The first zone that fails, or the zone of a new part that does.
-pub fn with_part(first: usize, ok: bool, z: usize, d: usize) -> usize
-    requires { z < d }
-    ensures { (p : ℕ → Bool) → first ≡ first_not p d → result ≡ first_not (λ (k : ℕ). p k && pick (eqb k z) ok true) d }
+#[tactic(auto, using(crate::proofs::Guards::part_fails))]
+pub fn with_part(first: usize, ok: bool, z: usize) -> usize
+    ensures { (p : ℕ → Bool) (d : ℕ) → z < d → first ≡ first_not p d → result ≡ first_not (λ (k : ℕ). p k && pick (eqb k z) ok true) d }
 {
-    least(first, part_place(ok, z, d))
-}
-
-// The first zone that fails, made or held.
-pub fn either(made: usize, held: usize, d: usize) -> usize
-    ensures { (p q : ℕ → Bool) → made ≡ first_not p d → held ≡ first_not q d → result ≡ first_not (λ (k : ℕ). p k && q k) d }
-{
-    least(made, held)
+    if ok { first } else { first.min(z) }
 }
 
 // Refusals 6 and 7: `number` is the first zone that fails 6, `setting` the first that fails 7, or d.

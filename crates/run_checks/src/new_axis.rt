@@ -6,6 +6,7 @@ ghost use Rattle.runform.specs.Kept.{kept_of};
 ghost use Rattle.runform.specs.Requests.{new_axis, replace_ok};
 ghost use Rattle.runform.specs.Checks.{scratch_lent};
 
+#[tactic(auto, using(crate::proofs::InRow::found_right))]
 pub fn axis_ok(
     r: runform::Run,
     z: usize,
@@ -22,23 +23,14 @@ pub fn axis_ok(
         (new_axis z a)) }
 {
     let s = r.shape;
-    let found = crate::found::found_ok(r, z, source, weights, chain, carries, sums);
-    if let Err(q) = found {
-        return Err(q);
-    }
+    crate::found::found_ok(r, z, source, weights, chain, carries, sums)?;
     if scratch != checks::scratch_of(s) {
         return Err(answers::Refusal::Length(runform::SLICES));
     }
     let finite = axes::axis_finite(a);
     let mild = axes::axis_ok(a);
-    let numbers = crate::numeric::numbers_found(
-        r, z, finite, mild, source, weights, chain, carries, sums,
-    );
-    if let Err(q) = numbers {
-        return Err(q);
-    }
-    let set = r.set;
+    crate::numeric::numbers_found(r, z, finite, mild, source, weights, chain, carries, sums)?;
     let mut xs = r.axes;
     xs[z] = a;
-    crate::rooms::reaches_ok(z, set, s, xs)
+    crate::rooms::reaches_ok(z, r.set, s, xs)
 }

@@ -22,13 +22,9 @@ fn first_bad_number(
     ensures { result ≡ first_not (zone_found
         (kept_of r (slices source.now weights.now chain.now carries.now sums.now))) r.shape.d }
 {
-    let s = r.shape;
-    let xs = r.axes;
-    let bonds = r.bonds;
-    let d = s.d;
-    let made = crate::found::first_bad_made(s, xs, source, weights);
-    let held = crate::rooms::first_bad_held(s, bonds, chain, carries, sums);
-    crate::found::either(made, held, d)
+    let made = crate::found::first_bad_made(r.shape, r.axes, source, weights);
+    let held = crate::rooms::first_bad_held(r.shape, r.bonds, chain, carries, sums);
+    made.min(held)
 }
 
 // Refusals 6 and 7 of a run and a new part at zone z, which is finite or not, and an axis record in order or not.
@@ -48,17 +44,14 @@ pub fn numbers_found(
     ensures { result ≡ (found_numbers
         (kept_of r (slices source.now weights.now chain.now carries.now sums.now)) z part axis) }
 {
-    let s = r.shape;
-    let xs = r.axes;
-    let set = r.set;
-    let d = s.d;
+    let d = r.shape.d;
     let first = first_bad_number(r, source, weights, chain, carries, sums);
-    let number = crate::found::with_part(first, part, z, d);
-    let record = checks::settings::first_out_of_order(d, xs);
-    let setting = crate::found::with_part(record, axis, z, d);
-    let lone = checks::settings::lone_finite(set);
+    let number = crate::found::with_part(first, part, z);
+    let record = checks::settings::first_out_of_order(d, r.axes);
+    let setting = crate::found::with_part(record, axis, z);
+    let lone = checks::settings::lone_finite(r.set);
     let figure = numbers::is_finite(r.figure);
-    let mild = checks::settings::lone_ok(set);
+    let mild = checks::settings::lone_ok(r.set);
     crate::found::numbers_ok(lone & figure, number, mild, setting, d)
 }
 

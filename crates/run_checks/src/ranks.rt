@@ -6,6 +6,7 @@ ghost use Rattle.shape.specs.Shapes.{bond_ok, shape_ok};
 ghost use Rattle.runform.specs.Checks.{rank_ok};
 
 // Whether the kept rank of bond k is at least 1 and at most its source's; right of the last core there is none.
+#[tactic(auto, using(runform::proofs::KeptRanks::rank_bond, runform::proofs::KeptRanks::rank_end))]
 fn rank_ok(s: shape::Shape, bonds: [cutform::Bond; shape::MOST_AXES], k: usize) -> bool
     requires { (k < s.d) × (s.d ≤ most_axes) }
     ensures { result ≡ rank_ok s bonds k }
@@ -17,23 +18,23 @@ fn rank_ok(s: shape::Shape, bonds: [cutform::Bond; shape::MOST_AXES], k: usize) 
 }
 
 // The first core whose bond, or its kept rank, does not hold, or d.
+#[tactic(auto, using(lists::proofs::Demands::passing, crate::proofs::Guards::both_found))]
 fn first_bad_bond(s: shape::Shape, bonds: [cutform::Bond; shape::MOST_AXES]) -> usize
     requires { s.d ≤ most_axes }
     ensures { result ≡ first_not (λ (k : ℕ). bond_ok s k && rank_ok s bonds k) s.d }
 {
-    let mut k = 0;
-    while k < s.d {
+    for k in 0..s.d {
         let joined = s.bond_ok(k);
         let kept = rank_ok(s, bonds, k);
         if !(joined & kept) {
             return k;
         }
-        k += 1;
     }
-    k
+    s.d
 }
 
 // Refusals 1 to 3, of a shape and the ranks that are kept of it.
+#[tactic(auto, using(shape::proofs::Verdicts::verdicts))]
 pub fn shape_ok(
     s: shape::Shape,
     bonds: [cutform::Bond; shape::MOST_AXES],

@@ -10,9 +10,9 @@ ghost use Rattle.stepform.specs.Call.{axis_reaches};
 ghost use Rattle.runform.specs.Slices.{outputs};
 ghost use Rattle.runform.specs.Kept.{all_carries, all_sums};
 ghost use Rattle.runform.specs.Checks.{rank_ok, core_held, carry_held, sums_held, dropped_held, held_finite};
-ghost use Rattle.run_checks.specs.Reach.{reach_from};
 
 // Whether the numbers at the front of what begins at `at` are all finite.
+#[tactic(auto, using(crate::proofs::Fronts::front_found))]
 fn front_finite(l: &[f64], at: usize, used: usize) -> bool
     requires { at + used ≤ length l.now }
     ensures { result ≡ all_finite (take used (drop at l.now)) }
@@ -21,6 +21,7 @@ fn front_finite(l: &[f64], at: usize, used: usize) -> bool
     lists::all_finite(&l[at..end])
 }
 
+#[tactic(auto, using(crate::proofs::Fronts::core_fronts))]
 fn core_held(
     s: shape::Shape,
     bonds: [cutform::Bond; shape::MOST_AXES],
@@ -36,6 +37,7 @@ fn core_held(
     front_finite(chain, at, left * s.n[k] * right)
 }
 
+#[tactic(auto, using(crate::proofs::Fronts::carry_fronts))]
 fn carry_held(
     s: shape::Shape,
     bonds: [cutform::Bond; shape::MOST_AXES],
@@ -53,6 +55,7 @@ fn carry_held(
     true
 }
 
+#[tactic(auto, using(crate::proofs::Fronts::sums_fronts))]
 fn sums_held(
     s: shape::Shape,
     bonds: [cutform::Bond; shape::MOST_AXES],
@@ -68,6 +71,7 @@ fn sums_held(
 }
 
 // What bond k dropped; right of the last core there is none.
+#[tactic(auto, using(crate::proofs::Fronts::dropped_found, crate::proofs::Fronts::dropped_none))]
 fn dropped_held(s: shape::Shape, bonds: [cutform::Bond; shape::MOST_AXES], k: usize) -> bool
     requires { (SizesWithin s) × (k < s.d) }
     ensures { result ≡ dropped_held s bonds k }
@@ -79,6 +83,7 @@ fn dropped_held(s: shape::Shape, bonds: [cutform::Bond; shape::MOST_AXES], k: us
 }
 
 // Whether every number that is kept of zone k is finite.
+#[tactic(auto, unfolding(runform::specs::Checks::held_finite))]
 fn zone_held(
     s: shape::Shape,
     bonds: [cutform::Bond; shape::MOST_AXES],
@@ -99,6 +104,7 @@ fn zone_held(
 }
 
 // The first zone of which a number is kept that isn't finite, or d.
+#[tactic(auto, using(lists::proofs::Demands::passing))]
 pub fn first_bad_held(
     s: shape::Shape,
     bonds: [cutform::Bond; shape::MOST_AXES],
@@ -110,54 +116,16 @@ pub fn first_bad_held(
     requires s_in_bounds { (entries_of s ≤ length chain.now) × (all_carries s ≤ length carries.now) × (all_sums s ≤ length sums.now) }
     ensures { result ≡ first_not (held_finite s bonds (outputs chain.now carries.now sums.now)) s.d }
 {
-    let mut k = 0;
-    while k < s.d {
+    for k in 0..s.d {
         if !zone_held(s, bonds, chain, carries, sums, k) {
             return k;
         }
-        k += 1;
     }
-    k
-}
-
-fn reach_ok(
-    z: usize,
-    set: stepform::Settings,
-    s: shape::Shape,
-    xs: [stepform::Axis; shape::MOST_AXES],
-    k: usize,
-) -> bool
-    requires points_within { PointsWithin s }
-    requires k_lt_d { k < s.d }
-    ensures { result ≡ reach_from z set s xs k }
-{
-    if k < z {
-        return true;
-    }
-    checks::settings::axis_reaches(set, s, xs, k)
-}
-
-// The first axis from z on whose shift is too far, or d.
-fn first_too_far(
-    z: usize,
-    set: stepform::Settings,
-    s: shape::Shape,
-    xs: [stepform::Axis; shape::MOST_AXES],
-) -> usize
-    requires { PointsWithin s }
-    ensures { result ≡ first_not (reach_from z set s xs) s.d }
-{
-    let mut k = 0;
-    while k < s.d {
-        if !reach_ok(z, set, s, xs, k) {
-            return k;
-        }
-        k += 1;
-    }
-    k
+    s.d
 }
 
 // Refusal 8, of the shifts from z on.
+#[tactic(auto, using(crate::proofs::Fronts::reaching))]
 pub fn reaches_ok(
     z: usize,
     set: stepform::Settings,
@@ -168,10 +136,10 @@ pub fn reaches_ok(
     requires z_le_d { z ≤ s.d }
     ensures { result ≡ (demand_each Reach (axis_reaches set s xs) (s.d - z) z) }
 {
-    let d = s.d;
-    let far = first_too_far(z, set, s, xs);
-    if far < d {
-        return Err(answers::Refusal::Reach(far));
+    for k in z..s.d {
+        if !checks::settings::axis_reaches(set, s, xs, k) {
+            return Err(answers::Refusal::Reach(k));
+        }
     }
     Ok(())
 }

@@ -1,10 +1,9 @@
--- `run_checks::found::with_part`: the lesser of two first places is the first that fails either test (least_fails).
+-- `run_checks::found::with_part`: a part that passes leaves the first place as it is (part_passes).
+use borrow.Author.Rules.{rules}
+use mathlib.Core.Path.{◌≡◌}
 use mathlib.Core.Bool.{true}
-use lib.Dec.{eqb}
-use Rattle.lists.specs.Lists.{pick}
-use Prim.Native.Nat.{ℕ}
-use Rattle.run_checks.proofs.Guards.{least_fails}
+use Rattle.run_checks.proofs.Guards.{part_passes}
 use Rattle.run_checks.proofs.found.with_part.Goals as goal
 
-pub returns : goal.returns
-returns c = λ p e. least_fails p (λ (k : ℕ). pick (eqb k c.args.z) c.args.ok true) _ _ _ _ e c.part_place.ensures c.least.ensures
+pub returns-then-ok : goal.returns-then-ok
+returns-then-ok c = let h : c.args.ok ≡ true = search rules in λ p d l e. part_passes c.args.z d l p c.args.first e c.args.ok h

@@ -1,7 +1,9 @@
 -- The first zone that fails is the lesser of two: that of what zones are made from, and that of what is kept of them.
 use lib.ListN.{length}
 use Rattle.runform.specs.Slices.{slices, each_slice}
+use mathlib.Core.Path.{◌∙◌}
 use Rattle.run_checks.proofs.Asks.{lent_says}
+use Rattle.run_checks.proofs.Guards.{least_fails}
 use Rattle.shape.proofs.Shaped.{shaped}
 use Rattle.run_checks.proofs.numeric.first_bad_number.Goals as goal
 
@@ -20,4 +22,4 @@ first_bad_held-held-requires c = let l = lent_says _ (each_slice length (slices 
     }
 
 pub returns : goal.returns
-returns c = c.either.ensures _ _ c.first_bad_made-made.ensures c.first_bad_held-held.ensures
+returns c = c.min.ensures ∙ least_fails _ _ _ _ _ c.first_bad_made-made.ensures c.first_bad_held-held.ensures

@@ -6,26 +6,14 @@ use Rattle.runform.specs.Slices.{slices}
 use Rattle.runform.specs.Kept.{kept_of}
 use Rattle.run_checks.proofs.numeric.numbers_found.Goals as goal
 
-pub first_bad_number-first-requires : goal.first_bad_number-first-requires
-first_bad_number-first-requires c = record {
-  bonds_value = c.requires.z_lt_d.1;
-  sums_value = c.requires.sums_value;
-}
-
-pub with_part-number-requires : goal.with_part-number-requires
-with_part-number-requires c = c.requires.z_lt_d.0
-
 pub first_out_of_order-record-requires : goal.first_out_of_order-record-requires
 first_out_of_order-record-requires c = (shaped _ _ c.requires.z_lt_d.1).most
-
-pub with_part-setting-requires : goal.with_part-setting-requires
-with_part-setting-requires c = c.requires.z_lt_d.0
 
 pub returns : goal.returns
 returns c = numbers_are (kept_of c.args.r (slices c.args.source.now c.args.weights.now c.args.chain.now c.args.carries.now c.args.sums.now))
     c.args.z c.args.part c.args.axis _ _ _ _ c.lone_finite-lone.ensures c.is_finite-figure.ensures
     c.lone_ok-mild.ensures
     (c.numbers_ok.ensures _ _
-    (c.with_part-number.ensures _
+    (c.with_part-number.ensures _ _ c.requires.z_lt_d.0
     c.first_bad_number-first.ensures)
-    (c.with_part-setting.ensures _ c.first_out_of_order-record.ensures))
+    (c.with_part-setting.ensures _ _ c.requires.z_lt_d.0 c.first_out_of_order-record.ensures))

@@ -1,12 +1,8 @@
 -- `run_checks::rooms::first_bad_held`: the invariant: all zones before k passed; the first that does not is found (passing).
 use Rattle.lists.proofs.Demands.{Passed}
-use Prim.Native.Nat.{◌-◌, ◌≤◌}
 use Rattle.runform.specs.Slices.{outputs}
 use Rattle.runform.specs.Checks.{held_finite}
 use Rattle.run_checks.proofs.rooms.first_bad_held.Given as goal
 
 abbrev pub invariant-loop-k : goal.invariant-loop-k
-invariant-loop-k l = (l.k ≤ l.s.d) × Passed (held_finite l.s l.bonds (outputs l.chain l.carries l.sums)) l.s.d l.k
-
-abbrev pub decreases-loop-k : goal.decreases-loop-k
-decreases-loop-k l = l.s.d - l.k
+invariant-loop-k l = Passed (held_finite l.s l.bonds (outputs l.chain l.carries l.sums)) l.s.d l.k
