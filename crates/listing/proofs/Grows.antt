@@ -10,7 +10,7 @@ use lib.Ieee.{Float}
 use borrow.Author.Tests.{lt-ltb, le-ltb}
 use Rattle.answers.specs.declared.Refusal.{Refusal}
 use Rattle.std.specs.Prelude.{Ok, Err}
-use Rattle.answers.specs.Outcome.{Check}
+use Rattle.answers.specs.Outcome.{Answer}
 use Rattle.answers.specs.Table.{number_of, place_of}
 use Rattle.lists.specs.Lists.{pick, joined}
 use Rattle.lists.specs.Floats.{zeros}
@@ -21,14 +21,12 @@ use Rattle.shape.specs.Shapes.{left_of, points_of, right_of, core_size, entries_
 use Rattle.shape.specs.Sizes.{SizesWithin}
 use Rattle.words.specs.Placed.{placed}
 use Rattle.words.proofs.Placing.{placed_more, placed_none}
-use Rattle.fileform.specs.declared.Read.{Read}
 use Rattle.fileform.specs.File.{body_start}
-use Rattle.fileform.specs.Calls.{Exit}
 use Rattle.fileform.specs.Reading.{read_call}
 use Rattle.fileform.proofs.Shapes.{met}
 use Rattle.fileform.proofs.Readers.{read_fits}
 use Rattle.chainfile.proofs.Bodies.{bodies_none, bodies_more}
-use Rattle.fileform.specs.Text.{digits_of, field, space, newline, headline, axis_line, chain_text, refused_text, verdict_text, most_bytes, room_for, too_large, read_text, listing_of}
+use Rattle.fileform.specs.Text.{digits_of, field, space, newline, headline, axis_line, chain_text, refused_text, most_bytes, room_for, too_large, read_text, listing_of}
 use Rattle.listing.specs.Ends.{Put}
 
 -- one part after another
@@ -122,21 +120,8 @@ module _ (s : Shape) (at : ℕ) (l : List ℕ) where
         put_wide (omega arith) (put_same (ap (λ (i : ℕ). joined i (axis_line s)) z) A.lines)
 
 -- ---- what a reading answered
-pub read_sized : (bytes : List ℕ) (out : List Float) (x : Read) → x ≡ (read_call bytes out).result → x.verdict ≡ Ok tt → SizesWithin x.shape
-read_sized bytes out x e h =
-    let f = read_fits bytes out (ap (λ (y : Read). y.verdict) (sym e) ∙ h) in
-    let c = f.0 in
-    let same : c.shape ≡ x.shape = sym (ap (λ (y : Exit Read Float). y.result.shape) f.2) ∙ ap (λ (y : Read). y.shape) (sym e) in
-    subst SizesWithin same (met c.shape f.1.sound.meets).sizes
-
-module _ (x : Read) (l m : List ℕ) (e : ℕ) where
-  pub refused_put : (r : Refusal) → x.verdict ≡ Err r → Put 53 0 (refused_text r) l m e → Put 1735 0 (read_text x) l m e
-  unfolding read_text
-  refused_put r h p = put_same (sym (ap (λ (v : Check). verdict_text v x.shape) h)) (put_wide (omega arith) p)
-
-  pub accepted_put : x.verdict ≡ Ok tt → Put 1735 0 (chain_text x.shape) l m e → Put 1735 0 (read_text x) l m e
-  unfolding read_text
-  accepted_put h p = put_same (sym (ap (λ (v : Check). verdict_text v x.shape) h)) p
+pub read_sized : (bytes : List ℕ) (out : List Float) (x : Answer Shape) → x ≡ (read_call bytes out).result → (s : Shape) → x ≡ Ok s → SizesWithin s
+read_sized bytes out x e s h = let f = read_fits bytes out s (sym e ∙ h) in subst SizesWithin f.2 (met f.0.shape f.1.sound.meets).sizes
 
 -- ---- the listing
 module _ (bytes : List ℕ) (l m : List ℕ) (e : ℕ) where
@@ -144,11 +129,20 @@ module _ (bytes : List ℕ) (l m : List ℕ) (e : ℕ) where
   unfolding listing_of pick
   large_listed h p = let t : listing_of bytes ≡ too_large = rw (lt-ltb most_bytes (length bytes) h) in (omega (arith, p.ends, ap length t), p.there ∙ ap (λ (y : List ℕ). placed 0 y l) (sym t))
 
-  pub read_listed : length bytes ≤ most_bytes → (x : Read) → x ≡ (read_call bytes (zeros room_for)).result → Put 1735 0 (read_text x) l m e → (e ≡ length (listing_of bytes)) × (m ≡ placed 0 (listing_of bytes) l)
-  unfolding listing_of pick
-  read_listed h x g p =
-      let t : listing_of bytes ≡ read_text x = rw (le-ltb most_bytes (length bytes) h) (ap read_text (sym g)) in
-      (omega (arith, p.ends, ap length t), p.there ∙ ap (λ (y : List ℕ). placed 0 y l) (sym t))
+  module _ (h : length bytes ≤ most_bytes) (x : Answer Shape) (g : x ≡ (read_call bytes (zeros room_for)).result) where
+    listed : {a : ℕ} {y : List ℕ} (z : Answer Shape) → x ≡ z → read_text z ≡ y → Put a 0 y l m e → (e ≡ length (listing_of bytes)) × (m ≡ placed 0 (listing_of bytes) l)
+    unfolding listing_of pick
+    listed {a} {y} z q u p =
+        let t : listing_of bytes ≡ y = rw (le-ltb most_bytes (length bytes) h) (ap read_text (sym g ∙ q) ∙ u) in
+        (omega (arith, p.ends, ap length t), p.there ∙ ap (λ (w : List ℕ). placed 0 w l) (sym t))
+
+    pub refused_listed : (r : Refusal) → x ≡ Err r → Put 53 0 (refused_text r) l m e → (e ≡ length (listing_of bytes)) × (m ≡ placed 0 (listing_of bytes) l)
+    unfolding read_text
+    refused_listed r q p = listed (Err r) q refl p
+
+    pub chain_listed : (s : Shape) → x ≡ Ok s → Put 1735 0 (chain_text s) l m e → (e ≡ length (listing_of bytes)) × (m ≡ placed 0 (listing_of bytes) l)
+    unfolding read_text
+    chain_listed s q p = listed (Ok s) q refl p
 
 -- a text at the front can be lent by its length
 pub text_counts : (x l m : List ℕ) (r : ℕ) → (r ≡ length x) × (m ≡ placed 0 x l) → (r ≤ length m) × (r ≡ length (take r m))

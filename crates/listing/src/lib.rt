@@ -1,13 +1,13 @@
 // The listing of a chain file, as text in a lent array.
 #![tactic(auto)]
 
-ghost use Rattle.std.specs.Prelude.{◌≡◌, ◌+◌, ◌≤◌, ◌<◌, length, Ok};
+ghost use Rattle.std.specs.Prelude.{◌≡◌, ◌+◌, ◌≤◌, ◌<◌, length};
 ghost use Rattle.lists.specs.Lists.{joined};
 ghost use Rattle.shape.specs.Limits.{most_axes};
 ghost use Rattle.shape.specs.Sizes.{SizesWithin};
 ghost use Rattle.words.specs.Placed.{placed};
 ghost use Rattle.fileform.specs.File.{body_start};
-ghost use Rattle.fileform.specs.Text.{digits_of, field, headline, axis_line, chain_text, refused_text, read_text, listing_of};
+ghost use Rattle.fileform.specs.Text.{digits_of, field, headline, axis_line, chain_text, refused_text, listing_of};
 ghost use Rattle.listing.specs.Ends.{Put};
 
 // Room for the longest text.
@@ -59,6 +59,7 @@ fn put_axis(s: shape::Shape, k: usize, start: usize, text: &mut [u8], at: usize)
 }
 
 // The lines of all axes.
+#[tactic(auto, using(chainfile::proofs::Bodies::bodywise, crate::proofs::Grows::axes_ask))]
 fn put_axes(s: shape::Shape, text: &mut [u8], at: usize) -> usize
     requires sizes_within { SizesWithin s }
     requires at_in_bounds { at + 1680 ≤ length text.old }
@@ -66,11 +67,9 @@ fn put_axes(s: shape::Shape, text: &mut [u8], at: usize) -> usize
 {
     let mut start = 8 + 12 * s.d;
     let mut end = at;
-    let mut k = 0;
-    while k < s.d {
+    for k in 0..s.d {
         end = put_axis(s, k, start, text, end);
         start += 8 * s.core_size(k);
-        k += 1;
     }
     end
 }
@@ -110,20 +109,8 @@ fn put_refusal(r: answers::Refusal, text: &mut [u8]) -> usize
     put_field(place, b'\n', text, c)
 }
 
-// What reading a file answered.
-fn put_read(x: fileform::Read, text: &mut [u8]) -> usize
-    requires sizes_within { x.verdict ≡ Ok tt → SizesWithin x.shape }
-    requires in_bounds { 1735 ≤ length text.old }
-    ensures { Put 1735 0 (read_text x) text.old text.new result }
-{
-    let told = x.verdict;
-    if let Err(r) = told {
-        return put_refusal(r, text);
-    }
-    put_chain(x.shape, text)
-}
-
 // The listing of a file at the front of the text, the rest of it as it was; answers how long it is.
+#[tactic(auto, using(crate::proofs::Grows::read_sized))]
 pub fn text_of(bytes: &[u8], text: &mut [u8; TEXT]) -> usize
     ensures { (result ≡ length (listing_of bytes.now)) × (text.new ≡ placed 0 (listing_of bytes.now) text.old) }
 {
@@ -131,6 +118,8 @@ pub fn text_of(bytes: &[u8], text: &mut [u8; TEXT]) -> usize
         return put_word(b"too large\n", text, 0);
     }
     let mut room = [0.0; ROOM];
-    let x = chainfile::read_chain(bytes, &mut room);
-    put_read(x, text)
+    match chainfile::read_chain(bytes, &mut room) {
+        Ok(s) => put_chain(s, text),
+        Err(r) => put_refusal(r, text),
+    }
 }

@@ -1,15 +1,15 @@
 -- What a call answers as C has it, field by field. Definitions only.
-use Rattle.std.specs.Prelude.{true, false, map, Float, Option, Some, None, Ok, Err}
+use Rattle.std.specs.Prelude.{true, false, map, replicate, Float, Option, Some, None, Ok, Err}
 use Rattle.numbers.specs.Arithmetic.{zero64}
-use Rattle.answers.specs.Outcome.{Check}
+use Rattle.answers.specs.Outcome.{Answer, Check}
 use Rattle.answers.specs.Table.{number_of, place_of, index_of}
 use Rattle.shape.specs.declared.Shape.{Shape}
+use Rattle.shape.specs.Limits.{most_axes}
 use Rattle.cutform.specs.declared.Bond.{Bond}
 use Rattle.cutform.specs.declared.Rounded.{Rounded}
 use Rattle.sumform.specs.declared.Figure.{Figure}
 use Rattle.sumform.specs.declared.Started.{Started}
 use Rattle.pairform.specs.declared.Paired.{Paired}
-use Rattle.fileform.specs.declared.Read.{Read}
 use Rattle.records.specs.declared.given.CShape.{CShape}
 use Rattle.records.specs.declared.told.CRefusal.{CRefusal}
 use Rattle.records.specs.declared.told.CBond.{CBond}
@@ -39,8 +39,10 @@ figure_out w = record { refusal = refusal_of w.verdict; value = w.value }
 abbrev pub started_out : Started → CFormed
 started_out w = record { refusal = refusal_of w.verdict; shape = shape_out w.shape }
 
-abbrev pub read_out : Read → CFormed
-read_out w = record { refusal = refusal_of w.verdict; shape = shape_out w.shape }
+-- of a file that is refused, the shape is all zeros
+abbrev pub read_out : Answer Shape → CFormed
+read_out (Ok s) = record { refusal = refusal_of (Ok tt); shape = shape_out s }
+read_out (Err q) = record { refusal = refusal_of (Err q); shape = record { d = 0; left = replicate most_axes 0; n = replicate most_axes 0; right = replicate most_axes 0 } }
 
 abbrev pub paired_out : Paired → CPaired
 paired_out w = record { refusal = refusal_of w.verdict; rank = w.rank; passes = w.passes }

@@ -146,14 +146,24 @@ pub fn started_out(w: sumform::Started) -> CFormed
     }
 }
 
-pub fn read_out(w: fileform::Read) -> CFormed
+// Of a file that is refused, the shape is all zeros.
+pub fn read_out(w: Result<Shape, Refusal>) -> CFormed
     ensures { result ≡ read_out w }
 {
-    let verdict = w.verdict;
-    let shape = w.shape;
-    CFormed {
-        refusal: refusal_of(verdict),
-        shape: shape.into(),
+    match w {
+        Ok(s) => CFormed {
+            refusal: refusal_of(Ok(())),
+            shape: s.into(),
+        },
+        Err(q) => CFormed {
+            refusal: refusal_of(Err(q)),
+            shape: CShape {
+                d: 0,
+                left: [0; shape::MOST_AXES],
+                n: [0; shape::MOST_AXES],
+                right: [0; shape::MOST_AXES],
+            },
+        },
     }
 }
 

@@ -43,17 +43,26 @@ fn same_bytes(input: Stdin, got: &[u8]) -> bool {
     all
 }
 
+// The shape that is recorded of a file that was refused.
+fn no_shape() -> shape::Shape {
+    let none = [0; shape::MOST_AXES];
+    shape::Shape {
+        d: 0,
+        left: none,
+        n: none,
+        right: none,
+    }
+}
+
 // Reading: bytes, the length of the output, then the verdict, the shape, and what the output holds at the end.
 fn reads(input: Stdin) -> bool {
     let mut a = room();
     let mut b = crate::cases::room();
     let file = bytes(input, &mut a);
     let out = crate::cases::lent(input, &mut b);
-    let r = chainfile::read_chain(file, out);
-    let verdict = r.verdict;
-    let shape = r.shape;
-    let told = crate::cases::verdict(input, verdict);
-    let shaped = crate::cases::shape_is(input, shape);
+    let read = chainfile::read_chain(file, out);
+    let told = crate::cases::verdict(input, read.map(|_| ()));
+    let shaped = crate::cases::shape_is(input, read.unwrap_or(no_shape()));
     told & shaped & crate::cases::holds(input, out)
 }
 

@@ -4,7 +4,7 @@ use Prim.Native.Nat.{ℕ}
 use mathlib.Core.List.{List, map}
 use lib.ListN.{length}
 use lib.Ieee.{Float}
-use Rattle.answers.specs.Outcome.{Check}
+use Rattle.answers.specs.Outcome.{Answer, Check}
 use Rattle.shape.specs.declared.Shape.{Shape}
 use Rattle.lists.proofs.Tables.{length_tab}
 use Rattle.stepform.specs.declared.Axis.{Axis}
@@ -24,7 +24,6 @@ use Rattle.evolution.specs.Held.{Answers}
 use Rattle.pairform.specs.declared.Sizes.{Sizes}
 use Rattle.pairform.specs.Call.{PairEnded}
 use Rattle.pairform.specs.declared.Paired.{Paired}
-use Rattle.fileform.specs.declared.Read.{Read}
 use Rattle.fileform.specs.Calls.{Exit}
 use Rattle.records.specs.declared.told.CRefusal.{CRefusal}
 use Rattle.records.specs.declared.told.CRounded.{CRounded}
@@ -88,7 +87,7 @@ splits_as F x y u v p l r w o e f a g =
       scratch = ap (λ (z : PairEnded). z.scratch) h;
     }
 
-pub reads_as : (e : Exit Read Float) (r : Read) (l : List Float) (o : CFormed) → (r ≡ e.result) × (l ≡ e.out) → o ≡ read_out r → ReadsAs e o l
+pub reads_as : (e : Exit (Answer Shape) Float) (r : Answer Shape) (l : List Float) (o : CFormed) → (r ≡ e.result) × (l ≡ e.out) → o ≡ read_out r → ReadsAs e o l
 reads_as e r l o f g = record { result = g ∙ ap read_out f.0; numbers = f.1 }
 
 pub writes_as : (F : Shape → Exit Check ℕ) (x y : Shape) (r : Check) (l : List ℕ) (o : CRefusal) → x ≡ y → (r ≡ (F x).result) × (l ≡ (F x).out) → o ≡ refusal_of r → WritesAs (F y) o l

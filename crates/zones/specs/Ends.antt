@@ -1,10 +1,10 @@
 -- A call's answer as C has it, and what the call left in its slices. Definitions only.
 use Rattle.std.specs.Prelude.{◌≡◌, ℕ, List, Float}
-use Rattle.answers.specs.Outcome.{Check}
+use Rattle.answers.specs.Outcome.{Answer, Check}
 use Rattle.cutform.specs.Call.{Ended}
 use Rattle.sumform.specs.Start.{StartEnded}
 use Rattle.pairform.specs.Call.{PairEnded}
-use Rattle.fileform.specs.declared.Read.{Read}
+use Rattle.shape.specs.declared.Shape.{Shape}
 use Rattle.fileform.specs.Calls.{Exit}
 use Rattle.runform.specs.Slices.{Slices}
 use Rattle.runform.specs.Call.{RunEnd}
@@ -35,7 +35,7 @@ pub record SplitsAs (e : PairEnded) (o : CPaired) (l r w : List Float) : Type 0 
   pub scratch : w ≡ e.scratch
 
 -- of reading a file: the numbers are l
-pub record ReadsAs (e : Exit Read Float) (o : CFormed) (l : List Float) : Type 0 where
+pub record ReadsAs (e : Exit (Answer Shape) Float) (o : CFormed) (l : List Float) : Type 0 where
   pub result : o ≡ read_out e.result
   pub numbers : l ≡ e.out
 
