@@ -1,8 +1,7 @@
 -- What the call leaves: slices keep their lengths, and an accepted pair stands in its outputs with its rank and its passes. Assumes nothing.
-use mathlib.Core.Path.{◌≡◌, refl}
-use Prim.Native.Nat.{ℕ, ◌*◌, ◌≤◌}
+use mathlib.Core.Path.{◌≡◌, refl, sym, subst}
+use Prim.Native.Nat.{◌*◌, ◌≤◌}
 use native.Mathlib.Nat.{mul-le-mul, mul-le-mul_left, mul-le-mul_right}
-use native.Mathlib.Omega.{arith}
 use mathlib.Core.Bool.{Bool, true, false}
 use mathlib.Core.List.{List}
 use lib.ListN.{length, take, length-replicate}
@@ -12,11 +11,13 @@ use Rattle.std.specs.Prelude.{Ok, Err}
 use Rattle.answers.specs.Outcome.{Answer, ◌then◌}
 use Rattle.answers.specs.Table.{before_work}
 use Rattle.answers.proofs.Checks.{then_is}
+use Rattle.answers.proofs.Outcomes.{ok_inj, ok_err}
 use Rattle.lists.specs.Lists.{pick}
 use Rattle.lists.specs.Floats.{zeros}
 use Rattle.lists.proofs.Slots.{fit_length, fit_used}
 use Rattle.shape.specs.Cores.{Core}
 use Rattle.cutform.specs.Call.{scratch_after}
+use Rattle.pairform.specs.declared.Paired.{Paired}
 use Rattle.pairform.specs.Slabs.{slab}
 use Rattle.pairform.specs.Passes.{Passes, most_passes, start}
 use Rattle.pairform.specs.Splits.{Halves, pair_of}
@@ -46,16 +47,17 @@ by_lengths left_out right_out scratch (Err r) = record { left_length = refl; rig
     go false = length-replicate (length scratch) zero64
 
 -- ---- an accepted pair
-pub record Accepted (l r : Core) (eps : Float) (left_out right_out scratch : List Float) (e : PairEnded) : Type 0 where
+pub record Accepted (l r : Core) (eps : Float) (left_out right_out scratch : List Float) (w : Paired) (e : PairEnded) : Type 0 where
   pub checks : Checked l r eps (length left_out) (length right_out) (length scratch)
   pub halves : Halves
   pub made : pair_of eps l r ≡ Ok halves
   pub formed : Formed l.rl l.n r.n r.rr halves
-  pub rank : e.result.rank ≡ halves.left.rr
+  pub answer : e.result ≡ Ok w
+  pub rank : w.rank ≡ halves.left.rr
   pub left_held : take (length halves.left.entries) e.left ≡ halves.left.entries
   pub right_held : take (length halves.right.entries) e.right ≡ halves.right.entries
   pub passes : Passes
-  pub told : e.result.passes ≡ passes.count
+  pub told : w.passes ≡ passes.count
   pub counted : Counted most_passes (l.rl * l.n) (r.n * r.rr) (start (l.rl * l.n) (r.n * r.rr) (slab l r)) passes
 
 module _ (l r : Core) (eps : Float) (left_out right_out scratch : List Float) where
@@ -71,7 +73,7 @@ module _ (l r : Core) (eps : Float) (left_out right_out scratch : List Float) wh
     rw (f.right_length, c.right_roomy) (mul-le-mul_right r.rr (mul-le-mul_right r.n f.within_limit)),
   )
 
-  by_accepted : (h : Halves) → (pair_ok l r eps (length left_out) (length right_out) (length scratch) then pair_of eps l r) ≡ Ok h → Accepted l r eps left_out right_out scratch (pair_by left_out right_out scratch (Ok h))
+  by_accepted : (h : Halves) → (pair_ok l r eps (length left_out) (length right_out) (length scratch) then pair_of eps l r) ≡ Ok h → Accepted l r eps left_out right_out scratch (record { rank = h.left.rr; passes = h.passes }) (pair_by left_out right_out scratch (Ok h))
   unfolding pair_by
   by_accepted h e =
       let (ok, made) = then_is (pair_ok l r eps (length left_out) (length right_out) (length scratch)) (pair_of eps l r) h e in
@@ -83,6 +85,7 @@ module _ (l r : Core) (eps : Float) (left_out right_out scratch : List Float) wh
         halves = h;
         made = made;
         formed = f;
+        answer = refl;
         rank = refl;
         left_held = fit_used zero64 (length left_out) h.left.entries a;
         right_held = fit_used zero64 (length right_out) h.right.entries b;
@@ -91,13 +94,13 @@ module _ (l r : Core) (eps : Float) (left_out right_out scratch : List Float) wh
         counted = k;
       }
 
-  pub accepted : (pair_call l r eps left_out right_out scratch).result.verdict ≡ Ok tt → Accepted l r eps left_out right_out scratch (pair_call l r eps left_out right_out scratch)
+  pub accepted : (w : Paired) → (pair_call l r eps left_out right_out scratch).result ≡ Ok w → Accepted l r eps left_out right_out scratch w (pair_call l r eps left_out right_out scratch)
   unfolding pair_call pair_by
-  accepted v = go (pair_ok l r eps (length left_out) (length right_out) (length scratch) then pair_of eps l r) refl v
+  accepted w v = go (pair_ok l r eps (length left_out) (length right_out) (length scratch) then pair_of eps l r) refl v
     where
       go : (o : Answer Halves)
           → (pair_ok l r eps (length left_out) (length right_out) (length scratch) then pair_of eps l r) ≡ o
-          → (pair_by left_out right_out scratch o).result.verdict ≡ Ok tt
-          → Accepted l r eps left_out right_out scratch (pair_by left_out right_out scratch o)
-      go (Ok h) e v = by_accepted h e
-      go (Err q) e v = let z : ◌≡◌ {A = ℕ} 0 1 = cc in let n : ⊥ = omega arith in absurd n
+          → (pair_by left_out right_out scratch o).result ≡ Ok w
+          → Accepted l r eps left_out right_out scratch w (pair_by left_out right_out scratch o)
+      go (Ok h) e v = subst (λ (x : Paired). Accepted l r eps left_out right_out scratch x (pair_by left_out right_out scratch (Ok h))) (ok_inj v) (by_accepted h e)
+      go (Err q) e v = absurd (ok_err (sym v))

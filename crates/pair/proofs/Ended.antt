@@ -12,7 +12,7 @@ use Rattle.answers.specs.declared.Part.TheVariants.{Entry, Spectrum, Factor}
 use Rattle.answers.specs.declared.Refusal.{Refusal}
 use Rattle.answers.specs.declared.Refusal.TheVariants.{Size, Ranks, Length, Number, Setting, PairRank}
 use Rattle.std.specs.Prelude.{Ok, Err}
-use Rattle.answers.specs.Outcome.{Answer, answered, Check}
+use Rattle.answers.specs.Outcome.{Answer, Check}
 use Rattle.answers.specs.Table.{Late}
 use Rattle.answers.proofs.Late.{Early, early_demand, early_then, late_ok, late_then, late_demand}
 use Rattle.answers.proofs.Checks.{verdict_passed, verdict_refused}
@@ -20,7 +20,7 @@ use Rattle.lists.specs.Lists.{pick}
 use Rattle.lists.specs.Slots.{fit}
 use Rattle.lists.specs.Floats.{stored}
 use Rattle.shape.specs.Limits.{most_rank}
-use Rattle.shape.specs.Cores.{Core, core_with}
+use Rattle.shape.specs.Cores.{Core}
 use Rattle.cutform.specs.Call.{scratch_after}
 use Rattle.cutform.specs.Values.{order, sorted, kept_rank}
 use Rattle.pairform.specs.Passes.{Passes, orthogonalized, start}
@@ -57,25 +57,23 @@ ready l r eps left right lefts rights scratch h =
     }
 
 -- a pair that was made has a rank within the limit
-pub rank_small : (eps : Float) (l r : Core) (v : Check) (h : Halves) → 1 ≤ r.n * r.rr → pair_of eps l r ≡ answered v h → v ≡ Ok tt → h.left.rr ≤ most_rank
-unfolding answered
-rank_small eps l r v h some e f = (pair_formed eps l r h some (e ∙ rw f)).0.within_limit
+pub rank_small : (eps : Float) (l r : Core) (h : Halves) → 1 ≤ r.n * r.rr → pair_of eps l r ≡ Ok h → h.left.rr ≤ most_rank
+rank_small eps l r h some e = (pair_formed eps l r h some e).0.within_limit
 
 -- ---- what the work leaves
-module _ (lefts rights scratch : List Float) (T : Answer Halves) (v : Check) where
+module _ (lefts rights scratch : List Float) (T : Answer Halves) where
   abbrev ends : PairEnded
   ends = pair_by lefts rights scratch T
 
-  pub ended_refused : (h : Halves) → T ≡ answered v h → (q : Refusal) → v ≡ Err q → (w : Paired) → w ≡ record { verdict = Err q; rank = 0; passes = 0 } → (w ≡ ends.result) × (lefts ≡ ends.left) × (rights ≡ ends.right)
-  unfolding pair_by answered
-  ended_refused h e q f w g = let z : T ≡ Err q = e ∙ rw f in (rw z g, rw z, rw z)
+  pub ended_refused : (q : Refusal) → T ≡ Err q → (Err q ≡ ends.result) × (lefts ≡ ends.left) × (rights ≡ ends.right)
+  unfolding pair_by
+  ended_refused q z = (rw z, rw z, rw z)
 
-  pub ended_made : (a b c d k p : ℕ) (x y : List Float)
-      → T ≡ answered v (record { left = core_with a b k x; right = core_with k c d y; passes = p })
-      → v ≡ Ok tt → (w : Paired) (x' y' : List Float) → w ≡ record { verdict = Ok tt; rank = k; passes = p } → x' ≡ fit zero64 (length lefts) x → y' ≡ fit zero64 (length rights) y
-      → (w ≡ ends.result) × (x' ≡ ends.left) × (y' ≡ ends.right)
-  unfolding pair_by answered
-  ended_made a b c d k p x y e f w x' y' g ex ey = let z : T ≡ Ok (record { left = core_with a b k x; right = core_with k c d y; passes = p }) = e ∙ rw f in (rw z g, rw z ex, rw z ey)
+  pub ended_made : (h : Halves) → T ≡ Ok h → (w : Paired) → w ≡ record { rank = h.left.rr; passes = h.passes } → (x y : List Float)
+      → x ≡ fit zero64 (length lefts) h.left.entries → y ≡ fit zero64 (length rights) h.right.entries
+      → (Ok w ≡ ends.result) × (x ≡ ends.left) × (y ≡ ends.right)
+  unfolding pair_by
+  ended_made h z w ew x y ex ey = (rw z (ap Ok ew), rw z ex, rw z ey)
 
 -- ---- a check refuses before the work
 pub checks_early : (l r : Core) (eps : Float) (lefts rights scratch : ℕ) → Early (pair_ok l r eps lefts rights scratch)
@@ -125,18 +123,18 @@ module _ (l r : Core) (eps : Float) (lefts rights scratch : List Float) (v : Che
   abbrev call : PairEnded
   call = pair_call l r eps lefts rights scratch
 
-  pub call_refused : (q : Refusal) → v ≡ Err q → (w : Paired) → w ≡ record { verdict = Err q; rank = 0; passes = 0 } → record { result = w; left = lefts; right = rights; scratch = scratch } ≡ call
+  pub call_refused : (q : Refusal) → v ≡ Err q → record { result = Err q; left = lefts; right = rights; scratch = scratch } ≡ call
   unfolding pair_call pair_by scratch_after pick
-  call_refused q h w g =
+  call_refused q h =
       let z = verdict_refused (pair_ok l r eps (length lefts) (length rights) (length scratch)) v q e h in
       let b = (checks_early l r eps (length lefts) (length rights) (length scratch)).first q z in
-      rw (z, b, g)
+      rw (z, b)
 
   module _ (h : v ≡ Ok tt) where
     pub call_ready : pair_ok l r eps (length lefts) (length rights) (length scratch) ≡ Ok tt
     call_ready = verdict_passed (pair_ok l r eps (length lefts) (length rights) (length scratch)) v e h
 
-    pub call_made : (w : Paired) (x y z : List Float) (k : ℕ)
+    pub call_made : (w : Answer Paired) (x y z : List Float) (k : ℕ)
         → (w ≡ (pair_by lefts rights scratch (pair_of eps l r)).result) × (x ≡ (pair_by lefts rights scratch (pair_of eps l r)).left) × (y ≡ (pair_by lefts rights scratch (pair_of eps l r)).right)
         → k ≡ length scratch → z ≡ replicate k zero64
         → record { result = w; left = x; right = y; scratch = z } ≡ call

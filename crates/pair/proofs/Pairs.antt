@@ -11,8 +11,8 @@ use Rattle.answers.specs.declared.Part.{Part}
 use Rattle.answers.specs.declared.Part.TheVariants.{Entry, Spectrum, Factor}
 use Rattle.answers.specs.declared.Refusal.{Refusal}
 use Rattle.answers.specs.declared.Refusal.TheVariants.{PairRank}
-use Rattle.std.specs.Prelude.{Ok, Err}
-use Rattle.answers.specs.Outcome.{Made, Answer, Check, bind, making, demand, ◌then◌, staged, answered, stored_in, Stage}
+use Rattle.std.specs.Prelude.{Ok, Err, Result}
+use Rattle.answers.specs.Outcome.{Made, Answer, Check, bind, making, demand, ◌then◌, staged, answered, outcome_of, stored_in, Stage}
 use Rattle.answers.proofs.Outcomes.{stored_answered, answered_ok}
 use Rattle.lists.specs.Floats.{at, cell, stored}
 use Rattle.shape.specs.Limits.{most_rank}
@@ -20,6 +20,7 @@ use Rattle.shape.specs.Cores.{Core, core_with}
 use Rattle.shape.proofs.Places.{block_rows, block_lines}
 use Rattle.cutform.specs.Rotation.{eye}
 use Rattle.cutform.specs.Values.{order, sorted, kept_rank}
+use Rattle.pairform.specs.declared.Paired.{Paired}
 use Rattle.pairform.specs.Passes.{svd, Passes, orthogonalized, start}
 use Rattle.pair.specs.SlabLoops.{slab_at, columns_of, slab_columns}
 use Rattle.pair.proofs.SlabEntries.{slab_flat}
@@ -28,11 +29,11 @@ use Rattle.pairform.specs.Numbers.{inverse, left_numbers, right_numbers}
 use Rattle.pairform.specs.Splits.{values, Halves, formed, cut, split, pair_of}
 use Rattle.pair.specs.Loops.{Valued, valued_from, Parted, parted, cut_from, split_from}
 
--- what is done with an outcome is done with what was answered
-pub answered_on : {A B : Type 0} (v : Check) (a : A) (f : A → B) → bind (answered v a) (λ x. Ok (f x)) ≡ answered v (f a)
-unfolding answered
-answered_on (Ok _) a f = refl
-answered_on (Err r) a f = refl
+-- what is done with an outcome is done with what it holds
+pub outcome_on : {E B X Y : Type 0} (o : Result B E) (f : B → X) (g : X → Y) → bind (outcome_of o f) (λ x. Ok (g x)) ≡ outcome_of o (λ (b : B). g (f b))
+unfolding outcome_of
+outcome_on (Ok b) f g = refl
+outcome_on (Err e) f g = refl
 
 -- a stage of which the call's verdict is that it fits is whole
 pub told_whole : (part : Part) (k : ℕ) (s : Stage) (v : Check) → v ≡ stored_in part k s → v ≡ Ok tt → s ≡ (Ok tt)
@@ -131,12 +132,12 @@ module _ (eps : Float) (l r : Core) where
           pair_opened
           ∙ ap (λ (o : Answer (List Float)). bind o (λ x. bind (split_from eps (l.rl * l.n) (r.n * r.rr) x) (λ p. Ok (halved p)))) (stored_answered Entry 0 s u a told)
 
-      pub pair_stop : (q : Refusal) (h : Halves) → u ≡ Err q → pair_of eps l r ≡ answered (Err q) h
+      pub pair_stop : (q : Refusal) → u ≡ Err q → pair_of eps l r ≡ Err q
       unfolding answered
-      pair_stop q h e = pair_told ∙ rw e
+      pair_stop q e = pair_told ∙ rw e
 
-      pub pair_end : u ≡ Ok tt → (v : Check) (p : Parted) → split_from eps (l.rl * l.n) (r.n * r.rr) a ≡ answered v p → pair_of eps l r ≡ answered v (halved p)
-      pair_end e v p g = opened e ∙ ap (λ (o : Answer Parted). bind o (λ p. Ok (halved p))) g ∙ answered_on v p halved
+      pub pair_end : u ≡ Ok tt → (o : Answer Paired) (f : Paired → Parted) → split_from eps (l.rl * l.n) (r.n * r.rr) a ≡ outcome_of o f → pair_of eps l r ≡ outcome_of o (λ (w : Paired). halved (f w))
+      pair_end e o f g = opened e ∙ ap (λ (x : Answer Parted). bind x (λ p. Ok (halved p))) g ∙ outcome_on o f halved
         where
           opened : u ≡ Ok tt → pair_of eps l r ≡ bind (split_from eps (l.rl * l.n) (r.n * r.rr) a) (λ p. Ok (halved p))
           opened e = pair_told ∙ ap (λ (x : Answer (List Float)). bind x (λ x. bind (split_from eps (l.rl * l.n) (r.n * r.rr) x) (λ p. Ok (halved p)))) (ap (λ (x : Check). answered x a) e ∙ answered_ok a)

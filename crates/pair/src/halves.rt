@@ -90,10 +90,7 @@ pub fn form(
         ≡ answered result (record { left = take (m * r) x.new; right = take (r * n) y.new }) }
 {
     let lefts = left_core(a, m, n, js, ss, r, x);
-    let first = answers::stored_in(lefts, answers::Part::Factor, 0);
-    if let Err(q) = first {
-        return Err(q);
-    }
+    answers::stored_in(lefts, answers::Part::Factor, 0)?;
     let rights = right_core(v, n, js, r, y);
     answers::stored_in(rights, answers::Part::Factor, 1)
 }

@@ -8,14 +8,15 @@ pub mod slabs;
 pub mod split;
 
 ghost use Rattle.std.specs.Prelude.{◌≡◌, ◌*◌, ◌≤◌, length, take, Ok};
-ghost use Rattle.answers.specs.Outcome.{answered};
+ghost use Rattle.answers.specs.Outcome.{outcome_of};
 ghost use Rattle.shape.specs.Limits.{most_rank, most_lines};
 ghost use Rattle.shape.specs.Cores.{core_with};
 ghost use Rattle.pairform.specs.Splits.{pair_of};
 ghost use Rattle.pairform.specs.Call.{core_of, pair_ok, pair_by, pair_call};
 ghost use Rattle.pair.specs.Loops.{Lines};
 
-use pairform::Sizes;
+use answers::{Part, Refusal};
+use pairform::{Paired, Sizes};
 
 // The new cores' numbers, at the fronts of x and y.
 fn pair_of(
@@ -27,23 +28,20 @@ fn pair_of(
     a: &mut [f64],
     x: &mut [f64],
     y: &mut [f64],
-) -> pairform::Paired
+) -> Result<Paired, Refusal>
     requires { Lines (l.rl * l.n) (r.n * r.rr) × (length left.now ≡ l.rl * l.n * l.rr) × (length right.now ≡ l.rr * (r.n * r.rr))
         × (length a.old ≡ r.n * r.rr * (l.rl * l.n)) × (most_lines * most_rank ≤ length x.old) × (most_rank * most_lines ≤ length y.old) }
     ensures { pair_of eps (core_of l left.entry.now) (core_of r right.now)
-        ≡ answered result.verdict (record {
-          left = core_with l.rl l.n result.rank (take (l.rl * l.n * result.rank) x.new);
-          right = core_with result.rank r.n r.rr (take (result.rank * (r.n * r.rr)) y.new);
-          passes = result.passes;
+        ≡ outcome_of result (λ w. record {
+          left = core_with l.rl l.n w.rank (take (l.rl * l.n * w.rank) x.new);
+          right = core_with w.rank r.n r.rr (take (w.rank * (r.n * r.rr)) y.new);
+          passes = w.passes;
         }) }
 {
     let m = l.rl * l.n;
     let n = r.n * r.rr;
     let made = slabs::columns(left, right, m, l.rr, n, a);
-    let told = answers::stored_in(made, answers::Part::Entry, 0);
-    if let Err(q) = told {
-        return split::refused_pair(q);
-    }
+    answers::stored_in(made, Part::Entry, 0)?;
     parts::split(eps, m, n, a, x, y)
 }
 
@@ -57,7 +55,7 @@ fn pair_within(
     lefts: &mut [f64],
     rights: &mut [f64],
     scratch: &mut [f64],
-) -> pairform::Paired
+) -> Result<Paired, Refusal>
     requires { pair_ok (core_of l left.now) (core_of r right.now) eps (length lefts.old) (length rights.old) (length scratch.old) ≡ Ok tt }
     ensures { (result ≡ (pair_by lefts.old rights.old scratch.old
         (pair_of eps (core_of l left.now) (core_of r right.now))).result)
@@ -71,14 +69,10 @@ fn pair_within(
     let m = l.rl * l.n;
     let n = r.n * r.rr;
     let e = n * m;
-    let made = pair_of(l, r, eps, left, right, &mut scratch[0..e], &mut x, &mut y);
-    let verdict = made.verdict;
-    if let Err(q) = verdict {
-        return split::refused_pair(q);
-    }
+    let made = pair_of(l, r, eps, left, right, &mut scratch[0..e], &mut x, &mut y)?;
     lists::fit(&x, m * made.rank, lefts);
     lists::fit(&y, made.rank * n, rights);
-    split::paired_as(Ok(()), made.rank, made.passes)
+    Ok(made)
 }
 
 // Two neighbouring cores contracted and split again: the left one goes to lefts and the right one to rights, each at the
@@ -92,11 +86,11 @@ pub fn contract_and_split(
     lefts: &mut [f64],
     rights: &mut [f64],
     scratch: &mut [f64],
-) -> pairform::Paired
+) -> Result<Paired, Refusal>
     ensures { record { result = result; left = lefts.new; right = rights.new; scratch = scratch.new }
         ≡ pair_call (core_of l left.now) (core_of r right.now) eps lefts.old rights.old scratch.old }
 {
-    let ok = refusals::pair_ok(
+    refusals::pair_ok(
         l,
         r,
         eps,
@@ -105,10 +99,7 @@ pub fn contract_and_split(
         lefts.len(),
         rights.len(),
         scratch.len(),
-    );
-    if let Err(q) = ok {
-        return split::refused_pair(q);
-    }
+    )?;
     let made = pair_within(l, r, eps, left, right, lefts, rights, scratch);
     lists::fill(scratch, 0.0);
     made

@@ -5,14 +5,14 @@ ghost use Rattle.lists.specs.Floats.{all_finite};
 ghost use Rattle.shape.specs.Limits.{most_points, most_lines};
 ghost use Rattle.pairform.specs.Call.{core_of, sizes_ok, pair_sized, pair_lent, pair_finite, pair_ok};
 
+#[tactic(auto, unfolding(pairform::specs::Call::sizes_ok))]
 // The outer ranks needn't be 1.
 fn sizes_ok(c: pairform::Sizes) -> bool
     ensures { result ≡ sizes_ok (core_of c []) }
 {
-    let left = shape::within(shape::MOST_RANK, c.rl);
-    let points = shape::within(shape::MOST_POINTS, c.n);
-    let right = shape::within(shape::MOST_RANK, c.rr);
-    left & (points & right)
+    shape::within(shape::MOST_RANK, c.rl)
+        && shape::within(shape::MOST_POINTS, c.n)
+        && shape::within(shape::MOST_RANK, c.rr)
 }
 
 // Whether sizes that are within their limits make few enough lines; the product is made of no others.
@@ -20,10 +20,7 @@ fn lines_ok(sized: bool, i: usize, j: usize) -> bool
     requires { sized ≡ true → (i ≤ most_points) × (j ≤ most_points) }
     ensures { result ≡ sized && leb (i * j) most_lines }
 {
-    if !sized {
-        return false;
-    }
-    i * j <= shape::MOST_LINES
+    sized && i * j <= shape::MOST_LINES
 }
 
 // Refusals 2 and 3.
@@ -76,9 +73,7 @@ fn lent(
 fn eps_and_left(eps: f64, left: &[f64]) -> bool
     ensures { result ≡ finite eps && all_finite left.now }
 {
-    let lone = numbers::is_finite(eps);
-    let all = lists::all_finite(left);
-    lone & all
+    numbers::is_finite(eps) && lists::all_finite(left)
 }
 
 // Refusals 6 and 7.
@@ -109,13 +104,7 @@ pub fn pair_ok(
 ) -> Result<(), answers::Refusal>
     ensures { result ≡ pair_ok (core_of l left.now) (core_of r right.now) eps lefts rights scratch }
 {
-    let shaped = sized(l, r);
-    if let Err(q) = shaped {
-        return Err(q);
-    }
-    let long = lent(l, r, left, right, lefts, rights, scratch);
-    if let Err(q) = long {
-        return Err(q);
-    }
+    sized(l, r)?;
+    lent(l, r, left, right, lefts, rights, scratch)?;
     finite(eps, left, right)
 }

@@ -85,10 +85,7 @@ pub fn columns(
     rows_of(left, right, m, k, w, &mut room);
     let e = m * w;
     let slab = &room[0..e];
-    let made = lists::stored(slab);
-    if let Err(i) = made {
-        return Err(i);
-    }
+    lists::stored(slab)?;
     transpose(slab, m, w, a);
     Ok(())
 }

@@ -1,29 +1,7 @@
-// What the split of a slab answers, and how a number of a column is rescaled for it.
-ghost use Rattle.std.specs.Prelude.{◌≡◌, Err};
+// How a number of a column is rescaled for a core.
+ghost use Rattle.std.specs.Prelude.{◌≡◌};
 ghost use Rattle.numbers.specs.Arithmetic.{times};
 ghost use Rattle.pairform.specs.Numbers.{inverse};
-
-use pairform::Paired;
-
-pub fn refused_pair(r: answers::Refusal) -> Paired
-    ensures { result ≡ record { verdict = Err r; rank = 0; passes = 0 } }
-{
-    Paired {
-        verdict: Err(r),
-        rank: 0,
-        passes: 0,
-    }
-}
-
-pub fn paired_as(verdict: Result<(), answers::Refusal>, rank: usize, passes: usize) -> Paired
-    ensures { result ≡ record { verdict = verdict; rank = rank; passes = passes } }
-{
-    Paired {
-        verdict,
-        rank,
-        passes,
-    }
-}
 
 // 1/value, or 0 where the value isn't above zero.
 fn inverse(value: f64) -> f64

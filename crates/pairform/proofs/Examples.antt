@@ -10,7 +10,7 @@ use Rattle.numbers.specs.Arithmetic.{zero64, one64, two64, tolerance64}
 use Rattle.numbers.specs.Magnitude.{magnitude_of}
 use Rattle.numbers.specs.Root.{root_in, whole_root, root_of_units, root_of}
 use Rattle.std.specs.Prelude.{Ok, Err}
-use Rattle.answers.specs.Outcome.{demand, Check}
+use Rattle.answers.specs.Outcome.{Answer, demand}
 use Rattle.answers.specs.Table.{told_of}
 use Rattle.lists.specs.Lists.{pick, listed, flat, first, count, pairs}
 use Rattle.lists.specs.Slots.{fit}
@@ -20,6 +20,7 @@ use Rattle.shape.specs.Cores.{Core, core_with, place, entry, block}
 use Rattle.cutform.specs.Rotation.{tangent_of, slope_of, cosine_of, turned_at, eye}
 use Rattle.cutform.specs.Values.{place_in, index_at, order, sorted, threshold_of, kept_rank}
 use Rattle.cutform.specs.Call.{not_below_zero, scratch_after}
+use Rattle.pairform.specs.declared.Paired.{Paired}
 use Rattle.pairform.specs.Slabs.{plus_product, slab_entry, slab}
 use Rattle.pairform.specs.Columns.{turn_stored, dot, skipped}
 use Rattle.pairform.specs.Passes.{turned_svd, rotate, pass, passes_from, orthogonalized, start}
@@ -37,15 +38,15 @@ tolerance_nearest = refl
 abbrev bits : List Float → List ℕ
 bits xs = map (to_bits binary64) xs
 
-abbrev told : ℕ → ℕ → PairEnded → Check → List ℕ
-told i j e (Ok _) = e.result.rank ∷ e.result.passes ∷ (bits (take i e.left) ++ bits (take j e.right))
+abbrev told : ℕ → ℕ → PairEnded → Answer Paired → List ℕ
+told i j e (Ok w) = w.rank ∷ w.passes ∷ (bits (take i e.left) ++ bits (take j e.right))
 told i j e (Err r) = told_of (Err r)
 
 -- the outputs hold ones before the call
 abbrev answer : ℕ → ℕ → Core → Core → Float → List ℕ
 answer i j l r eps =
     let e = pair_call l r eps (replicate (left_room l) one64) (replicate (right_room r) one64) (zeros pair_scratch) in
-    told i j e e.result.verdict
+    told i j e e.result
 
 -- ---- numbers and cores
 abbrev whole : ℕ → Float

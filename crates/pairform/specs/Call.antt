@@ -59,20 +59,20 @@ pair_ok l r eps left_out right_out scratch = pair_sized l r then pair_lent l r l
 
 -- what the call answers and leaves: each core packed at the front of its output, the rest +0
 pub record PairEnded : Type 0 where
-  pub result : Paired
+  pub result : Answer Paired
   pub left : List Float
   pub right : List Float
   pub scratch : List Float
 
 unfoldable pub pair_by : List Float → List Float → List Float → Answer Halves → PairEnded
 pair_by left_out right_out scratch (Ok h) = record {
-  result = record { verdict = Ok tt; rank = h.left.rr; passes = h.passes };
+  result = Ok (record { rank = h.left.rr; passes = h.passes });
   left = fit zero64 (length left_out) h.left.entries;
   right = fit zero64 (length right_out) h.right.entries;
   scratch = scratch_after scratch (Ok h);
 }
 pair_by left_out right_out scratch (Err r) = record {
-  result = record { verdict = Err r; rank = 0; passes = 0 };
+  result = Err r;
   left = left_out;
   right = right_out;
   scratch = scratch_after {A = Halves} scratch (Err r);

@@ -1,10 +1,9 @@
 // What the pair is: two neighbours joined to a slab and split again. Definitions stand in specs/; here are its records.
 #![tactic(auto)]
 
-// The kept rank and the passes made, the quiet one included; both are 0 after a refusal.
+// The kept rank and the passes made, the quiet one included.
 #[derive(Clone, Copy)]
 pub struct Paired {
-    pub verdict: Result<(), answers::Refusal>,
     pub rank: usize,
     pub passes: usize,
 }
