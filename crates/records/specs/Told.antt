@@ -44,8 +44,10 @@ abbrev pub read_out : Answer Shape → CFormed
 read_out (Ok s) = record { refusal = refusal_of (Ok tt); shape = shape_out s }
 read_out (Err q) = record { refusal = refusal_of (Err q); shape = record { d = 0; left = replicate most_axes 0; n = replicate most_axes 0; right = replicate most_axes 0 } }
 
-abbrev pub paired_out : Paired → CPaired
-paired_out w = record { refusal = refusal_of w.verdict; rank = w.rank; passes = w.passes }
+-- rank and passes are 0 after a refusal
+abbrev pub paired_out : Answer Paired → CPaired
+paired_out (Ok w) = record { refusal = refusal_of (Ok tt); rank = w.rank; passes = w.passes }
+paired_out (Err q) = record { refusal = refusal_of (Err q); rank = 0; passes = 0 }
 
 -- +0 outside
 abbrev pub seen_out : Option Float → CSeen

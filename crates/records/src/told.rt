@@ -167,14 +167,20 @@ pub fn read_out(w: Result<Shape, Refusal>) -> CFormed
     }
 }
 
-pub fn paired_out(w: pairform::Paired) -> CPaired
+pub fn paired_out(w: Result<pairform::Paired, answers::Refusal>) -> CPaired
     ensures { result ≡ paired_out w }
 {
-    let verdict = w.verdict;
-    CPaired {
-        refusal: refusal_of(verdict),
-        rank: w.rank,
-        passes: w.passes,
+    match w {
+        Ok(p) => CPaired {
+            refusal: refusal_of(Ok(())),
+            rank: p.rank,
+            passes: p.passes,
+        },
+        Err(r) => CPaired {
+            refusal: refusal_of(Err(r)),
+            rank: 0,
+            passes: 0,
+        },
     }
 }
 

@@ -8,22 +8,30 @@ fn sizes(input: Stdin) -> pairform::Sizes {
     pairform::Sizes { rl, n, rr }
 }
 
-// The verdict, the rank, the passes, both cores, and scratch.
+// The verdict, the rank and the passes, which are 0 after a refusal, both cores, and scratch.
 fn ended(
     input: Stdin,
-    w: pairform::Paired,
+    w: Result<pairform::Paired, answers::Refusal>,
     lefts: &[f64],
     rights: &[f64],
     scratch: &[f64],
 ) -> bool {
-    let verdict = w.verdict;
-    let told = crate::cases::verdict(input, verdict);
-    let rank = w.rank == crate::cases::word(input);
-    let passes = w.passes == crate::cases::word(input);
+    let told = match w {
+        Ok(p) => {
+            crate::cases::verdict(input, Ok(()))
+                & (crate::cases::word(input) == p.rank)
+                & (crate::cases::word(input) == p.passes)
+        }
+        Err(r) => {
+            crate::cases::verdict(input, Err(r))
+                & (crate::cases::word(input) == 0)
+                & (crate::cases::word(input) == 0)
+        }
+    };
     let left = crate::cases::holds(input, lefts);
     let right = crate::cases::holds(input, rights);
     let clear = crate::cases::holds(input, scratch);
-    told & rank & passes & left & right & clear
+    told & left & right & clear
 }
 
 // One case: the sizes of both cores, eps, their numbers, the lengths of both outputs and of scratch, then the answer.

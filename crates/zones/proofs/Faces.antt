@@ -77,7 +77,7 @@ starts_as F x y r l o e f g = record {
 }
 
 -- the left core's sizes, and the right core's
-pub splits_as : (F : Sizes → Sizes → PairEnded) (x y u v : Sizes) (p : Paired) (l r w : List Float) (o : CPaired) → x ≡ y → u ≡ v → record { result = p; left = l; right = r; scratch = w } ≡ F x u → o ≡ paired_out p → SplitsAs (F y v) o l r w
+pub splits_as : (F : Sizes → Sizes → PairEnded) (x y u v : Sizes) (p : Answer Paired) (l r w : List Float) (o : CPaired) → x ≡ y → u ≡ v → record { result = p; left = l; right = r; scratch = w } ≡ F x u → o ≡ paired_out p → SplitsAs (F y v) o l r w
 splits_as F x y u v p l r w o e f a g =
     let h : record { result = p; left = l; right = r; scratch = w } ≡ F y v = a ∙ ap (λ (z : Sizes). F z u) e ∙ ap (λ (z : Sizes). F y z) f in
     record {
