@@ -5,7 +5,7 @@ ghost use Rattle.std.specs.Prelude.{◌≡◌};
 ghost use Rattle.runform.specs.Slices.{outputs};
 ghost use Rattle.comparing.specs.Same.{Tells, SameRecord, SameKept};
 
-// Whether two numbers have the same bits.
+// Whether two numbers have the same bits. A derived `==` asks another thing: it tells a NaN from itself, and not -0 from +0.
 pub fn same_number(x: f64, y: f64) -> bool
     ensures { Tells result (x ≡ y) }
 {
@@ -16,49 +16,29 @@ pub fn same_number(x: f64, y: f64) -> bool
 pub fn same_numbers(a: &[f64], b: &[f64]) -> bool
     ensures { Tells result (a.now ≡ b.now) }
 {
-    if a.len() != b.len() {
-        return false;
-    }
-    let mut i = 0;
-    while i < a.len() {
-        if !same_number(a[i], b[i]) {
-            return false;
-        }
-        i += 1;
-    }
-    true
+    a.len() == b.len() && a.iter().zip(b).all(|(x, y)| same_number(*x, *y))
 }
 
 fn same_bond(a: cutform::Bond, b: cutform::Bond) -> bool
     ensures { Tells result (a ≡ b) }
 {
-    let dropped = same_number(a.dropped, b.dropped);
-    (a.rank == b.rank) & (a.sweeps == b.sweeps) & (a.settled == b.settled) & dropped
+    a.rank == b.rank
+        && a.sweeps == b.sweeps
+        && a.settled == b.settled
+        && same_number(a.dropped, b.dropped)
 }
 
 fn same_bonds(a: [cutform::Bond; shape::MOST_AXES], b: [cutform::Bond; shape::MOST_AXES]) -> bool
     ensures { Tells result (a ≡ b) }
 {
-    let mut k = 0;
-    while k < shape::MOST_AXES {
-        if !same_bond(a[k], b[k]) {
-            return false;
-        }
-        k += 1;
-    }
-    true
+    a.iter().zip(&b).all(|(x, y)| same_bond(*x, *y))
 }
 
 // Whether two records keep the same bonds and figure.
 pub fn same_record(a: runform::Run, b: runform::Run) -> bool
     ensures { Tells result (SameRecord a b) }
 {
-    let bonds = a.bonds;
-    let other_bonds = b.bonds;
-    if !same_bonds(bonds, other_bonds) {
-        return false;
-    }
-    same_number(a.figure, b.figure)
+    same_bonds(a.bonds, b.bonds) && same_number(a.figure, b.figure)
 }
 
 // Whether two runs keep the same: their records, chains, carries and sums.
@@ -75,9 +55,8 @@ pub fn same_kept(
     ensures { Tells result (SameKept a b (outputs chain.now carries.now sums.now)
         (outputs chain2.now carries2.now sums2.now)) }
 {
-    let record = same_record(a, b);
-    let cores = same_numbers(chain, chain2);
-    let carried = same_numbers(carries, carries2);
-    let summed = same_numbers(sums, sums2);
-    record & cores & carried & summed
+    same_record(a, b)
+        && same_numbers(chain, chain2)
+        && same_numbers(carries, carries2)
+        && same_numbers(sums, sums2)
 }

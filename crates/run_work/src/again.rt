@@ -59,8 +59,7 @@ pub fn redo_from(
 {
     let s = w.shape;
     let stepped = step_again(z, w, set, xs, work, carries);
-    let verdict = stepped.verdict;
-    if let Err(q) = verdict {
+    if let Err(_) = stepped.verdict {
         return stepped;
     }
     let bonds = stepped.bonds;

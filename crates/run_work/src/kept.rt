@@ -9,14 +9,12 @@ pub fn kept_shape(s: shape::Shape, bonds: [cutform::Bond; shape::MOST_AXES]) -> 
     ensures { Ranked s bonds result s.d }
 {
     let mut t = s;
-    let mut k = 0;
-    while k < s.d {
+    for k in 0..s.d {
         t = t.with_core(
             k,
             run_slices::ranks::left_rank(bonds, k),
             run_slices::ranks::right_rank(s, bonds, k),
         );
-        k += 1;
     }
     t
 }

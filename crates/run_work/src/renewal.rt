@@ -94,8 +94,7 @@ fn worked(
         &mut held,
         &mut summed,
     );
-    let verdict = w.verdict;
-    if let Err(q) = verdict {
+    if let Err(q) = w.verdict {
         return crate::refused(q, r);
     }
     let figure = run_slices::commit(z, s, scratch, &held, &summed, chain, carries, sums);

@@ -103,8 +103,7 @@ pub fn resummed(
     let bonds = r.bonds;
     let t = crate::kept::kept_shape(s, bonds);
     let mut held = [0.0; shape::MOST_SUMS];
-    let made = sums_anew(z, s, t, chain, weights, part, sums, &mut held);
-    if let Err(q) = made {
+    if let Err(q) = sums_anew(z, s, t, chain, weights, part, sums, &mut held) {
         return crate::refused(q, r);
     }
     let figure = commit(s, z, part, &held, weights, sums);

@@ -47,7 +47,7 @@ pub fn fresh_run(
         scratch.old }
 {
     let r = blank_run(s, xs, set);
-    let ok = run_checks::calls::fresh_ok(
+    if let Err(q) = run_checks::calls::fresh_ok(
         s,
         xs,
         set,
@@ -57,8 +57,7 @@ pub fn fresh_run(
         carries.len(),
         sums.len(),
         scratch.len(),
-    );
-    if let Err(q) = ok {
+    ) {
         return run_work::refused(q, r);
     }
     run_work::renewal::take_sources(0, s, source, scratch);
@@ -85,7 +84,7 @@ pub fn replace_core(
         ≡ replace_core_call r z (slices source.old weights.now chain.old carries.old sums.old)
         part.now scratch.old }
 {
-    let ok = run_checks::calls::core_ok(
+    if let Err(q) = run_checks::calls::core_ok(
         r,
         z,
         source,
@@ -95,15 +94,13 @@ pub fn replace_core(
         sums,
         part,
         scratch.len(),
-    );
-    if let Err(q) = ok {
+    ) {
         return run_work::refused(q, r);
     }
     let s = r.shape;
     run_work::renewal::take_core(z, s, source, part, scratch);
     let ran = run_work::renewal::renew(z, r, weights, chain, carries, sums, scratch);
-    let made = ran.verdict;
-    if let Err(q) = made {
+    if let Err(_) = ran.verdict {
         return ran;
     }
     run_work::renewal::put_core(z, s, part, source);
@@ -141,7 +138,7 @@ pub fn replace_axis(
         ≡ replace_axis_call r z x (slices source.now weights.now chain.old carries.old sums.old)
         scratch.old }
 {
-    let ok = run_checks::new_axis::axis_ok(
+    if let Err(q) = run_checks::new_axis::axis_ok(
         r,
         z,
         x,
@@ -151,16 +148,14 @@ pub fn replace_axis(
         carries,
         sums,
         scratch.len(),
-    );
-    if let Err(q) = ok {
+    ) {
         return run_work::refused(q, r);
     }
     let s = r.shape;
     run_work::renewal::take_sources(z, s, source, scratch);
     let anew = with_axis(r, z, x);
     let ran = run_work::renewal::renew(z, anew, weights, chain, carries, sums, scratch);
-    let verdict = ran.verdict;
-    if let Err(q) = verdict {
+    if let Err(q) = ran.verdict {
         return run_work::refused(q, r);
     }
     ran
@@ -186,7 +181,7 @@ pub fn replace_weights(
         ≡ replace_weights_call r z (slices source.now weights.old chain.now carries.now sums.old)
         part.now scratch.old }
 {
-    let ok = run_checks::calls::weights_ok(
+    if let Err(q) = run_checks::calls::weights_ok(
         r,
         z,
         source,
@@ -196,8 +191,7 @@ pub fn replace_weights(
         sums,
         part,
         scratch.len(),
-    );
-    if let Err(q) = ok {
+    ) {
         return run_work::refused(q, r);
     }
     let ran = run_work::weights::resummed(r, z, weights, chain, sums, part);

@@ -1,16 +1,9 @@
+-- Two arrays are the same where each two bonds are (same_from_all). Assumes nothing.
 use borrow.Author.Rules.{rules}
-use Rattle.cutform.specs.Bonds.{past_bond}
-use Rattle.comparing.proofs.Equal.{refuted, agreed_none, agreed_more, agreed_all, differs_at}
+use Rattle.std.proofs.lemmas.Iterator.{YieldsList-from_slice, YieldsList-from_zip, same_from_all}
+use Rattle.comparing.proofs.Equal.{decided, told_yes, told_no}
 use Rattle.comparing.proofs.same_bonds.Goals as goal
 
-pub loop-k-init : goal.loop-k-init
-loop-k-init c = (search rules, agreed_none)
-
-pub returns-then-not-same_bond : goal.returns-then-not-same_bond
-returns-then-not-same_bond c = differs_at past_bond _ (refuted c.same_bond.ensures c.if-not-same_bond.true)
-
-pub loop-k-preserved : goal.loop-k-preserved
-loop-k-preserved c = (search rules, agreed_more c.loop-k.invariant.1 (c.same_bond.ensures.only c.if-not-same_bond.false))
-
 pub returns : goal.returns
-returns c = agreed_all c.loop-k.invariant.1 (search rules) (search rules)
+returns c = decided
+    (same_from_all c.all.new.self _ _ _ _ c.all.ensures.ran (YieldsList-from_zip (YieldsList-from_slice c.args.a (cc)) (YieldsList-from_slice c.args.b (cc))) (search rules) (λ x q k. (search rules, told_yes (search rules))) (λ x q k. told_no (search rules)))

@@ -1,19 +1,9 @@
+-- Lists of one length are the same where each two numbers are (same_from_all). Assumes nothing.
 use borrow.Author.Rules.{rules}
-use lib.Ieee.{nan}
-use Rattle.comparing.proofs.Equal.{refuted, agreed_none, agreed_more, agreed_all, differs_at, differs_in_length}
+use Rattle.std.proofs.lemmas.Iterator.{YieldsList-from_slice, YieldsList-from_zip, same_from_all}
+use Rattle.comparing.proofs.Equal.{decided, told_yes, told_no}
 use Rattle.comparing.proofs.same_numbers.Goals as goal
 
 pub returns-then-a-b : goal.returns-then-a-b
-returns-then-a-b c = differs_in_length (λ e. search rules)
-
-pub loop-i-init : goal.loop-i-init
-loop-i-init c = (search rules, agreed_none)
-
-pub returns-then-not-same_number : goal.returns-then-not-same_number
-returns-then-not-same_number c = differs_at nan _ (refuted c.same_number.ensures c.if-not-same_number.true)
-
-pub loop-i-preserved : goal.loop-i-preserved
-loop-i-preserved c = (search rules, agreed_more c.loop-i.invariant.1 (c.same_number.ensures.only c.if-not-same_number.false))
-
-pub returns : goal.returns
-returns c = agreed_all c.loop-i.invariant.1 (search rules) (search rules)
+returns-then-a-b c = decided
+    (same_from_all c.all.new.self _ _ _ _ c.all.ensures.ran (YieldsList-from_zip (YieldsList-from_slice c.args.a.now (cc)) (YieldsList-from_slice c.args.b.now (cc))) (search rules) (λ x q k. (search rules, told_yes (search rules))) (λ x q k. told_no (search rules)))

@@ -11,29 +11,29 @@ use Rattle.runs.proofs.replace_core.Goals as goal
 
 pub returns-in-Err : goal.returns-in-Err
 returns-in-Err c = replace_stops (kept_of c.args.r (slices c.args.source.now c.args.weights.now c.args.chain.now c.args.carries.now c.args.sums.now))
-    (new_core c.args.z c.args.part.now) c.args.scratch.now _ c.core_ok-ok.ensures _ c.in-Err.is _
+    (new_core c.args.z c.args.part.now) c.args.scratch.now _ c.core_ok.ensures _ c.in-Err.is _
     c.refused.ensures
 
 pub take_core-requires : goal.take_core-requires
 take_core-requires c = let q = core_asks c.args.r (slices c.args.source.now c.args.weights.now c.args.chain.now c.args.carries.now c.args.sums.now) c.args.z c.args.part.now _
-    _ c.core_ok-ok.ensures c.in_default.is in record { sizes_within = q.0; z_lt_d = q.1 }
+    _ c.core_ok.ensures c.in_default.is in record { sizes_within = q.0; z_lt_d = q.1 }
 
 pub renew-ran-requires : goal.renew-ran-requires
 renew-ran-requires c = core_asked c.args.r (slices c.args.source.now c.args.weights.now c.args.chain.now c.args.carries.now c.args.sums.now) c.args.z c.args.part.now
-    _ _ c.core_ok-ok.ensures
+    _ _ c.core_ok.ensures
     c.in_default.is _
     c.take_core.auto.work
 
-pub returns-in-Err-made : goal.returns-in-Err-made
-returns-in-Err-made c = core_refused c.args.r c.args.z (slices c.args.source.now c.args.weights.now c.args.chain.now c.args.carries.now c.args.sums.now)
+pub returns-in-Err-verdict : goal.returns-in-Err-verdict
+returns-in-Err-verdict c = core_refused c.args.r c.args.z (slices c.args.source.now c.args.weights.now c.args.chain.now c.args.carries.now c.args.sums.now)
     c.args.part.now c.args.scratch.now _
-    c.core_ok-ok.ensures
+    c.core_ok.ensures
     c.in_default.is _ _ _ c.renew-ran.ensures.0 c.take_core.ensures _
-    (c.renew-ran.ensures.1 ∙ ap zeros c.take_core.auto.work) _ c.in-Err-made.is
+    (c.renew-ran.ensures.1 ∙ ap zeros c.take_core.auto.work) _ c.in-Err-verdict.is
 
 pub put_core-requires : goal.put_core-requires
 put_core-requires c = let p = core_asks c.args.r (slices c.args.source.now c.args.weights.now c.args.chain.now c.args.carries.now c.args.sums.now) c.args.z c.args.part.now _ _
-    c.core_ok-ok.ensures c.in_default.is in
+    c.core_ok.ensures c.in_default.is in
     record {
       sizes_within = p.0;
       z_lt_d = (p.1.0, p.1.1, p.1.2);
@@ -42,7 +42,7 @@ put_core-requires c = let p = core_asks c.args.r (slices c.args.source.now c.arg
 pub returns : goal.returns
 returns c = core_ends c.args.r c.args.z (slices c.args.source.now c.args.weights.now c.args.chain.now c.args.carries.now c.args.sums.now) c.args.part.now
     c.args.scratch.now _
-    c.core_ok-ok.ensures
+    c.core_ok.ensures
     c.in_default.is _ _ _ c.renew-ran.ensures.0 c.take_core.ensures _
-    (c.renew-ran.ensures.1 ∙ ap zeros c.take_core.auto.work) c.in_default-made.is _
+    (c.renew-ran.ensures.1 ∙ ap zeros c.take_core.auto.work) c.in_default-verdict.is _
     c.put_core.ensures

@@ -9,17 +9,17 @@ use Rattle.runs.proofs.replace_weights.Goals as goal
 
 pub returns-in-Err : goal.returns-in-Err
 returns-in-Err c = replace_stops (kept_of c.args.r (slices c.args.source.now c.args.weights.now c.args.chain.now c.args.carries.now c.args.sums.now))
-    (new_weights c.args.z c.args.part.now) c.args.scratch.now _ c.weights_ok-ok.ensures _
+    (new_weights c.args.z c.args.part.now) c.args.scratch.now _ c.weights_ok.ensures _
     c.in-Err.is _ c.refused.ensures
 
 pub resummed-ran-requires : goal.resummed-ran-requires
 resummed-ran-requires c = let q = weights_lent c.args.r c.args.z (slices c.args.source.now c.args.weights.now c.args.chain.now c.args.carries.now c.args.sums.now)
-    c.args.part.now c.args.scratch.now _ c.weights_ok-ok.ensures c.in_default.is in record { bonds_value = q.0; lent = q.1 }
+    c.args.part.now c.args.scratch.now _ c.weights_ok.ensures c.in_default.is in record { bonds_value = q.0; lent = q.1 }
 
 pub returns : goal.returns
 returns c = weights_worked c.args.r c.args.z (slices c.args.source.now c.args.weights.now c.args.chain.now c.args.carries.now c.args.sums.now)
     c.args.part.now c.args.scratch.now _
-    c.weights_ok-ok.ensures
+    c.weights_ok.ensures
     c.in_default.is _ _ _ _
     (c.resummed-ran.ensures c.args.source.now c.args.carries.now
     c.args.scratch.now) c.fill.ensures refl

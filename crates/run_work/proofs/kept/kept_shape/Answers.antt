@@ -16,12 +16,6 @@ right_rank-requires c = search ways
 pub with_core-t-requires : goal.with_core-t-requires
 with_core-t-requires c = search ways
 
-pub overflow_add-k : goal.overflow_add-k
-overflow_add-k c = search ways
-
-pub loop-k-smaller : goal.loop-k-smaller
-loop-k-smaller c = search ways
-
 pub loop-k-preserved : goal.loop-k-preserved
 loop-k-preserved c = search ways
 
