@@ -1,105 +1,180 @@
 // What a turn asks for: a replacement, drawn, in order or with one flaw.
-use crate::{chance, plans};
+use crate::{chance, parts, plans};
 
-// The three replacements; the new part of the first two goes into list 0 or 1.
-pub const CORE: usize = 0;
+// The three replacements.
+#[derive(Clone, Copy, Debug, PartialEq, Eq)]
+pub enum Kind {
+    Core,
+    Weights,
+    Axis,
+}
 
-pub const WEIGHTS: usize = 1;
+// The lists of a call.
+#[derive(Clone, Copy, Debug, PartialEq, Eq)]
+pub enum List {
+    Source,
+    Weights,
+    Chain,
+    Carries,
+    Sums,
+    Scratch,
+}
 
-pub const AXIS: usize = 2;
+// In their order.
+pub const LISTS: [List; 6] = [
+    List::Source,
+    List::Weights,
+    List::Chain,
+    List::Carries,
+    List::Sums,
+    List::Scratch,
+];
 
-// ---- the lists of a call in their order: source, weights, chain, carries, sums, scratch
-const CARRIES: usize = 3;
+impl List {
+    // One of the lists; without a bond there are no carries.
+    fn drawn(x: usize, d: usize) -> List {
+        let list = LISTS[chance::below(x, LISTS.len())];
+        match list {
+            List::Carries if d < 2 => List::Source,
+            _ => list,
+        }
+    }
+}
 
-pub const SCRATCH: usize = 5;
+// What others wrote to: a list of the run, or what a bond dropped, which stands in the record.
+#[derive(Clone, Copy, Debug, PartialEq, Eq)]
+pub enum Held {
+    List(List),
+    Dropped,
+}
 
-pub const NO_LIST: usize = 6;
+impl Held {
+    // What others wrote to: one of the run's five lists, or what a bond dropped, where there is a bond.
+    fn drawn(x: usize, d: usize) -> Held {
+        match List::drawn(x, d) {
+            List::Scratch if d < 2 => Held::List(List::Source),
+            List::Scratch => Held::Dropped,
+            list => Held::List(list),
+        }
+    }
+}
 
-// what the bonds dropped, which stands in the record: among what others wrote to it takes the place of scratch
-pub const DROPPED: usize = 5;
+// The flaws, each by the refusal that it is to bring.
+#[derive(Clone, Copy, Debug, PartialEq, Eq)]
+pub enum Flaw {
+    // ---- about the call or about a run that others wrote to: no fresh run can have them
+    // 3: a kept rank of 0, or above its source's
+    RankZero,
+    RankAbove,
+    // 4
+    Zone,
+    // 5: the length of the part, or of one of the lists
+    Part,
+    Lent(List),
+    // 6: a NaN or an infinity that others wrote into a list of the run, to what a bond dropped, or into its figure
+    Held(Held),
+    Figure,
+    // ---- in what is new
+    // 6: in the new part
+    NotFinite,
+    // 7: an a below zero, or a boundary that isn't known
+    BelowZero,
+    Unknown,
+    // 8, where anything is shifted
+    TooFar,
+    // 9, 12, 13 or 14, nearly always
+    Overflow,
+    // ---- more flaws of a run that others wrote to, drawn for turns of their own
+    // 6, 7: a lone setting that isn't finite, or one below zero or a mode that isn't known
+    LoneNotFinite,
+    LoneOutOfOrder,
+    // 6, 7, 7: an axis record that isn't finite, with an a below zero, or with a boundary that isn't known
+    OldNotFinite,
+    OldBelowZero,
+    OldUnknown,
+    // 6: a lone setting that is out of order so, and an axis record that isn't finite
+    TwoSettings,
+    // 2: a size of 0, and a zone number of d or more
+    SizeAndZone,
+    // 6, of the lower zone: in the new part, and in a list of the run or in what a bond dropped
+    TwoNumbers(Held),
+    // 8, where that axis is shifted: an axis record whose shift is too far
+    OldTooFar,
+}
 
-// ---- the flaws, each by the refusal that it is to bring. Those before NOT_FINITE are about the call or about a run that others
-// wrote to, and no fresh run can have them.
-// 3: a kept rank of 0, or above its source's
-pub const RANK_ZERO: usize = 0;
+impl Flaw {
+    // A flaw that a chain of d cores can have, or none: one core has no bond. Those that have several lists are drawn more often.
+    fn drawn(x: usize, d: usize) -> Option<Flaw> {
+        match chance::below(x, 37) {
+            0 if 2 <= d => Some(Flaw::RankZero),
+            1 if 2 <= d => Some(Flaw::RankAbove),
+            2 => Some(Flaw::Zone),
+            3 => Some(Flaw::Part),
+            4 | 31 | 32 => Some(Flaw::Lent(List::drawn(x / 256, d))),
+            5 | 33..=36 => Some(Flaw::Held(Held::drawn(x / 256, d))),
+            6 => Some(Flaw::Figure),
+            7 => Some(Flaw::NotFinite),
+            8 => Some(Flaw::BelowZero),
+            9 => Some(Flaw::Unknown),
+            10 => Some(Flaw::TooFar),
+            11 => Some(Flaw::Overflow),
+            _ => None,
+        }
+    }
 
-pub const RANK_ABOVE: usize = 1;
+    // A flaw of a run that others wrote to.
+    fn drawn_spoilt(x: usize, d: usize) -> Flaw {
+        match chance::below(x, 9) {
+            0 => Flaw::LoneNotFinite,
+            1 => Flaw::LoneOutOfOrder,
+            2 => Flaw::OldNotFinite,
+            3 => Flaw::OldBelowZero,
+            4 => Flaw::OldUnknown,
+            5 => Flaw::TwoSettings,
+            6 => Flaw::SizeAndZone,
+            7 => Flaw::TwoNumbers(Held::drawn(x / 256, d)),
+            _ => Flaw::OldTooFar,
+        }
+    }
 
-// 4
-const ZONE: usize = 2;
+    // What others wrote to beside the record's own numbers.
+    pub fn held(self) -> Option<Held> {
+        match self {
+            Flaw::Held(held) | Flaw::TwoNumbers(held) => Some(held),
+            _ => None,
+        }
+    }
 
-// 5: the part, or one of the lists
-const PART: usize = 3;
+    // Whether it is in a bond, which stands between two zones.
+    fn is_of_bond(self) -> bool {
+        match self {
+            Flaw::RankZero | Flaw::RankAbove => true,
+            _ => matches!(self.held(), Some(Held::List(List::Carries) | Held::Dropped)),
+        }
+    }
+}
 
-const LENT: usize = 4;
-
-// 6: a NaN or an infinity that others wrote into a list of the run, to what a bond dropped, or into its figure
-const HELD: usize = 5;
-
-pub const FIGURE: usize = 6;
-
-// 6: in the new part
-pub const NOT_FINITE: usize = 7;
-
-// 7: an a below zero, or a boundary that isn't known
-const BELOW_ZERO: usize = 8;
-
-const UNKNOWN: usize = 9;
-
-// 8, where anything is shifted
-const TOO_FAR: usize = 10;
-
-// 9, 12, 13 or 14, nearly always
-const OVERFLOW: usize = 11;
-
-const NONE: usize = 12;
-
-// Of so many draws those from NONE on are in order, but the last few, which are LENT and then HELD: those have several lists.
-const DRAWS: usize = 37;
-
-const MORE_LENT: usize = 31;
-
-const MORE_HELD: usize = 33;
-
-// ---- more flaws of a run that others wrote to, drawn for turns of their own, each by the refusal that it is to bring
-pub const SPOILT: usize = 45;
-
-// 6, 7: a lone setting that isn't finite, or one below zero or a mode that isn't known
-pub const LONE_NOT_FINITE: usize = SPOILT;
-
-pub const LONE_OUT_OF_ORDER: usize = 46;
-
-// 6, 7, 7: an axis record that isn't finite, with an a below zero, or with a boundary that isn't known
-pub const OLD_NOT_FINITE: usize = 47;
-
-pub const OLD_BELOW_ZERO: usize = 48;
-
-pub const OLD_UNKNOWN: usize = 49;
-
-// 6: a lone setting that is out of order so, and an axis record that isn't finite
-pub const TWO_SETTINGS: usize = 50;
-
-// 2: a size of 0, and a zone number of d or more
-pub const SIZE_AND_ZONE: usize = 51;
-
-// 6, of the lower zone: in the new part, and in a list of the run or in what a bond dropped
-pub const TWO_NUMBERS: usize = 52;
-
-// 8, where that axis is shifted: an axis record whose shift is too far
-pub const OLD_TOO_FAR: usize = 53;
-
-pub const KINDS_SPOILT: usize = 9;
+impl Kind {
+    // The replacement that can have the flaw.
+    fn drawn(x: usize, flaw: Option<Flaw>) -> Kind {
+        let drawn = chance::below(x, 3);
+        match (flaw, drawn) {
+            (Some(Flaw::BelowZero | Flaw::Unknown | Flaw::TooFar), _) => Kind::Axis,
+            (Some(Flaw::Part | Flaw::Overflow | Flaw::OldTooFar), 2) => Kind::Core,
+            (_, 0) => Kind::Core,
+            (_, 1) => Kind::Weights,
+            _ => Kind::Axis,
+        }
+    }
+}
 
 #[derive(Clone, Copy)]
 pub struct Ask {
-    pub kind: usize,
-    pub flaw: usize,
+    pub kind: Kind,
+    pub flaw: Option<Flaw>,
     // the zone that is named, and the one that others wrote to
     pub zone: usize,
     pub spot: usize,
-    // the list that others wrote to, or DROPPED, and the one whose length is wrong
-    pub spoilt: usize,
-    pub lent: usize,
     // how many numbers the part has
     pub length: usize,
     // a NaN or an infinity
@@ -109,158 +184,82 @@ pub struct Ask {
     pub seed: usize,
 }
 
-// A flaw that a chain of d cores can have: one core has no bond.
-fn flaw(x: usize, d: usize) -> usize {
-    let drawn = chance::below(x, DRAWS);
-    if MORE_HELD <= drawn {
-        return HELD;
-    }
-    if MORE_LENT <= drawn {
-        return LENT;
-    }
-    if (d < 2) & (drawn <= RANK_ABOVE) {
-        return NONE;
-    }
-    drawn
-}
-
-// The replacement that can have the flaw.
-fn kind(x: usize, flaw: usize) -> usize {
-    let drawn = chance::below(x, 3);
-    if (flaw == BELOW_ZERO) | (flaw == UNKNOWN) | (flaw == TOO_FAR) {
-        return AXIS;
-    }
-    if (flaw == PART) | (flaw == OVERFLOW) | (flaw == OLD_TOO_FAR) {
-        return drawn % 2;
-    }
-    drawn
-}
-
-// One of the first n lists, where one is wanted; without a bond there are no carries.
-fn list(wanted: bool, x: usize, n: usize, d: usize) -> usize {
-    if !wanted {
-        return NO_LIST;
-    }
-    let drawn = chance::below(x, n);
-    if (d < 2) & (drawn == CARRIES) {
-        return 0;
-    }
-    drawn
-}
-
-// What others wrote to, where it is wanted: one of the run's five lists, or what a bond dropped, where there is a bond.
-fn held(wanted: bool, x: usize, d: usize) -> usize {
-    let drawn = list(wanted, x, 6, d);
-    if (d < 2) & (drawn == DROPPED) {
-        return 0;
-    }
-    drawn
-}
-
 // The zone that others wrote to: one with a bond on its right where the flaw is in a bond.
-fn spot(x: usize, d: usize, bond: bool) -> usize {
+fn spot(x: usize, d: usize, flaw: Option<Flaw>) -> usize {
     let k = chance::below(x, d);
-    if bond {
-        if 1 <= k {
-            return k - 1;
-        }
+    match flaw {
+        Some(f) if f.is_of_bond() => k.saturating_sub(1),
+        _ => k,
     }
-    k
 }
 
 // How many numbers the part has; one more or one less where the flaw is that.
-fn length(s: shape::Shape, z: usize, kind: usize, flaw: usize) -> usize {
+fn length(s: shape::Shape, z: usize, kind: Kind, flaw: Option<Flaw>) -> usize {
     let from = plans::starts(s, z);
-    let to = plans::starts(s, std::num::wrapping_add_usize(z, 1));
-    let mut n = std::num::wrapping_sub_usize(to.weights, from.weights);
-    if kind == CORE {
-        n = std::num::wrapping_sub_usize(to.core, from.core);
-    }
-    if flaw == PART {
-        n = n ^ 1;
-    }
-    n
+    let to = plans::starts(s, z.wrapping_add(1));
+    let n = match kind {
+        Kind::Core => to.core.wrapping_sub(from.core),
+        Kind::Weights | Kind::Axis => to.weights.wrapping_sub(from.weights),
+    };
+    if flaw == Some(Flaw::Part) { n ^ 1 } else { n }
 }
 
 fn not_finite(x: usize) -> f64 {
-    let wrong = [1.0 / 0.0, -1.0 / 0.0, 0.0 / 0.0];
-    let k = chance::below(x, 3);
-    wrong[k]
+    [1.0 / 0.0, -1.0 / 0.0, 0.0 / 0.0][chance::below(x, 3)]
 }
 
-// An axis record with one of four flaws, or as it was.
-fn flawed(
-    x: stepform::Axis,
-    not_finite: bool,
-    below_zero: bool,
-    unknown: bool,
-    too_far: bool,
-    wrong: f64,
-) -> stepform::Axis {
+// An axis record with one of four flaws, by what it is in a new one, or as it was.
+fn flawed(x: stepform::Axis, flaw: Option<Flaw>, wrong: f64) -> stepform::Axis {
     let mut a = x;
-    if not_finite {
-        a.b = wrong;
-    }
-    if below_zero {
-        a.a = -0.25;
-    }
-    if unknown {
-        a.boundary = 2;
-    }
-    if too_far {
-        a.b = 1e12;
-        a.xmax = a.xmin + 0.5;
+    match flaw {
+        Some(Flaw::NotFinite) => a.b = wrong,
+        Some(Flaw::BelowZero) => a.a = -0.25,
+        Some(Flaw::Unknown) => a.boundary = 2,
+        Some(Flaw::TooFar) => {
+            a.b = 1e12;
+            a.xmax = a.xmin + 0.5;
+        }
+        _ => {}
     }
     a
 }
 
 // A new axis record with the flaw.
-fn axis(x: usize, flaw: usize, wrong: f64) -> stepform::Axis {
-    let not_finite = (flaw == NOT_FINITE) | (flaw == TWO_NUMBERS);
-    flawed(
-        plans::axis(x),
-        not_finite,
-        flaw == BELOW_ZERO,
-        flaw == UNKNOWN,
-        flaw == TOO_FAR,
-        wrong,
-    )
+fn axis(x: usize, flaw: Option<Flaw>, wrong: f64) -> stepform::Axis {
+    let of_new = match flaw {
+        Some(Flaw::TwoNumbers(_)) => Some(Flaw::NotFinite),
+        _ => flaw,
+    };
+    flawed(plans::axis(x), of_new, wrong)
 }
 
 // What the next turn asks.
 pub fn drawn(seed: usize, s: shape::Shape) -> Ask {
-    asked(seed, s, flaw(chance::next(seed), s.d))
+    asked(seed, s, Flaw::drawn(chance::next(seed), s.d))
 }
 
 // What the next turn asks on a run that others wrote to.
 pub fn drawn_spoilt(seed: usize, s: shape::Shape) -> Ask {
-    let k = chance::below(chance::next(seed), KINDS_SPOILT);
-    asked(seed, s, SPOILT + k)
+    asked(seed, s, Some(Flaw::drawn_spoilt(chance::next(seed), s.d)))
 }
 
-// A request with a flaw, or NONE.
-fn asked(seed: usize, s: shape::Shape, flaw: usize) -> Ask {
-    let d = s.d;
+// A request with a flaw, or without.
+fn asked(seed: usize, s: shape::Shape, flaw: Option<Flaw>) -> Ask {
     let x = chance::next(seed);
     let y = chance::next(x);
     let next = chance::next(y);
-    let kind = kind(x / 64, flaw);
-    let spoilt = held((flaw == HELD) | (flaw == TWO_NUMBERS), x / 256, d);
-    let bond = (flaw <= RANK_ABOVE) | (spoilt == CARRIES) | (spoilt == DROPPED);
-    let mut zone = chance::below(y, d);
-    let length = length(s, zone, kind, flaw);
+    let kind = Kind::drawn(x / 64, flaw);
+    let zone = chance::below(y, s.d);
     let wrong = not_finite(y / 16);
-    if (flaw == ZONE) | (flaw == SIZE_AND_ZONE) {
-        zone = std::num::wrapping_add_usize(d, y % 3);
-    }
     Ask {
         kind,
         flaw,
-        zone,
-        spot: spot(y / 64, d, bond),
-        spoilt,
-        lent: list(flaw == LENT, x / 256, 6, d),
-        length,
+        zone: match flaw {
+            Some(Flaw::Zone | Flaw::SizeAndZone) => s.d.wrapping_add(y % 3),
+            _ => zone,
+        },
+        spot: spot(y / 64, s.d, flaw),
+        length: length(s, zone, kind, flaw),
         wrong,
         axis: axis(next, flaw, wrong),
         seed: next,
@@ -269,30 +268,25 @@ fn asked(seed: usize, s: shape::Shape, flaw: usize) -> Ask {
 
 // What the numbers of a part are scaled by: mostly 1, else so little that squares vanish, much, or 0; too much where that is the
 // flaw.
-fn scale(x: usize, flaw: usize, kind: usize) -> f64 {
-    if flaw == OVERFLOW {
-        if kind == WEIGHTS {
-            return 8e307;
-        }
-        let much = [1e155, 1e200, 8.9e307, 8.9e307];
-        let k = chance::below(x, 4);
-        return much[k];
+fn scale(x: usize, flaw: Option<Flaw>, kind: Kind) -> f64 {
+    match (flaw, kind) {
+        (Some(Flaw::Overflow), Kind::Weights) => 8e307,
+        (Some(Flaw::Overflow), _) => [1e155, 1e200, 8.9e307, 8.9e307][chance::below(x, 4)],
+        _ => match chance::below(x, 20) {
+            0 => 1e-170,
+            1 => 1e40,
+            2 => 0.0,
+            _ => 1.0,
+        },
     }
-    let k = chance::below(x, 20);
-    if k < 3 {
-        let rare = [1e-170, 1e40, 0.0];
-        return rare[k];
-    }
-    1.0
 }
 
 // The numbers of the part that is asked for, at the front of a list.
 pub fn write_part(q: Ask, part: &mut [f64]) {
     let x = q.seed ^ 0x5851_f42d_4c95_7f2d;
-    let by = scale(x, q.flaw, q.kind);
-    chance::fill(x, by, part);
-    if (q.flaw == NOT_FINITE) | (q.flaw == TWO_NUMBERS) {
-        crate::parts::exchanged(part, chance::below(x, q.length), q.wrong);
+    chance::fill(x, scale(x, q.flaw, q.kind), part);
+    if matches!(q.flaw, Some(Flaw::NotFinite | Flaw::TwoNumbers(_))) {
+        parts::exchanged(part, chance::below(x, q.length), q.wrong);
     }
 }
 
@@ -301,28 +295,14 @@ pub fn write_part(q: Ask, part: &mut [f64]) {
 pub fn spoilt_settings(q: Ask, set: stepform::Settings) -> stepform::Settings {
     let mut t = set;
     let mut cutting = set.cutting;
-    let k = chance::below(q.seed, 3);
-    if q.flaw == LONE_NOT_FINITE {
-        if k == 0 {
-            t.tau = q.wrong;
-        }
-        if k == 1 {
-            t.c = q.wrong;
-        }
-        if k == 2 {
-            cutting.eps = q.wrong;
-        }
-    }
-    if (q.flaw == LONE_OUT_OF_ORDER) | (q.flaw == TWO_SETTINGS) {
-        if k == 0 {
-            t.tau = -0.5;
-        }
-        if k == 1 {
-            cutting.eps = -0.5;
-        }
-        if k == 2 {
-            cutting.mode = 2;
-        }
+    match (q.flaw, chance::below(q.seed, 3)) {
+        (Some(Flaw::LoneNotFinite), 0) => t.tau = q.wrong,
+        (Some(Flaw::LoneNotFinite), 1) => t.c = q.wrong,
+        (Some(Flaw::LoneNotFinite), _) => cutting.eps = q.wrong,
+        (Some(Flaw::LoneOutOfOrder | Flaw::TwoSettings), 0) => t.tau = -0.5,
+        (Some(Flaw::LoneOutOfOrder | Flaw::TwoSettings), 1) => cutting.eps = -0.5,
+        (Some(Flaw::LoneOutOfOrder | Flaw::TwoSettings), _) => cutting.mode = 2,
+        _ => {}
     }
     t.cutting = cutting;
     t
@@ -330,13 +310,12 @@ pub fn spoilt_settings(q: Ask, set: stepform::Settings) -> stepform::Settings {
 
 // The axis record of the zone that others wrote to.
 pub fn spoilt_axis(q: Ask, x: stepform::Axis) -> stepform::Axis {
-    let not_finite = (q.flaw == OLD_NOT_FINITE) | (q.flaw == TWO_SETTINGS);
-    flawed(
-        x,
-        not_finite,
-        q.flaw == OLD_BELOW_ZERO,
-        q.flaw == OLD_UNKNOWN,
-        q.flaw == OLD_TOO_FAR,
-        q.wrong,
-    )
+    let of_old = match q.flaw {
+        Some(Flaw::OldNotFinite | Flaw::TwoSettings) => Some(Flaw::NotFinite),
+        Some(Flaw::OldBelowZero) => Some(Flaw::BelowZero),
+        Some(Flaw::OldUnknown) => Some(Flaw::Unknown),
+        Some(Flaw::OldTooFar) => Some(Flaw::TooFar),
+        _ => None,
+    };
+    flawed(x, of_old, q.wrong)
 }

@@ -2,14 +2,9 @@
 
 // The n numbers of a list from one place on; none where it hasn't got them.
 pub fn window(list: &[f64], at: usize, n: usize) -> &[f64] {
-    if list.len() < at {
-        return &list[0..0];
-    }
-    if list.len() - at < n {
-        return &list[0..0];
-    }
-    let end = at + n;
-    &list[at..end]
+    list.get(at..)
+        .and_then(|rest| rest.get(..n))
+        .unwrap_or(&[])
 }
 
 // The first n numbers of a list, or all of it.
@@ -22,19 +17,15 @@ pub fn front(list: &mut [f64], n: usize) -> &mut [f64] {
 
 // The number at a place becomes x, and what stood there is answered; x where there is no such place.
 pub fn exchanged(list: &mut [f64], at: usize, x: f64) -> f64 {
-    let mut was = x;
-    if at < list.len() {
-        was = list[at];
-        list[at] = x;
+    match list.get_mut(at) {
+        Some(place) => std::mem::replace(place, x),
+        None => x,
     }
-    was
 }
 
 // The numbers of a part stand in a list from one place on, where there is room.
 pub fn paste(at: usize, part: &[f64], to: &mut [f64]) {
-    if part.len() <= to.len() {
-        if at <= to.len() - part.len() {
-            run_slices::copies::put_at(at, part, to);
-        }
+    if part.len() <= to.len() && at <= to.len() - part.len() {
+        run_slices::copies::put_at(at, part, to);
     }
 }

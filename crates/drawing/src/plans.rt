@@ -8,8 +8,7 @@ pub fn shape(seed: usize, d: usize, rank: usize, points: usize) -> shape::Shape 
     let mut right = [1; shape::MOST_AXES];
     let mut last = 1;
     let mut x = seed;
-    let mut k = 0;
-    while k < shape::MOST_AXES {
+    for k in 0..shape::MOST_AXES {
         x = chance::next(x);
         left[k] = last;
         n[k] = 1 + chance::below(x, points);
@@ -18,7 +17,6 @@ pub fn shape(seed: usize, d: usize, rank: usize, points: usize) -> shape::Shape 
             last = 1;
         }
         right[k] = last;
-        k += 1;
     }
     shape::Shape { d, left, n, right }
 }
@@ -39,31 +37,26 @@ pub fn axis(x: usize) -> stepform::Axis {
 pub fn records(seed: usize) -> [stepform::Axis; shape::MOST_AXES] {
     let mut list = [axis(seed); shape::MOST_AXES];
     let mut x = seed;
-    let mut k = 0;
-    while k < shape::MOST_AXES {
+    for a in &mut list {
         x = chance::next(x);
-        list[k] = axis(x);
-        k += 1;
+        *a = axis(x);
     }
     list
 }
 
 // What the numbers of a day are scaled by: mostly 1, else so little that only scaled mode keeps them.
 pub fn scale(x: usize) -> f64 {
-    let scales = [1.0, 1.0, 1.0, 1e-40];
-    let k = chance::below(x, 4);
-    scales[k]
+    [1.0, 1.0, 1.0, 1e-40][chance::below(x, 4)]
 }
 
 // eps of 0 keeps every rank that it can, a large one cuts most; one cut in two is scaled.
 pub fn settings(x: usize) -> stepform::Settings {
     let cutoffs = [0.0, -0.0, 1e-12, 0.125, 0.5];
-    let k = chance::below(x / 16, 5);
     stepform::Settings {
         tau: chance::whole(x, 9) / 8.0,
         c: chance::number(x / 128),
         cutting: cutform::Cutting {
-            eps: cutoffs[k],
+            eps: cutoffs[chance::below(x / 16, cutoffs.len())],
             mode: chance::below(x / 4096, 2),
         },
     }
@@ -86,8 +79,7 @@ pub fn starts(s: shape::Shape, k: usize) -> Places {
         carry: 0,
         sums: 0,
     };
-    let verdict = s.check();
-    if let Err(q) = verdict {
+    if let Err(_) = s.check() {
         return nowhere;
     }
     if s.d < k {

@@ -1,9 +1,0 @@
--- `drawing::chance::fill`: memory safety alone: the list keeps its length, and no more is promised.
-use Rattle.std.proofs.Common.{◌≡◌, ◌-◌, length}
-use Rattle.drawing.proofs.chance.fill.Given as goal
-
-abbrev pub invariant-loop-i : goal.invariant-loop-i
-invariant-loop-i l = length l.out ≡ length l.initial.out
-
-abbrev pub decreases-loop-i : goal.decreases-loop-i
-decreases-loop-i l = length l.initial.out - l.i
