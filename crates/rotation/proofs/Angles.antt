@@ -1,4 +1,4 @@
--- The tangent and the basis as it starts, in the form that proofs of code cite. Assumes nothing.
+-- The basis as it starts, in the form that proofs of code cite. Assumes nothing.
 use mathlib.Core.Path.{◌≡◌, refl, sym, ap, ◌∙◌}
 use Prim.Native.Nat.{ℕ, ◌+◌, ◌*◌, ◌<◌, ◌≤◌}
 use native.Mathlib.Nat.{le_of_eq, le_refl}
@@ -6,9 +6,8 @@ use mathlib.Core.Bool.{Bool, true, false}
 use mathlib.Core.List.{List}
 use lib.Dec.{eqb}
 use lib.ListN.{length, set, replicate, length-replicate, get_or-replicate}
-use lib.Ieee.{Float, nan, le}
-use Rattle.numbers.specs.Arithmetic.{plus, minus, times, over, zero64, one64}
-use Rattle.numbers.specs.Root.{root_of}
+use lib.Ieee.{Float, nan}
+use Rattle.numbers.specs.Arithmetic.{zero64, one64}
 use Rattle.lists.specs.Lists.{iter, pick}
 use Rattle.lists.specs.Floats.{at}
 use Rattle.lists.proofs.Altered.{altered, altered_length, altered_other, altered_at}
@@ -16,19 +15,9 @@ use Rattle.lists.proofs.Cells.{cell_lt, cell_row, cell_column}
 use Rattle.lists.proofs.Tables.{grid_is}
 use Rattle.lists.proofs.Tests.{eqb_is, eqb_not}
 use Rattle.lists.proofs.Turns.{iter_done}
-use Rattle.cutform.specs.Rotation.{tangent_of, eye}
+use Rattle.cutform.specs.Rotation.{eye}
 
--- ---- the tangent
-module _ (x w : Float) (e : w ≡ root_of (plus one64 (times x x))) where
-  pub tangent_above : le zero64 x ≡ true → over one64 (plus x w) ≡ tangent_of x
-  unfolding tangent_of pick
-  tangent_above h = rw (← e, h)
-
-  pub tangent_below : le zero64 x ≡ false → over one64 (minus x w) ≡ tangent_of x
-  unfolding tangent_of pick
-  tangent_below h = rw (← e, h)
-
--- ---- the basis as it starts: ones stored over zeros
+-- ones stored over zeros
 pub eye_is : (n k m : ℕ) (z v : List Float) → z ≡ replicate m zero64 → m ≡ n * n → v ≡ iter k (λ (i : ℕ) (l : List Float). set l (i * n + i) one64) z → k ≤ n → n ≤ k → v ≡ eye n
 unfolding eye pick
 eye_is n k m z v ez em ev p q =
