@@ -8,7 +8,9 @@ use lib.ListN.{length, replicate}
 use lib.Seq.{ext_get_or}
 use lib.Ieee.{Float}
 use Rattle.answers.specs.declared.Refusal.{Refusal}
-use Rattle.std.specs.Prelude.{Ok, Err}
+use Rattle.std.specs.Prelude.{Ok, Err, true, false}
+use Rattle.std.specs.Result.{is_err}
+use Rattle.std.proofs.lemmas.Bool.{false≢true}
 use Rattle.answers.specs.Outcome.{Answer, bind, verdict_of, Check}
 use Rattle.answers.proofs.Outcomes.{ok_inj, err_inj, ok_err, bind_ok, passed_ok}
 use Rattle.lists.specs.Lists.{tab}
@@ -26,12 +28,21 @@ use Rattle.cutform.specs.declared.Bond.{Bond}
 use Rattle.cutform.specs.Bonds.{no_bond}
 use Rattle.stepform.specs.declared.Settings.{Settings}
 use Rattle.stepform.specs.Steps.{step, further, steps_from, steps_of}
-use Rattle.steps.specs.Held.{Ends, Came, step_of, Placed, Ready}
+use Rattle.steps.specs.Held.{Ends, Came, step_of, Placed}
 use Rattle.steps.proofs.Reshapes.{Ranked, reshaped_out, reshaped_at, reshaped_again}
 
 refused_by : {A : Type 0} (T : Answer A) (v : Check) (q : Refusal) → v ≡ verdict_of T → v ≡ Err q → T ≡ Err q
 refused_by (Ok a) v q e h = let z : ◌≡◌ {A = ℕ} 0 1 = cc in let n : ⊥ = omega arith in absurd n
 refused_by (Err r) v q e h = let p : r ≡ q = cc in ap Err p
+
+-- a verdict by what `is_err` says of it
+pub refused_is : (v : Check) → is_err v ≡ true → (q : Refusal) × (v ≡ Err q)
+refused_is (Ok _) e = absurd (false≢true e)
+refused_is (Err q) e = (q, refl)
+
+pub passed_is : (v : Check) → is_err v ≡ false → v ≡ Ok tt
+passed_is (Ok _) e = refl
+passed_is (Err q) e = absurd (false≢true (sym e))
 
 -- what is refused with a last touch was refused before it
 refused_first : {A B : Type 0} (T : Answer A) (k : A → B) (q : Refusal) → bind T (λ a. Ok (k a)) ≡ Err q → T ≡ Err q
@@ -80,6 +91,10 @@ module _ (set : Settings) (s : Shape) (xs : List Axis) (T : Answer After) where
     rights = r;
     shape = sym (reshaped_own s w (omega (arith, I.sizes.axes.most, l)) (omega (arith, I.sizes.axes.most, r)));
   }
+
+  -- as many to come, counted another way
+  pub going_same : (k m : ℕ) (t : Shape) (said : List Bond) (w : List Float) → k ≡ m → Going k t said w → Going m t said w
+  going_same k m t said w e G = subst (λ (j : ℕ). Going j t said w) e G
 
   module _ (m : ℕ) (t : Shape) (said : List Bond) (w : List Float) (G : Going m t said w) (v : Check) (u : Shape) (bonds : List Bond) (w' : List Float)
       (C : Came (step_of set xs (stood t w)) s t v u bonds w') where
@@ -140,11 +155,3 @@ module _ (set : Settings) (s : Shape) (xs : List Axis) (T : Answer After) where
 
   pub going_placed : (m : ℕ) (t : Shape) (said : List Bond) (w : List Float) → Going m t said w → entries_of s ≤ length w → Placed s t w
   going_placed m t said w G l = record { inside = G.inside; lefts = G.lefts; rights = G.rights; long = l }
-
-pub ready_on : (set : Settings) (s : Shape) (xs : List Axis) (a b c a' b' c' : List Float) → Ready set s xs a b c → length a' ≡ length a → length b' ≡ length b → length c' ≡ length c → Ready set s xs a' b' c'
-ready_on set s xs a b c a' b' c' R e f g = record {
-  ok = R.ok;
-  reach = R.reach;
-  carried = omega (arith, R.carried);
-  rooms = record { core = omega (arith, R.rooms.core); thrice = omega (arith, R.rooms.thrice) };
-}

@@ -19,11 +19,10 @@ ghost use Rattle.steps.specs.Held.{step_held, step_of, Came, Placed, Ready};
 fn refused_walk(q: answers::Refusal, t: shape::Shape) -> cuts::Walked
     ensures { result.verdict ≡ Err q }
 {
-    let none = bond::no_bond();
     cuts::Walked {
         verdict: Err(q),
         shape: t,
-        bonds: [none; shape::MOST_AXES],
+        bonds: [bond::no_bond(); shape::MOST_AXES],
     }
 }
 
@@ -46,12 +45,10 @@ pub fn step_from(
         ≡ answered result.verdict (result.shape, held_by result work.new carries.new)) × (z ≡ 0 → result.verdict ≡ Ok tt → Inside s result.shape) }
 {
     let t = w.shape;
-    let moved = shifts::move_from(z, s, t, set, xs, work, room, block);
-    if let Err(q) = moved {
+    if let Err(q) = shifts::move_from(z, s, t, set, xs, work, room, block) {
         return refused_walk(q, t);
     }
-    let cutting = set.cutting;
-    cuts::round_from(z, s, w, cutting, work, carries, room)
+    cuts::round_from(z, s, w, set.cutting, work, carries, room)
 }
 
 // A step of a whole chain of shape t.
@@ -83,16 +80,15 @@ fn one_step(
 }
 
 // The greater of two numbers, the first where neither is.
+#[tactic(auto, unfolding(stepform::specs::Steps::greater, lists::specs::Lists::pick))]
 fn greater(x: f64, y: f64) -> f64
     ensures { result ≡ greater x y }
 {
-    if x < y {
-        return y;
-    }
-    x
+    if x < y { y } else { x }
 }
 
 // What is said of a bond after a further step: that step's own, and the greatest value that was dropped so far.
+#[tactic(auto, unfolding(stepform::specs::Steps::further_bond))]
 fn further_bond(said: cutform::Bond, b: cutform::Bond) -> cutform::Bond
     ensures { result ≡ further_bond said b }
 {
@@ -111,13 +107,7 @@ fn further(
 ) -> [cutform::Bond; shape::MOST_AXES]
     ensures { result ≡ further said bonds }
 {
-    let mut all = said;
-    let mut k = 0;
-    while k < shape::MOST_AXES {
-        all[k] = further_bond(said[k], bonds[k]);
-        k += 1;
-    }
-    all
+    std::array::from_fn(|k| further_bond(said[k], bonds[k]))
 }
 
 // m steps, each from the chain that the last one left.
@@ -135,22 +125,16 @@ fn steps_in(
     requires placed { Placed s s work.old }
     ensures { Came (steps_of m set xs (tab s.d (standing s s work.old))) s s result.verdict result.shape result.bonds work.new }
 {
-    let none = bond::no_bond();
     let mut t = s;
-    let mut said = [none; shape::MOST_AXES];
-    let mut left = m;
-    while 0 < left {
+    let mut said = [bond::no_bond(); shape::MOST_AXES];
+    for _ in 0..m {
         let w = one_step(s, t, set, xs, work, carries, room, block);
-        let verdict = w.verdict;
-        if let Err(q) = verdict {
+        if w.verdict.is_err() {
             return w;
         }
-        let next = w.shape;
-        let bonds = w.bonds;
-        let more = further(said, bonds);
-        t = next;
+        t = w.shape;
+        let more = further(said, w.bonds);
         said = more;
-        left -= 1;
     }
     cuts::Walked {
         verdict: Ok(()),

@@ -11,6 +11,7 @@ ghost use Rattle.stepform.specs.Steps.{shift_zone, scale_zone};
 ghost use Rattle.checks.specs.Over.{Onward, Elsewhere, stand_from, Stands, Rooms};
 
 // The numbers from `at` on go to the front of room.
+#[tactic(auto, using(crate::proofs::Fronts::held_front))]
 fn hold(work: &[f64], at: usize, size: usize, room: &mut [f64])
     requires { (at + size ≤ length work.now) × (size ≤ length room.old) }
     ensures { room.new ≡ take size (drop at work.now) ++ drop size room.old }

@@ -26,14 +26,9 @@ pub fn move_from(
         ≡ answered result (stand_from s t z work.new) }
     ensures onward { Onward s z work.old work.new }
 {
-    let mut k = z;
-    while k < s.d {
+    for k in z..s.d {
         let x = axes::axis_in(xs, k);
-        let moved = crate::moves::shift_zone(k, s, t, set, x, work, room, block);
-        if let Err(r) = moved {
-            return Err(r);
-        }
-        k += 1;
+        crate::moves::shift_zone(k, s, t, set, x, work, room, block)?;
     }
     crate::moves::scale_from(z, s, t, set, work)
 }

@@ -6,4 +6,4 @@ use Rattle.axes.proofs.gather.Goals as goal
 
 pub returns : goal.returns
 unfolding gathered
-returns c = made_tab _ _ (axis_at c.args.xs.now) blank (λ k y q w. search rules) _ _ c.from_fn.ensures.items
+returns c = made_tab _ _ (axis_at c.args.xs.now) blank _ (λ k y q l w. search rules) _ c.from_fn.ensures.items
