@@ -50,6 +50,7 @@ fn work(
 }
 
 // One step, over records by value, of which `count` were lent.
+#[tactic(auto, using(crate::proofs::Ends::over_passed))]
 pub fn step_over(
     s: shape::Shape,
     set: stepform::Settings,
@@ -62,52 +63,48 @@ pub fn step_over(
 {
     let lone = checks::settings::lone_finite(set);
     let mild = checks::settings::lone_ok(set);
-    let ok = checks::settings::step_ok(lone, mild, set, s, count, xs, chain, scratch.len());
-    if let Err(q) = ok {
-        return rounding::refused_rounding(q, s);
+    match checks::settings::step_ok(lone, mild, set, s, count, xs, chain, scratch.len()) {
+        Ok(()) => work_once(s, set, xs, chain, scratch),
+        Err(q) => rounding::refused_rounding(q, s),
     }
-    work_once(s, set, xs, chain, scratch)
 }
 
 // What 6 and 7 ask of the lone settings and the number of steps of a course.
+#[tactic(auto, unfolding(stepform::specs::Lone::course_finite))]
 fn course_finite(p: Course) -> bool
     ensures { result ≡ course_finite p.t_final p.c p.cutting }
 {
-    let t_final = numbers::is_finite(p.t_final);
-    let c = numbers::is_finite(p.c);
-    let cutting = p.cutting;
-    t_final & (c & checks::cutting_finite(cutting))
+    numbers::is_finite(p.t_final) && numbers::is_finite(p.c) && checks::cutting_finite(p.cutting)
 }
 
+#[tactic(auto, unfolding(stepform::specs::Lone::course_ok))]
 fn course_mild(p: Course) -> bool
     ensures { result ≡ course_ok p.t_final p.steps p.cutting }
 {
-    let t_final = checks::not_below_zero(p.t_final);
-    let steps = shape::within(MOST_STEPS, p.steps);
-    let cutting = p.cutting;
-    t_final & (steps & checks::cutting_ok(cutting))
+    checks::not_below_zero(p.t_final)
+        && shape::within(MOST_STEPS, p.steps)
+        && checks::cutting_ok(p.cutting)
 }
 
 // The settings of each step: tau = t_final/steps. Too many steps are refused before tau is asked for.
+#[tactic(auto, unfolding(stepform::specs::Call::settings_for))]
 fn course_settings(p: Course) -> stepform::Settings
     ensures { p.steps ≤ most_steps → result ≡ settings_for p.t_final p.steps p.c p.cutting }
 {
-    let cutting = p.cutting;
-    if MOST_STEPS < p.steps {
-        return stepform::Settings {
-            tau: 0.0,
-            c: p.c,
-            cutting,
-        };
-    }
+    let tau = if MOST_STEPS < p.steps {
+        0.0
+    } else {
+        p.t_final / p.steps as f64
+    };
     stepform::Settings {
-        tau: p.t_final / p.steps as f64,
+        tau,
         c: p.c,
-        cutting,
+        cutting: p.cutting,
     }
 }
 
 // All steps of a course, over records by value, of which `count` were lent.
+#[tactic(auto, using(crate::proofs::Ends::over_passed))]
 pub fn evolve_over(
     s: shape::Shape,
     p: Course,
@@ -122,11 +119,10 @@ pub fn evolve_over(
     let lone = course_finite(p);
     let mild = course_mild(p);
     let set = course_settings(p);
-    let ok = checks::settings::step_ok(lone, mild, set, s, count, xs, chain, scratch.len());
-    if let Err(q) = ok {
-        return rounding::refused_rounding(q, s);
+    match checks::settings::step_ok(lone, mild, set, s, count, xs, chain, scratch.len()) {
+        Ok(()) => work(p.steps, s, set, xs, chain, scratch),
+        Err(q) => rounding::refused_rounding(q, s),
     }
-    work(p.steps, s, set, xs, chain, scratch)
 }
 
 // One step of a chain, with one record per axis.
