@@ -2,7 +2,7 @@
 use Rattle.std.specs.Prelude.{ℕ, suc, ◌≡◌, List, [], ◌∷◌, ◌++◌, map, ℤ, pos, negsuc, length, take, replicate, Float, true, false, Ok, Err}
 use Rattle.std.specs.Float.{fin, binary64}
 use Rattle.std.specs.Float.Ieee.{to_bits}
-use Rattle.answers.specs.Outcome.{Check}
+use Rattle.answers.specs.Outcome.{Answer, Check, held_or}
 use Rattle.answers.specs.Table.{told_of}
 use Rattle.numbers.specs.Arithmetic.{zero64, one64, two64, half64, quarter64}
 use Rattle.numbers.specs.Root.{root_of}
@@ -17,7 +17,6 @@ use Rattle.cutform.specs.Modes.{absolute_cut}
 use Rattle.cutform.specs.declared.Rounded.{Rounded}
 use Rattle.cutform.specs.declared.Bond.{Bond}
 use Rattle.cutform.specs.Call.{Ended, round_call}
-use Rattle.sumform.specs.declared.Figure.{Figure}
 use Rattle.sumform.specs.Call.{inner_call}
 use Rattle.stepform.specs.declared.Settings.{Settings}
 use Rattle.stepform.specs.Call.{step_call}
@@ -71,8 +70,9 @@ shape_left s (Err e) = told_of (Err e)
 abbrev shape_rounded : Shape → Float → List Float → List ℕ
 shape_rounded s eps l = let r = (round_call s (absolute_cut eps) l (zeros (scratch_for (length l)))).result in shape_left r.shape r.verdict
 
-abbrev pub figure_bits : Figure → List ℕ
-figure_bits f = bits (f.value ∷ [])
+-- a figure, +0 where it is refused
+abbrev pub figure_bits : Answer Float → List ℕ
+figure_bits o = bits (held_or zero64 o ∷ [])
 
 -- D rounded as P8 has it, which stands in the same shape
 abbrev D-rounded : List Float

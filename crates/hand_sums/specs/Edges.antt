@@ -1,6 +1,7 @@
 -- Calls with two things wrong at once, as one list: which refusal is told; and slabs whose only terms are -0. Definitions only.
 use Rattle.std.specs.Prelude.{ℕ, true, false, List, [], ◌∷◌, pos, replicate, Float}
 use Rattle.std.specs.Float.{fin, nan}
+use Rattle.answers.specs.Outcome.{verdict_of}
 use Rattle.answers.specs.Table.{told_of}
 use Rattle.numbers.specs.Arithmetic.{zero64, one64}
 use Rattle.lists.specs.Floats.{zeros}
@@ -66,7 +67,7 @@ rounded_in mode x scratch = told_of (round_call D-shape (record { eps = zero64; 
 abbrev started : List Float → List Float → List ℕ
 started vectors chain =
     let s : Shape = record { d = 2; left = replicate 16 0; n = 1 ∷ 2 ∷ replicate 14 0; right = replicate 16 0 } in
-    told_of (start_call s vectors chain).result.verdict
+    told_of (verdict_of (start_call s vectors chain).result)
 
 -- the slab of the cores (1, 1, 2) and (2, 1, 1)
 abbrev slab_of : List Float → List Float → List ℕ

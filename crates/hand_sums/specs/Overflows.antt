@@ -1,6 +1,7 @@
 -- Which part overflowed, as one list: calls that are refused in the work, and what is told of each. Definitions only.
 use Rattle.std.specs.Prelude.{ℕ, true, List, [], ◌∷◌, ◌++◌, pos, negsuc, length, replicate, Float}
 use Rattle.std.specs.Float.{fin}
+use Rattle.answers.specs.Outcome.{verdict_of}
 use Rattle.answers.specs.Table.{told_of}
 use Rattle.numbers.specs.Arithmetic.{zero64, one64}
 use Rattle.lists.specs.Floats.{zeros}
@@ -36,7 +37,7 @@ stepped s b c l =
     told_of (step_call settings s (moved zero64 ∷ moved b ∷ []) l (zeros (scratch_for (length l)))).result.verdict
 
 abbrev figured : Shape → List Float → List Float → List ℕ
-figured s l weights = told_of (inner_call s l weights).verdict
+figured s l weights = told_of (verdict_of (inner_call s l weights))
 
 -- nine numbers of 15/16 of 2 ^ 1024 in size, of such signs that moved by 2.5 the middle one alone becomes 1.125 of that
 abbrev steep : List Float

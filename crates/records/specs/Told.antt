@@ -7,8 +7,6 @@ use Rattle.shape.specs.declared.Shape.{Shape}
 use Rattle.shape.specs.Limits.{most_axes}
 use Rattle.cutform.specs.declared.Bond.{Bond}
 use Rattle.cutform.specs.declared.Rounded.{Rounded}
-use Rattle.sumform.specs.declared.Figure.{Figure}
-use Rattle.sumform.specs.declared.Started.{Started}
 use Rattle.pairform.specs.declared.Paired.{Paired}
 use Rattle.records.specs.declared.given.CShape.{CShape}
 use Rattle.records.specs.declared.told.CRefusal.{CRefusal}
@@ -33,11 +31,15 @@ bond_out b = record { rank = b.rank; sweeps = b.sweeps; settled = b.settled; dro
 abbrev pub rounded_out : Rounded → CRounded
 rounded_out w = record { refusal = refusal_of w.verdict; shape = shape_out w.shape; bonds = map bond_out w.bonds }
 
-abbrev pub figure_out : Figure → CFigure
-figure_out w = record { refusal = refusal_of w.verdict; value = w.value }
+-- +0 where it is refused
+abbrev pub figure_out : Answer Float → CFigure
+figure_out (Ok x) = record { refusal = refusal_of (Ok tt); value = x }
+figure_out (Err q) = record { refusal = refusal_of (Err q); value = zero64 }
 
-abbrev pub started_out : Started → CFormed
-started_out w = record { refusal = refusal_of w.verdict; shape = shape_out w.shape }
+-- the shape that was given where it is refused
+abbrev pub started_out : Shape → Answer Shape → CFormed
+started_out s (Ok t) = record { refusal = refusal_of (Ok tt); shape = shape_out t }
+started_out s (Err q) = record { refusal = refusal_of (Err q); shape = shape_out s }
 
 -- of a file that is refused, the shape is all zeros
 abbrev pub read_out : Answer Shape → CFormed

@@ -125,24 +125,34 @@ pub fn rounded_out(w: Rounded) -> CRounded
     }
 }
 
-pub fn figure_out(w: sumform::Figure) -> CFigure
+pub fn figure_out(w: Result<f64, Refusal>) -> CFigure
     ensures { result ≡ figure_out w }
 {
-    let verdict = w.verdict;
-    CFigure {
-        refusal: refusal_of(verdict),
-        value: w.value,
+    match w {
+        Ok(value) => CFigure {
+            refusal: refusal_of(Ok(())),
+            value,
+        },
+        Err(q) => CFigure {
+            refusal: refusal_of(Err(q)),
+            value: 0.0,
+        },
     }
 }
 
-pub fn started_out(w: sumform::Started) -> CFormed
-    ensures { result ≡ started_out w }
+// A refusal leaves the shape s that was given.
+pub fn started_out(s: Shape, w: Result<Shape, Refusal>) -> CFormed
+    ensures { result ≡ started_out s w }
 {
-    let verdict = w.verdict;
-    let shape = w.shape;
-    CFormed {
-        refusal: refusal_of(verdict),
-        shape: shape.into(),
+    match w {
+        Ok(made) => CFormed {
+            refusal: refusal_of(Ok(())),
+            shape: made.into(),
+        },
+        Err(q) => CFormed {
+            refusal: refusal_of(Err(q)),
+            shape: s.into(),
+        },
     }
 }
 
@@ -167,7 +177,7 @@ pub fn read_out(w: Result<Shape, Refusal>) -> CFormed
     }
 }
 
-pub fn paired_out(w: Result<pairform::Paired, answers::Refusal>) -> CPaired
+pub fn paired_out(w: Result<pairform::Paired, Refusal>) -> CPaired
     ensures { result ≡ paired_out w }
 {
     match w {

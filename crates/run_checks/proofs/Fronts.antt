@@ -15,7 +15,6 @@ use Rattle.numbers.specs.Finite.{finite}
 use Rattle.answers.specs.declared.Refusal.TheVariants.{Reach}
 use Rattle.std.specs.Prelude.{Ok, Err}
 use Rattle.answers.specs.Outcome.{Check, ◌then◌, demand, demand_each}
-use Rattle.answers.proofs.Checks.{then_stops, then_passes}
 use Rattle.lists.specs.Slots.{offset, slot}
 use Rattle.lists.specs.Floats.{all_finite}
 use Rattle.lists.proofs.Asked.{test_wrong, test_right}
@@ -29,6 +28,7 @@ use Rattle.stepform.specs.declared.Axis.{Axis}
 use Rattle.cutform.specs.Keeping.{rank_among, dropped_among, carry_size}
 use Rattle.cutform.proofs.BondSlots.{carry_bond}
 use Rattle.sumform.specs.Sums.{sum_size}
+use Rattle.product.proofs.Checks.{refuses, passes}
 use Rattle.product.proofs.Slotted.{sum_size_lem}
 use Rattle.stepform.specs.declared.Settings.{Settings}
 use Rattle.stepform.specs.Call.{axis_reaches}
@@ -131,16 +131,19 @@ module _ (s : Shape) (bonds : List Bond) (ok : shape_ok s (rank_ok s bonds) ≡ 
 
 -- ---- the shifts from a zone on: T is the whole check, of which those from k on are left
 module _ (set : Settings) (s : Shape) (xs : List Axis) (T : Check) (k : ℕ) (e : T ≡ demand_each Reach (axis_reaches set s xs) (s.d - k) k) where
+  abbrev further : Check
+  further = demand_each Reach (axis_reaches set s xs) (s.d - (k + 1)) (k + 1)
+
   module _ (l : k < s.d) (r : Bool) (f : r ≡ axis_reaches set s xs k) where
-    next : T ≡ demand r (Reach k) then demand_each Reach (axis_reaches set s xs) (s.d - (k + 1)) (k + 1)
+    next : T ≡ demand r (Reach k) then further
     unfolding demand_each
     next = let z : s.d - k ≡ suc (s.d - (k + 1)) = omega arith in e ∙ rw (z, ← f, add-one)
 
     pub reach_stops : not r ≡ true → Err (Reach k) ≡ T
-    reach_stops h = then_stops (demand r (Reach k)) (demand_each Reach (axis_reaches set s xs) (s.d - (k + 1)) (k + 1)) (Err (Reach k)) (test_wrong r r (Reach k) refl h) (Reach k) refl ∙ sym next
+    reach_stops h = refuses (demand r (Reach k)) further (Reach k) (test_wrong r r (Reach k) refl h) ∙ sym next
 
-    pub reach_more : not r ≡ false → T ≡ demand_each Reach (axis_reaches set s xs) (s.d - (k + 1)) (k + 1)
-    reach_more h = next ∙ sym (then_passes (demand r (Reach k)) (demand_each Reach (axis_reaches set s xs) (s.d - (k + 1)) (k + 1)) (Ok tt) (test_right r r (Reach k) refl h) (demand_each Reach (axis_reaches set s xs) (s.d - (k + 1)) (k + 1)) refl refl)
+    pub reach_more : not r ≡ false → T ≡ further
+    reach_more h = next ∙ sym (passes (demand r (Reach k)) further further (test_right r r (Reach k) refl h) refl)
 
   pub reach_done : s.d ≤ k → Ok tt ≡ T
   unfolding demand_each

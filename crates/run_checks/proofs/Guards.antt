@@ -10,7 +10,7 @@ use Rattle.answers.specs.declared.Refusal.{Refusal}
 use Rattle.answers.specs.declared.Refusal.TheVariants.{Number, Setting}
 use Rattle.std.specs.Prelude.{Ok, Err, min}
 use Rattle.answers.specs.Outcome.{Check, ◌then◌, demand, demand_each}
-use Rattle.answers.proofs.Checks.{demand_yes, demand_no, then_stops, then_passes}
+use Rattle.answers.proofs.Checks.{demand_yes, demand_no}
 use Rattle.lists.specs.Lists.{pick, first_not}
 use Rattle.lists.specs.Floats.{all_finite}
 use Rattle.shape.specs.declared.Shape.{Shape}
@@ -29,17 +29,17 @@ module _ (o : Check) (r : Refusal) where
   -- a length a that is to be x; m is what code took for x
   module _ (a x m : ℕ) (e : m ≡ x) where
     pub size_stops : (a ≡ m → ⊥) → Err r ≡ (demand (eqb a x) r then o)
-    size_stops h = then_stops (demand (eqb a x) r) o (Err r) (length_wrong a x r (λ k. h (k ∙ sym e))) r refl
+    size_stops h = refuses (demand (eqb a x) r) o r (length_wrong a x r (λ k. h (k ∙ sym e)))
 
     pub size_passes : a ≡ m → (w : Check) → w ≡ o → w ≡ (demand (eqb a x) r then o)
-    size_passes h w g = then_passes (demand (eqb a x) r) o (Ok tt) (length_right a x r (h ∙ e)) w refl g
+    size_passes h w g = passes (demand (eqb a x) r) o w (length_right a x r (h ∙ e)) g
 
   module _ (z d : ℕ) where
     pub below_stops : d ≤ z → Err r ≡ (demand (ltb z d) r then o)
-    below_stops h = then_stops (demand (ltb z d) r) o (Err r) ((sym (demand_no (ltb z d) r (ltb_no z d h)))) r refl
+    below_stops h = refuses (demand (ltb z d) r) o r (sym (demand_no (ltb z d) r (ltb_no z d h)))
 
     pub below_passes : z < d → (w : Check) → w ≡ o → w ≡ (demand (ltb z d) r then o)
-    below_passes h w g = then_passes (demand (ltb z d) r) o (Ok tt) ((sym (demand_yes (ltb z d) r (ltb_yes z d h)))) w refl g
+    below_passes h w g = passes (demand (ltb z d) r) o w (sym (demand_yes (ltb z d) r (ltb_yes z d h))) g
 
 module _ (r : Refusal) (a x m : ℕ) (e : m ≡ x) where
   pub size_wrong : (a ≡ m → ⊥) → Err r ≡ demand (eqb a x) r
@@ -97,25 +97,25 @@ module _ (lone mild : Bool) (number setting d : ℕ) (p q : ℕ → Bool) (e : n
   all = demand lone (Number 0) then demand_each Number p d 0 then settings
 
   pub lone_wrong : not lone ≡ true → Err (Number 0) ≡ all
-  lone_wrong h = then_stops (demand lone (Number 0)) (demand_each Number p d 0 then settings) (Err (Number 0)) (test_wrong lone lone (Number 0) refl h) (Number 0) refl
+  lone_wrong h = refuses (demand lone (Number 0)) (demand_each Number p d 0 then settings) (Number 0) (test_wrong lone lone (Number 0) refl h)
 
   module _ (h : not lone ≡ false) where
     past : (w : Check) → w ≡ (demand_each Number p d 0 then settings) → w ≡ all
-    past w g = then_passes (demand lone (Number 0)) (demand_each Number p d 0 then settings) (Ok tt) (test_right lone lone (Number 0) refl h) w refl g
+    past w g = passes (demand lone (Number 0)) (demand_each Number p d 0 then settings) w (test_right lone lone (Number 0) refl h) g
 
     pub number_wrong : number < d → Err (Number number) ≡ all
-    number_wrong l = past (Err (Number number)) (then_stops (demand_each Number p d 0) settings (Err (Number number)) (place_wrong p d number e Number l) (Number number) refl)
+    number_wrong l = past (Err (Number number)) (refuses (demand_each Number p d 0) settings (Number number) (place_wrong p d number e Number l))
 
     module _ (l : d ≤ number) where
       later : (w : Check) → w ≡ settings → w ≡ all
-      later w g = past w (then_passes (demand_each Number p d 0) settings (Ok tt) (places_right p d number e Number l) w refl g)
+      later w g = past w (passes (demand_each Number p d 0) settings w (places_right p d number e Number l) g)
 
       pub mild_wrong : not mild ≡ true → Err (Setting 0) ≡ all
-      mild_wrong i = later (Err (Setting 0)) (then_stops (demand mild (Setting 0)) (demand_each Setting q d 0) (Err (Setting 0)) (test_wrong mild mild (Setting 0) refl i) (Setting 0) refl)
+      mild_wrong i = later (Err (Setting 0)) (refuses (demand mild (Setting 0)) (demand_each Setting q d 0) (Setting 0) (test_wrong mild mild (Setting 0) refl i))
 
       module _ (i : not mild ≡ false) where
         last : (w : Check) → w ≡ demand_each Setting q d 0 → w ≡ all
-        last w g = later w (then_passes (demand mild (Setting 0)) (demand_each Setting q d 0) (Ok tt) (test_right mild mild (Setting 0) refl i) w refl g)
+        last w g = later w (passes (demand mild (Setting 0)) (demand_each Setting q d 0) w (test_right mild mild (Setting 0) refl i) g)
 
         pub setting_wrong : setting < d → Err (Setting setting) ≡ all
         setting_wrong m = last (Err (Setting setting)) (place_wrong q d setting f Setting m)

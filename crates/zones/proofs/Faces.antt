@@ -18,7 +18,6 @@ use Rattle.records.specs.Given.{axis_in, lent_of}
 use Rattle.cutform.specs.declared.Cutting.{Cutting}
 use Rattle.cutform.specs.declared.Rounded.{Rounded}
 use Rattle.cutform.specs.Call.{Ended}
-use Rattle.sumform.specs.declared.Started.{Started}
 use Rattle.sumform.specs.Start.{StartEnded}
 use Rattle.evolution.specs.Held.{Answers}
 use Rattle.pairform.specs.declared.Sizes.{Sizes}
@@ -70,9 +69,10 @@ pub evolve_lent : (p : Course) (s : Shape) (n : ℕ) (xs : List CAxis) (l w : Li
 evolve_lent p s n xs l w =
     ap (λ (k : ℕ). evolve_over p.t_final p.steps p.c p.cutting s k (gathered (lent_of n xs)) l w) (sym (counted n xs)) ∙ evolve_over_lem p.t_final p.steps p.c p.cutting s (lent_of n xs) l w
 
-pub starts_as : (F : Shape → StartEnded) (x y : Shape) (r : Started) (l : List Float) (o : CFormed) → x ≡ y → (r ≡ (F x).result) × (l ≡ (F x).chain) → o ≡ started_out r → StartsAs (F y) o l
+pub starts_as : (F : Shape → StartEnded) (x y : Shape) (r : Answer Shape) (l : List Float) (o : CFormed)
+    → x ≡ y → (r ≡ (F x).result) × (l ≡ (F x).chain) → o ≡ started_out x r → StartsAs y (F y) o l
 starts_as F x y r l o e f g = record {
-  result = passed (λ (z : Shape). (F z).result) started_out x y r o e f.0 g;
+  result = g ∙ ap (started_out x) f.0 ∙ ap (λ (z : Shape). started_out z (F z).result) e;
   chain = f.1 ∙ ap (λ (z : Shape). (F z).chain) e;
 }
 

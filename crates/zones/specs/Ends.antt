@@ -1,6 +1,7 @@
 -- A call's answer as C has it, and what the call left in its slices. Definitions only.
 use Rattle.std.specs.Prelude.{◌≡◌, ℕ, List, Float}
 use Rattle.answers.specs.Outcome.{Answer, Check}
+use Rattle.shape.specs.declared.Shape.{Shape}
 use Rattle.cutform.specs.Call.{Ended}
 use Rattle.sumform.specs.Start.{StartEnded}
 use Rattle.pairform.specs.Call.{PairEnded}
@@ -22,9 +23,9 @@ pub record EndsAs (e : Ended) (o : CRounded) (l w : List Float) : Type 0 where
   pub chain : l ≡ e.chain
   pub scratch : w ≡ e.scratch
 
--- of a separable start: the chain holds l
-pub record StartsAs (e : StartEnded) (o : CFormed) (l : List Float) : Type 0 where
-  pub result : o ≡ started_out e.result
+-- of a separable start over the shape s: the chain holds l
+pub record StartsAs (s : Shape) (e : StartEnded) (o : CFormed) (l : List Float) : Type 0 where
+  pub result : o ≡ started_out s e.result
   pub chain : l ≡ e.chain
 
 -- of a pair: the two outputs hold l and r, scratch w

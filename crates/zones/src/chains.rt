@@ -40,9 +40,11 @@ pub extern "C" fn uyavsker_rank1_separable(
     vectors: &[f64],
     chain: &mut [f64],
 ) -> told::CFormed
-    ensures { StartsAs (start_call (shape_in s) vectors.now chain.old) result chain.new }
+    ensures { StartsAs (shape_in s) (start_call (shape_in s) vectors.now chain.old)
+        result chain.new }
 {
-    told::started_out(product::start::rank1_separable(s.into(), vectors, chain))
+    let shape = s.into();
+    told::started_out(shape, product::start::rank1_separable(shape, vectors, chain))
 }
 
 #[unsafe(no_mangle)]

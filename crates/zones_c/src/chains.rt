@@ -39,7 +39,8 @@ pub extern "C" fn uyavsker_rank1_separable(
     vectors: &[f64],
     chain: &mut [f64],
 ) -> told::CFormed
-    ensures { StartsAs (start_call (shape_in s) vectors.now chain.old) result chain.new }
+    ensures { StartsAs (shape_in s) (start_call (shape_in s) vectors.now chain.old)
+        result chain.new }
 {
     zones::chains::uyavsker_rank1_separable(s, vectors, chain)
 }
