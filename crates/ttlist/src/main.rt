@@ -24,14 +24,10 @@ fn given(input: &mut impl Read, bytes: &mut [u8]) -> io::Result<usize>
     Ok(n)
 }
 
-fn list(rt: &impl Print, bytes: &[u8]) -> io::Result<()> {
-    let mut text = [0u8; listing::TEXT];
-    let n = listing::text_of(bytes, &mut text);
-    rt.write_all(&text[..n])
-}
-
 fn main(rt: HostRuntime) -> anyhow::Result<()> {
     let mut bytes = [0u8; ROOM];
     let n = given(&mut rt.stdin(), &mut bytes).context("ttlist: standard input")?;
-    list(&rt, &bytes[..n]).context("ttlist: standard output")
+    let text = listing::listed(&bytes[..n]);
+    rt.write_all(text.as_slice())
+        .context("ttlist: standard output")
 }
