@@ -16,9 +16,10 @@ use Rattle.lists.proofs.Turns.{iter_more, from_none, from_more}
 use Rattle.cutform.specs.Rotation.{tangent_of, slope_of, cosine_of, turned_at}
 use Rattle.pairform.specs.Columns.{turn_stored, dot, skipped}
 use Rattle.pairform.specs.Passes.{svd, Pass, passed}
-use Rattle.passes.specs.declared.Plan.{Plan}
+use Rattle.std.specs.Prelude.{Option, Some, None, is_none}
+use Rattle.passes.specs.declared.Angle.{Angle}
 use Rattle.passes.specs.declared.Pace.{Pace}
-use Rattle.passes.specs.Free.{rotate_free, row_free, in_step, by_plan, Squared, Planned, PlannedAt, Paced}
+use Rattle.passes.specs.Free.{rotate_free, row_free, in_step, by_plan, Squared, plan_of, plan_at, Paced}
 use Rattle.passes.proofs.Spun.{planned_at, moved, spun}
 
 -- ---- a line of numbers
@@ -207,24 +208,24 @@ pub iter_two : {S : Type 0} (f : ℕ → S → S) (s : S) (k : ℕ) (t u : S) �
 iter_two f s k t u e d = let z : k + 1 + 1 ≡ k + 2 = omega arith in rw z at (iter_more f s (k + 1) (f k t) u (iter_more f s k t (f k t) e refl) d)
 
 -- ---- plans of two pairs
-module _ (m n p q : ℕ) (k : Plan) (a u : List Float) (e : u ≡ by_plan m n p q k a) where
+module _ (m n p q : ℕ) (k : Option Angle) (a u : List Float) (e : u ≡ by_plan m n p q k a) where
   by_dot : (i j : ℕ) → i < n → j < n → ¬ (i ≡ p) → ¬ (i ≡ q) → ¬ (j ≡ p) → ¬ (j ≡ q) → dot m u i j ≡ dot m a i j
-  unfolding by_plan pick
-  by_dot i j hi hj ip iq jp jq = ap (λ (x : List Float). dot m x i j) e ∙ go k.skip
+  unfolding by_plan
+  by_dot i j hi hj ip iq jp jq = ap (λ (x : List Float). dot m x i j) e ∙ go k
     where
-      go : (b : Bool) → dot m (pick b a (turn_stored m n p q k.c k.s a)) i j ≡ dot m a i j
-      go true = refl
-      go false = dot_kept m n p q k.c k.s a i j hi hj ip iq jp jq
+      go : (k : Option Angle) → dot m (by_plan m n p q k a) i j ≡ dot m a i j
+      go None = refl
+      go (Some x) = dot_kept m n p q x.c x.s a i j hi hj ip iq jp jq
 
   -- a plan outlasts the turn of two other columns
-  pub plan_kept : (i j : ℕ) (l : Plan) → i < n → j < n → ¬ (i ≡ p) → ¬ (i ≡ q) → ¬ (j ≡ p) → ¬ (j ≡ q) → PlannedAt m a i j l → PlannedAt m u i j l
+  pub plan_kept : (i j : ℕ) (l : Option Angle) → i < n → j < n → ¬ (i ≡ p) → ¬ (i ≡ q) → ¬ (j ≡ p) → ¬ (j ≡ q) → l ≡ plan_at m a i j → l ≡ plan_at m u i j
   plan_kept i j l hi hj ip iq jp jq P = rw (by_dot i j hi hj ip iq jp jq, by_dot i i hi hi ip iq ip iq, by_dot j j hj hj jp jq jp jq) P
 
 module _ (m n p q w : ℕ) (a u z ss : List Float) (k r : Pace) (l : p + 3 ≤ q) (h : q < n) (hw : w < n) (lw : q ≤ w) (ew : q + 1 < n → w ≡ q + 1)
     (K : Paced m n p q a ss k) (eu : u ≡ by_plan m n p q k.first a) (ez : z ≡ by_plan m n (p + 1) (q - 1) k.second u) where
   -- what is planned after both turns, by the sums of then
   pub next_paced : (ss' : List Float) (alpha beta : Float) → Squared m n z ss' → alpha ≡ dot m u p w → beta ≡ dot m z (p + 1) q
-      → Planned alpha (at ss' p) (at ss' w) r.first → Planned beta (at ss' (p + 1)) (at ss' q) r.second → Paced m n p (q + 1) z ss' r
+      → r.first ≡ plan_of alpha (at ss' p) (at ss' w) → r.second ≡ plan_of beta (at ss' (p + 1)) (at ss' q) → Paced m n p (q + 1) z ss' r
   next_paced ss' alpha beta S ea eb F G =
       let still : dot m z p w ≡ dot m u p w = by_dot m n (p + 1) (q - 1) k.second u z ez p w (omega arith) hw
       (λ d. absurd (omega (arith, d))) (λ d. absurd (omega (arith, d))) (λ d. absurd (omega (arith, d))) (λ d. absurd (omega (arith, d))) in
@@ -238,7 +239,7 @@ module _ (m n p q w : ℕ) (a u z ss : List Float) (k r : Pace) (l : p + 3 ≤ q
 -- both turns, of columns and basis
 pub both_spun : (m n p q : ℕ) (a v z y ss : List Float) (k : Pace) (b : Bool) → p + 3 ≤ q → q < n → Paced m n p q a ss k
     → z ≡ by_plan m n (p + 1) (q - 1) k.second (by_plan m n p q k.first a) → y ≡ by_plan n n (p + 1) (q - 1) k.second (by_plan n n p q k.first v)
-    → b ≡ (k.second.skip && (k.first.skip && k.quiet))
+    → b ≡ (is_none k.second && (is_none k.first && k.quiet))
     → passed (svd z y) b ≡ rotate_free m n (p + 1) (q - 1) (rotate_free m n p q (passed (svd a v) k.quiet))
 both_spun m n p q a v z y ss k b l h K ez ey eb =
     let u = by_plan m n p q k.first a in
@@ -246,5 +247,5 @@ both_spun m n p q a v z y ss k b l h K ez ey eb =
     let one = spun m n p q a v u w k.first (K.ahead h) refl refl k.quiet in
     let P = plan_kept m n p q k.first a u refl (p + 1) (q - 1) k.second (omega arith) (omega arith)
     (λ d. absurd (omega (arith, d))) (λ d. absurd (omega (arith, d))) (λ d. absurd (omega (arith, d))) (λ d. absurd (omega (arith, d))) K.behind in
-    let two = spun m n (p + 1) (q - 1) u w z y k.second P ez ey (k.first.skip && k.quiet) in
+    let two = spun m n (p + 1) (q - 1) u w z y k.second P ez ey (is_none k.first && k.quiet) in
     rw (eb, ← one) two

@@ -5,7 +5,7 @@
 
 pub mod careful;
 
-ghost use Rattle.std.specs.Prelude.{◌≡◌, Bool, true, false, ◌&&◌, ◌+◌, ◌-◌, ◌*◌, ◌≤◌, ◌<◌, length, Ok, IfSome};
+ghost use Rattle.std.specs.Prelude.{◌≡◌, Bool, true, false, ◌&&◌, ◌+◌, ◌-◌, ◌*◌, ◌≤◌, ◌<◌, length, Ok, is_none, IfSome};
 ghost use Rattle.answers.specs.Outcome.{outcome_of};
 ghost use Rattle.lists.specs.Lists.{iter};
 ghost use Rattle.lists.specs.Floats.{at, all_finite};
@@ -14,47 +14,38 @@ ghost use Rattle.pairform.specs.Columns.{dot, skipped};
 ghost use Rattle.columns.specs.Loops.{squares};
 ghost use Rattle.pairform.specs.Passes.{svd, Pass, passed, made, orthogonalized};
 ghost use Rattle.passes.specs.Loops.{Held};
-ghost use Rattle.passes.specs.Free.{rotate_free, row_free, pass_free, Squared, Beside, Planned, PlannedAt, by_plan, in_step, Paced};
+ghost use Rattle.passes.specs.Free.{rotate_free, row_free, pass_free, Squared, Beside, plan_of, plan_at, by_plan, in_step, Paced};
 
-// Whether a pair is skipped, and the angle by which it is turned else.
+// The cosine and the sine of the angle by which a pair is turned.
 #[derive(Clone, Copy)]
-pub struct Plan {
-    pub skip: bool,
+pub struct Angle {
     pub c: f64,
     pub s: f64,
 }
 
-// The plan of a pair that is skipped or not.
-fn angled(skip: bool, alpha: f64, low: f64, high: f64) -> Plan
+// The plan of a pair: its angle, unless it is skipped.
+fn angled(skip: bool, alpha: f64, low: f64, high: f64) -> Option<Angle>
     requires { skip ≡ skipped alpha low high }
-    ensures { Planned alpha low high result }
+    ensures { result ≡ plan_of alpha low high }
 {
     if skip {
-        return Plan {
-            skip: true,
-            c: 0.0,
-            s: 0.0,
-        };
+        return None;
     }
     let t = rotation::tangent(rotation::slope(low, high, alpha));
     let c = rotation::cosine(t);
-    Plan {
-        skip: false,
-        c,
-        s: c * t,
-    }
+    Some(Angle { c, s: c * t })
 }
 
-fn planned(alpha: f64, low: f64, high: f64) -> Plan
-    ensures { Planned alpha low high result }
+fn planned(alpha: f64, low: f64, high: f64) -> Option<Angle>
+    ensures { result ≡ plan_of alpha low high }
 {
     angled(columns::skipped(alpha, low, high), alpha, low, high)
 }
 
 // The plan of columns p and w as they stand.
-fn plan_at(a: &[f64], ss: &[f64], m: usize, n: usize, p: usize, w: usize) -> Plan
+fn plan_at(a: &[f64], ss: &[f64], m: usize, n: usize, p: usize, w: usize) -> Option<Angle>
     requires { Squared m n a.now ss.now × (p < n) × (w < n) }
-    ensures { PlannedAt m a.now p w result }
+    ensures { result ≡ plan_at m a.now p w }
 {
     planned(columns::dot(a, m, n, p, w), ss[p], ss[w])
 }
@@ -62,8 +53,8 @@ fn plan_at(a: &[f64], ss: &[f64], m: usize, n: usize, p: usize, w: usize) -> Pla
 // The plans of two pairs that go in step, and whether no pair has been turned yet.
 #[derive(Clone, Copy)]
 pub struct Pace {
-    pub first: Plan,
-    pub second: Plan,
+    pub first: Option<Angle>,
+    pub second: Option<Angle>,
     pub quiet: bool,
 }
 
@@ -78,7 +69,7 @@ fn two_angles(
     quiet: bool,
 ) -> Pace
     requires { (skipped alpha low high ≡ false) × (skipped beta lower higher ≡ false) }
-    ensures { Planned alpha low high result.first × Planned beta lower higher result.second × (result.quiet ≡ quiet) }
+    ensures { (result.first ≡ plan_of alpha low high) × (result.second ≡ plan_of beta lower higher) × (result.quiet ≡ quiet) }
 {
     let x = rotation::slope(low, high, alpha);
     let y = rotation::slope(lower, higher, beta);
@@ -86,19 +77,9 @@ fn two_angles(
     let u = rotation::tangent(y);
     let c = rotation::cosine(t);
     let d = rotation::cosine(u);
-    let first = Plan {
-        skip: false,
-        c,
-        s: c * t,
-    };
-    let second = Plan {
-        skip: false,
-        c: d,
-        s: d * u,
-    };
     Pace {
-        first,
-        second,
+        first: Some(Angle { c, s: c * t }),
+        second: Some(Angle { c: d, s: d * u }),
         quiet,
     }
 }
@@ -112,16 +93,14 @@ fn two_planned(
     higher: f64,
     quiet: bool,
 ) -> Pace
-    ensures { Planned alpha low high result.first × Planned beta lower higher result.second × (result.quiet ≡ quiet) }
+    ensures { (result.first ≡ plan_of alpha low high) × (result.second ≡ plan_of beta lower higher) × (result.quiet ≡ quiet) }
 {
     let one = columns::skipped(alpha, low, high);
     let other = columns::skipped(beta, lower, higher);
     if one | other {
-        let first = angled(one, alpha, low, high);
-        let second = angled(other, beta, lower, higher);
         return Pace {
-            first,
-            second,
+            first: angled(one, alpha, low, high),
+            second: angled(other, beta, lower, higher),
             quiet,
         };
     }
@@ -167,15 +146,15 @@ fn spin(
     p: usize,
     q: usize,
     w: usize,
-    k: Plan,
+    k: Option<Angle>,
 ) -> f64
     requires { Squared m n a.old ss.old × (p < q) × (q < n) × (w < n) }
     ensures { (a.new ≡ by_plan m n p q k a.old) × Squared m n a.new ss.new × (result ≡ dot m a.new p w) }
 {
-    if k.skip {
+    let Some(x) = k else {
         return columns::dot(a, m, n, p, w);
-    }
-    columns::turn(a, m, n, p, q, k.c, k.s);
+    };
+    columns::turn(a, m, n, p, q, x.c, x.s);
     let s = three_sums(a, m, n, p, q, w);
     ss[p] = s.first;
     ss[q] = s.second;
@@ -183,12 +162,12 @@ fn spin(
 }
 
 // The basis turned by the plan of columns p and q. No plan waits for it, so it comes behind the next plan.
-fn turn_basis(v: &mut [f64], n: usize, p: usize, q: usize, k: Plan)
+fn turn_basis(v: &mut [f64], n: usize, p: usize, q: usize, k: Option<Angle>)
     requires { (length v.old ≡ n * n) × (p < q) × (q < n) }
     ensures { v.new ≡ by_plan n n p q k v.old }
 {
-    if !k.skip {
-        columns::turn(v, n, n, p, q, k.c, k.s);
+    if let Some(x) = k {
+        columns::turn(v, n, n, p, q, x.c, x.s);
     }
 }
 
@@ -212,12 +191,12 @@ fn step(
     n: usize,
     p: usize,
     q: usize,
-    k: Plan,
-) -> Plan
-    requires { Beside m n a.old v.old ss.old × (p < q) × (q < n) × PlannedAt m a.old p q k }
+    k: Option<Angle>,
+) -> Option<Angle>
+    requires { Beside m n a.old v.old ss.old × (p < q) × (q < n) × (k ≡ plan_at m a.old p q) }
     ensures b_after { (b : Bool) →
-        passed (svd a.new v.new) (k.skip && b) ≡ rotate_free m n p q (passed (svd a.old v.old) b) }
-    ensures beside { Beside m n a.new v.new ss.new × (q + 1 < n → PlannedAt m a.new p (q + 1) result) }
+        passed (svd a.new v.new) (is_none k && b) ≡ rotate_free m n p q (passed (svd a.old v.old) b) }
+    ensures beside { Beside m n a.new v.new ss.new × (q + 1 < n → result ≡ plan_at m a.new p (q + 1)) }
 {
     let w = following(q, n);
     let alpha = spin(a, ss, m, n, p, q, w, k);
@@ -229,8 +208,8 @@ fn step(
 // The next plans of two rows: alpha is the sum of column p times column w, beta that of column p + 1 times column q.
 fn next_pace(ss: &[f64], p: usize, q: usize, w: usize, alpha: f64, beta: f64, quiet: bool) -> Pace
     requires { (p + 1 < length ss.now) × (q < length ss.now) × (w < length ss.now) }
-    ensures planned { Planned alpha (at ss.now p) (at ss.now w) result.first }
-    ensures planned_2 { Planned beta (at ss.now (p + 1)) (at ss.now q) result.second × (result.quiet ≡ quiet) }
+    ensures planned { result.first ≡ plan_of alpha (at ss.now p) (at ss.now w) }
+    ensures planned_2 { (result.second ≡ plan_of beta (at ss.now (p + 1)) (at ss.now q)) × (result.quiet ≡ quiet) }
 {
     two_planned(alpha, ss[p], ss[w], beta, ss[p + 1], ss[q], quiet)
 }
@@ -239,32 +218,21 @@ fn next_pace(ss: &[f64], p: usize, q: usize, w: usize, alpha: f64, beta: f64, qu
 fn spin_two(a: &mut [f64], ss: &mut [f64], m: usize, n: usize, p: usize, q: usize, k: Pace) -> Pace
     requires { Paced m n p q a.old ss.old k × (p + 3 ≤ q) × (q < n) }
     ensures a_after { a.new ≡ by_plan m n (p + 1) (q - 1) k.second (by_plan m n p q k.first a.old) }
-    ensures paced { Paced m n p (q + 1) a.new ss.new result × (result.quiet ≡ (k.second.skip && (k.first.skip && k.quiet))) }
+    ensures paced { Paced m n p (q + 1) a.new ss.new result × (result.quiet ≡ (is_none k.second && (is_none k.first && k.quiet))) }
 {
-    let first = k.first;
-    let second = k.second;
     let w = following(q, n);
-    let alpha = spin(a, ss, m, n, p, q, w, first);
-    let beta = spin(a, ss, m, n, p + 1, q - 1, q, second);
-    next_pace(
-        ss,
-        p,
-        q,
-        w,
-        alpha,
-        beta,
-        second.skip & (first.skip & k.quiet),
-    )
+    let alpha = spin(a, ss, m, n, p, q, w, k.first);
+    let beta = spin(a, ss, m, n, p + 1, q - 1, q, k.second);
+    let quiet = k.second.is_none() & (k.first.is_none() & k.quiet);
+    next_pace(ss, p, q, w, alpha, beta, quiet)
 }
 
 fn turn_two(v: &mut [f64], n: usize, p: usize, q: usize, k: Pace)
     requires { (length v.old ≡ n * n) × (p + 3 ≤ q) × (q < n) }
     ensures { v.new ≡ by_plan n n (p + 1) (q - 1) k.second (by_plan n n p q k.first v.old) }
 {
-    let first = k.first;
-    let second = k.second;
-    turn_basis(v, n, p, q, first);
-    turn_basis(v, n, p + 1, q - 1, second);
+    turn_basis(v, n, p, q, k.first);
+    turn_basis(v, n, p + 1, q - 1, k.second);
 }
 
 // The pairs (p, q) and (p + 1, q - 1) by their plans, and the plans for the next two.
@@ -309,7 +277,7 @@ fn lead(
     Pace {
         first,
         second,
-        quiet: two.skip & (one.skip & still),
+        quiet: two.is_none() & (one.is_none() & still),
     }
 }
 
@@ -352,9 +320,8 @@ fn two_rows(
 {
     let begun = lead(a, v, ss, m, n, p, still);
     let k = abreast(a, v, ss, m, n, p, begun);
-    let last = k.second;
-    step(a, v, ss, m, n, p + 1, n - 1, last);
-    last.skip & k.quiet
+    step(a, v, ss, m, n, p + 1, n - 1, k.second);
+    k.second.is_none() & k.quiet
 }
 
 // How many rows of a pass were made, and whether no pair of them was turned.
@@ -398,7 +365,7 @@ fn row(
     let mut k = plan_at(a, ss, m, n, p, w);
     let mut quiet = still;
     for q in p + 1..n {
-        quiet = k.skip & quiet;
+        quiet = k.is_none() & quiet;
         k = step(a, v, ss, m, n, p, q, k);
     }
     quiet

@@ -4,6 +4,7 @@ use Prim.Native.Nat.{ℕ, ◌+◌}
 use mathlib.Core.Path.{◌≡◌, ◌∙◌, ap}
 use native.Mathlib.Omega.{arith}
 use Rattle.passes.specs.Free.{rotate_free}
+use Rattle.passes.proofs.Spun.{none_told}
 use Rattle.passes.proofs.InStep.{step_first}
 use Rattle.passes.proofs.lead.Goals as goal
 
@@ -25,7 +26,7 @@ pub returns : goal.returns
 returns c = let p : ℕ = c.args.p in
     let three : p + 2 + 1 ≡ p + 3 = omega arith in
     let last : p + 3 - 1 ≡ p + 2 = omega arith in record {
-      quiet_after = step_first _ _ _ _ _ (c.step-first.ensures.b_after _ ∙ ap (rotate_free _ _ _ _) (c.step-two.ensures.b_after _));
+      quiet_after = rw (none_told _ _ c.is_none.ensures, none_told _ _ c.is_none-2.ensures) (step_first _ _ _ _ _ (c.step-first.ensures.b_after _ ∙ ap (rotate_free _ _ _ _) (c.step-two.ensures.b_after _)));
       paced = (
         record {
           squared = c.step-first.ensures.beside.0.squared;

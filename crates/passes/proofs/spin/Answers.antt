@@ -5,8 +5,8 @@ use Rattle.passes.proofs.spin.Goals as goal
 
 ruleset ways = (rules, by_none, by_turn, squared_spun)
 
-pub returns-then-k : goal.returns-then-k
-returns-then-k c = search ways
+pub returns-in_default : goal.returns-in_default
+returns-in_default c = search ways
 
 pub returns : goal.returns
 returns c = search ways

@@ -5,8 +5,8 @@ use Rattle.passes.proofs.turn_basis.Goals as goal
 
 ruleset ways = (rules, by_none, by_turn)
 
-pub returns-then-not-k : goal.returns-then-not-k
-returns-then-not-k c = search ways
+pub returns-in-Some : goal.returns-in-Some
+returns-in-Some c = search ways
 
-pub returns-else-not-k : goal.returns-else-not-k
-returns-else-not-k c = search ways
+pub returns-in_default : goal.returns-in_default
+returns-in_default c = search ways

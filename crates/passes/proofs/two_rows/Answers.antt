@@ -1,6 +1,7 @@
 -- `passes::two_rows`: two rows in step, then the last pair of the second (step_last).
 use borrow.Author.Rules.{rules}
 use native.Mathlib.Omega.{arith}
+use Rattle.passes.proofs.Spun.{none_told}
 use Rattle.passes.proofs.InStep.{step_last}
 use Rattle.passes.proofs.two_rows.Goals as goal
 
@@ -27,6 +28,6 @@ shape_of-ss c = search (rules, c.step.ensures.beside.0.squared.count, c.requires
 
 pub returns : goal.returns
 returns c = record {
-  result_after = step_last _ _ _ _ _ _ c.requires.1 (c.abreast-k.ensures.quiet_after _ c.lead-begun.ensures.quiet_after) (c.step.ensures.b_after _);
+  result_after = rw (none_told _ _ c.is_none.ensures) (step_last _ _ _ _ _ _ c.requires.1 (c.abreast-k.ensures.quiet_after _ c.lead-begun.ensures.quiet_after) (c.step.ensures.b_after _));
   beside = c.step.ensures.beside.0;
 }
