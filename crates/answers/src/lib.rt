@@ -3,7 +3,7 @@
 
 ghost use Rattle.std.specs.Prelude.{◌≡◌};
 ghost use Rattle.answers.specs.declared.Refusal.TheVariants.{Stored};
-ghost use Rattle.answers.specs.Outcome.{stored_in};
+ghost use Rattle.answers.specs.Outcome.{demand, stored_in};
 ghost use Rattle.answers.specs.Table.{part_number, number_of, place_of, index_of, before_work};
 
 // What was being made where a number to be stored isn't finite.
@@ -113,6 +113,14 @@ impl Refusal {
     {
         !matches!(self, Refusal::Stored(..) | Refusal::PairRank)
     }
+}
+
+// The refusal r, unless b holds.
+#[tactic(auto, unfolding(crate::specs::Outcome::demand))]
+pub fn demand(b: bool, r: Refusal) -> Result<(), Refusal>
+    ensures { result ≡ demand b r }
+{
+    if b { Ok(()) } else { Err(r) }
 }
 
 // A number to be stored that isn't finite: what was being made, of which core, and the number's index in it.

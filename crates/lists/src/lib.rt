@@ -4,11 +4,14 @@
 ghost use Rattle.std.specs.Prelude.{◌≡◌, true, Bool, ℕ, ◌+◌, ◌*◌, ◌≤◌, ◌<◌, length, take, replicate};
 ghost use Rattle.numbers.specs.Finite.{finite};
 ghost use Rattle.numbers.specs.Arithmetic.{zero64};
-ghost use Rattle.answers.specs.Outcome.{stage_of};
+ghost use Rattle.answers.specs.Outcome.{stage_of, demand_each};
+ghost use Rattle.answers.specs.declared.Refusal.{Refusal};
 ghost use Rattle.lists.specs.Lists.{first_not};
 ghost use Rattle.lists.specs.Floats.{at, sum_to, all_finite, first_not_finite, stored};
 ghost use Rattle.lists.specs.Slots.{fit};
 ghost use Rattle.lists.specs.Strips.{strip_width, stored_from};
+
+use answers::Refusal;
 
 // Every number of s becomes v.
 pub fn fill(s: &mut [f64], v: f64)
@@ -97,6 +100,24 @@ pub fn first_not<F: Fn(usize) -> bool>(n: usize, passes: F) -> usize
         }
     }
     n
+}
+
+// The refusal of the first k below n at which `passes` answers false, if there is one.
+pub fn demand_each<F: Fn(usize) -> bool, R: Fn(usize) -> Refusal>(
+    n: usize,
+    passes: F,
+    refusal: R,
+) -> Result<(), Refusal>
+    requires tests { (k : ℕ) → k < n → F.pre passes k }
+    requires refusals { (k : ℕ) → k < n → R.pre refusal k }
+    ensures { (q : ℕ → Bool) (r : ℕ → Refusal) → ((k : ℕ) (b : Bool) → k < n → F.post passes k b → b ≡ q k)
+        → ((k : ℕ) (x : Refusal) → k < n → R.post refusal k x → x ≡ r k) → result ≡ demand_each r q n 0 }
+{
+    let k = first_not(n, passes);
+    if k < n {
+        return Err(refusal(k));
+    }
+    Ok(())
 }
 
 // The index of the first number that isn't finite, or the length.

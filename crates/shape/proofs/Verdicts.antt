@@ -1,4 +1,4 @@
--- The verdict on a shape, from what code finds on its way: one law a return. A kept run, which asks one thing more of each bond, cites the same. Assumes nothing.
+-- The verdict on a shape: one law for each return of code that looks for the first place that fails, as a kept run's does, which asks one thing more of each bond; and demand by demand, as a chain's check asks. Assumes nothing.
 use mathlib.Core.Path.{◌≡◌, refl, sym, ap, ◌∙◌}
 use Prim.Native.Nat.{ℕ, ◌≤◌, ◌<◌}
 use mathlib.Core.Bool.{Bool, true, false, not, ◌&&◌}
@@ -7,13 +7,13 @@ use Rattle.answers.specs.declared.Refusal.{Refusal}
 use Rattle.answers.specs.declared.Refusal.TheVariants.{Axes, Size, Ranks}
 use Rattle.std.specs.Prelude.{Ok, Err}
 use Rattle.answers.specs.Outcome.{Answer, Check, ◌then◌, demand, demand_each}
-use Rattle.answers.proofs.Checks.{demand_yes, demand_no, then_skip}
+use Rattle.answers.proofs.Checks.{demand_yes, demand_no, demand_is, then_skip, each_same}
 use Rattle.lists.specs.Lists.{first_not}
 use Rattle.lists.proofs.Tests.{both, not_no, not_yes, leb_is, eqb_yes, eqb_no}
-use Rattle.lists.proofs.Demands.{each_stops, each_passes, fails_same}
+use Rattle.lists.proofs.Demands.{each_stops, each_passes}
 use Rattle.shape.specs.declared.Shape.{Shape}
 use Rattle.shape.specs.Limits.{most_axes, within}
-use Rattle.shape.specs.Shapes.{left_of, size_ok, bond_ok, shape_ok}
+use Rattle.shape.specs.Shapes.{left_of, size_ok, bond_ok, shape_ok, chain_ok}
 
 -- what a test of `within` says
 pub within_most : (most x : ℕ) (b : Bool) → b ≡ within most x → not b ≡ false → x ≤ most
@@ -69,10 +69,23 @@ module _ (s : Shape) (kept : ℕ → Bool) where
 
 pub ruleset verdicts = (within_most, axes_refused, size_refused, end_refused, bond_refused, shape_fits)
 
--- a chain asks nothing more of its bonds
-pub bond_alone : (s : Shape) (j : ℕ) → j ≡ first_not (bond_ok s) s.d → j ≡ first_not (λ (k : ℕ). bond_ok s k && true) s.d
-bond_alone s j e = fails_same (bond_ok s) (λ (k : ℕ). bond_ok s k && true) s.d j (λ k l. sym (and_true (bond_ok s k))) e
-  where
-    and_true : (b : Bool) → b && true ≡ b
-    and_true true = refl
-    and_true false = refl
+-- ---- a chain's check, demand by demand, which asks nothing more of its bonds
+and_true : (b : Bool) → b && true ≡ b
+and_true true = refl
+and_true false = refl
+
+module _ (s : Shape) (b : Bool) (e : b ≡ within most_axes s.d) (u : Unit {0}) (p : Ok u ≡ demand b Axes) where
+  axes_within : within most_axes s.d ≡ true
+  axes_within = sym e ∙ demand_is b Axes (sym p)
+
+  pub axes_most : s.d ≤ most_axes
+  axes_most = leb_is s.d most_axes (both (leb 1 s.d) (leb s.d most_axes) axes_within).1
+
+  -- the bonds decide, where all before them passes
+  pub bonds_left : (v w : Unit {0}) (c : Check) → Ok v ≡ demand_each Size (size_ok s) s.d 0 → Ok w ≡ demand (eqb (left_of s 0) 1) (Ranks 0) → c ≡ demand_each Ranks (bond_ok s) s.d 0 → c ≡ chain_ok s
+  unfolding shape_ok
+  bonds_left v w c q r h =
+      let alone = each_same Ranks (bond_ok s) (λ (k : ℕ). bond_ok s k && true) s.d 0 (λ k a d. sym (and_true (bond_ok s k))) in
+      h ∙ alone ∙ sym (then_skip _ _ _ (demand_yes _ Axes axes_within) (then_skip _ _ _ (sym q) (then_skip _ _ _ (sym r) refl)))
+
+pub ruleset demands = (axes_most, bonds_left)

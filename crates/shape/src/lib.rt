@@ -10,6 +10,8 @@ ghost use Rattle.shape.specs.Shapes.{points_of, size_ok, bond_ok, chain_ok, core
 ghost use Rattle.shape.specs.Sizes.{PointsWithin, SizesWithin};
 ghost use Rattle.shape.specs.Cores.{place, core_with, core_at, points_at, with_core};
 
+use answers::Refusal;
+
 // The limits of the scope, named once.
 pub const MOST_AXES: usize = 16;
 
@@ -148,26 +150,14 @@ impl Shape {
     }
 
     // Refusals 1 to 3.
-    #[tactic(auto, using(crate::proofs::Verdicts::verdicts, crate::proofs::Verdicts::bond_alone))]
-    pub fn check(self) -> Result<(), answers::Refusal>
+    #[tactic(auto, using(crate::proofs::Verdicts::demands), unfolding(crate::specs::Shapes::shape_ok))]
+    pub fn check(self) -> Result<(), Refusal>
         ensures { result ≡ chain_ok self }
     {
-        let d = self.d;
-        if !within(MOST_AXES, d) {
-            return Err(answers::Refusal::Axes);
-        }
-        let size = self.first_bad_size();
-        if size < d {
-            return Err(answers::Refusal::Size(size));
-        }
-        if self.left[0] != 1 {
-            return Err(answers::Refusal::Ranks(0));
-        }
-        let bond = self.first_bad_bond();
-        if bond < d {
-            return Err(answers::Refusal::Ranks(bond));
-        }
-        Ok(())
+        answers::demand(within(MOST_AXES, self.d), Refusal::Axes)?;
+        lists::demand_each(self.d, |k| self.size_ok(k), Refusal::Size)?;
+        answers::demand(self.left[0] == 1, Refusal::Ranks(0))?;
+        lists::demand_each(self.d, |k| self.bond_ok(k), Refusal::Ranks)
     }
 
     // How many numbers core k has.
