@@ -29,7 +29,7 @@ use Rattle.fileform.specs.Reading.{read_contents, lengths_ok, numbers_in, read_n
 use Rattle.fileform.proofs.Shapes.{met}
 use Rattle.fileform.proofs.Readers.{contents_is}
 
--- ---- the lengths: n is what code took for N
+-- ---- the file's length: n is what code took for N
 module _ (s : Shape) (n : ℕ) (e : n ≡ entries_of s) where
   pub bodies_fit : SizesWithin s → Fits' w64 (8 * n)
   bodies_fit w = record { fits = omega (arith, entries_most s w) }
@@ -41,32 +41,32 @@ module _ (s : Shape) (n : ℕ) (e : n ≡ entries_of s) where
   unfolding file_length
   file_counts = ap (λ (m : ℕ). 8 + 12 * s.d + 8 * m) e
 
-  module _ (bytes room : ℕ) where
-    abbrev enough : Check
-    enough = demand (leb (entries_of s) room) (Length 1)
+pub ruleset file_counted = (bodies_fit, file_fits, file_counts)
 
-    pub file_wrong : (bytes ≡ 8 + 12 * s.d + 8 * n → ⊥) → Err (File bytes) ≡ lengths_ok s bytes room
-    unfolding lengths_ok file_length
-    file_wrong h =
-        sym (ap (λ (c : Check). (c then enough)) (demand_no _ (File bytes) (eqb_no bytes (file_length s) (λ q. let k : bytes ≡ 8 + 12 * s.d + 8 * entries_of s = q in h (omega arith)))))
+-- ---- the lengths: m and n are what code took for the file's and N
+module _ (s : Shape) (bytes room m : ℕ) (e : m ≡ file_length s) where
+  abbrev enough : Check
+  enough = demand (leb (entries_of s) room) (Length 1)
 
-    module _ (h : bytes ≡ 8 + 12 * s.d + 8 * n) where
-      right : bytes ≡ file_length s
-      right = h ∙ file_counts
+  pub file_wrong : (bytes ≡ m → ⊥) → Err (File bytes) ≡ lengths_ok s bytes room
+  unfolding lengths_ok
+  file_wrong h = sym (ap (λ (c : Check). c then enough) (demand_no _ (File bytes) (eqb_no bytes (file_length s) (λ q. h (q ∙ sym e)))))
 
-      past : lengths_ok s bytes room ≡ enough
-      unfolding lengths_ok
-      past = ap (λ (c : Check). c then enough) (demand_yes _ (File bytes) (eqb_yes bytes (file_length s) right))
+  module _ (h : bytes ≡ m) (n : ℕ) (g : n ≡ entries_of s) where
+    past : lengths_ok s bytes room ≡ enough
+    unfolding lengths_ok
+    past = ap (λ (c : Check). c then enough) (demand_yes _ (File bytes) (eqb_yes bytes (file_length s) (h ∙ e)))
 
-      pub room_wrong : room < n → Err (Length 1) ≡ lengths_ok s bytes room
-      room_wrong l = sym ((past ∙ demand_no _ (Length 1) (lt-leb (entries_of s) room (omega arith))))
+    pub room_wrong : room < n → Err (Length 1) ≡ lengths_ok s bytes room
+    room_wrong l = sym (past ∙ demand_no _ (Length 1) (lt-leb (entries_of s) room (omega arith)))
 
-      pub lengths_right : n ≤ room → Ok tt ≡ lengths_ok s bytes room
-      lengths_right l = sym ((past ∙ demand_yes _ (Length 1) (le-leb (entries_of s) room (omega arith))))
+    pub lengths_right : n ≤ room → Ok tt ≡ lengths_ok s bytes room
+    lengths_right l = sym (past ∙ demand_yes _ (Length 1) (le-leb (entries_of s) room (omega arith)))
 
-pub ruleset lengths_found = (bodies_fit, file_fits, file_wrong, room_wrong, lengths_right)
+pub ruleset lengths_found = (file_wrong, room_wrong, lengths_right)
 
-pub ruleset lengths_lent = (lengths-asked, bodies_fit, file_fits, file_counts)
+-- those of `write_lent`, for a `tactic`, in which no dash can stand
+pub ruleset lengths_lent = lengths-asked
 
 lengths_say : (s : Shape) (bytes room : ℕ) → lengths_ok s bytes room ≡ Ok tt → (bytes ≡ file_length s) × (entries_of s ≤ room)
 unfolding lengths_ok

@@ -8,6 +8,7 @@ pub mod making;
 ghost use Rattle.std.specs.Prelude.{◌≡◌, ◌≤◌, length};
 ghost use Rattle.shape.specs.Shapes.{entries_of};
 ghost use Rattle.shape.specs.Sizes.{SizesWithin};
+ghost use Rattle.fileform.specs.File.{file_length};
 ghost use Rattle.fileform.specs.Calls.{numbers_ok};
 ghost use Rattle.fileform.specs.Writing.{write_lent, write_ok, write_call};
 ghost use Rattle.fileform.specs.Reading.{lengths_ok, read_ok, read_call};
@@ -15,17 +16,24 @@ ghost use Rattle.fileform.specs.Reading.{lengths_ok, read_ok, read_call};
 use answers::Refusal;
 use shape::Shape;
 
+#[tactic(auto, using(crate::proofs::Accepts::file_counted))]
+fn file_length(s: Shape) -> usize
+    requires { SizesWithin s }
+    ensures { result ≡ file_length s }
+{
+    8 + 12 * s.d + 8 * s.entries()
+}
+
 // The file's length, then the room.
 #[tactic(auto, using(crate::proofs::Accepts::lengths_found))]
 fn lengths_ok(s: Shape, bytes: usize, room: usize) -> Result<(), Refusal>
     requires { SizesWithin s }
     ensures { result ≡ lengths_ok s bytes room }
 {
-    let n = s.entries();
-    if bytes != 8 + 12 * s.d + 8 * n {
+    if bytes != file_length(s) {
         return Err(Refusal::File(bytes));
     }
-    if room < n {
+    if room < s.entries() {
         return Err(Refusal::Length(1));
     }
     Ok(())
@@ -58,11 +66,10 @@ fn write_lent(s: Shape, chain: usize, out: usize) -> Result<(), Refusal>
     requires { SizesWithin s }
     ensures { result ≡ write_lent s chain out }
 {
-    let n = s.entries();
-    if chain != n {
+    if chain != s.entries() {
         return Err(Refusal::Length(0));
     }
-    if out != 8 + 12 * s.d + 8 * n {
+    if out != file_length(s) {
         return Err(Refusal::Length(1));
     }
     Ok(())

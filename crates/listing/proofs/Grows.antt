@@ -26,7 +26,7 @@ use Rattle.fileform.proofs.Shapes.{met}
 use Rattle.fileform.proofs.Readers.{read_fits}
 use Rattle.chainfile.proofs.Bodies.{bodies_none, bodies_more}
 use Rattle.fileform.specs.Text.{digits_of, field, space, newline, headline, axis_line, chain_text, refused_text, most_bytes, room_for, too_large, read_text, listing_of}
-use Rattle.listing.specs.Ends.{Put}
+use Rattle.listing.specs.Ends.{Put, Room}
 
 -- one part after another
 pub then_put : {a b : ℕ} {x y l m n : List ℕ} → Put a x l m → Put b y m n → Put (a + b) (x ++ y) l n
@@ -92,7 +92,7 @@ module _ (s : Shape) (l : List ℕ) where
       }
 
   module _ (text : List ℕ) (start k : ℕ) (A : AtAxis text start k) where
-    pub axes_ask : length l + 1680 ≤ 2048 → k < s.d → s.d ≤ most_axes → length text + 105 ≤ 2048
+    pub axes_ask : Room 1680 l → k < s.d → s.d ≤ most_axes → Room 105 text
     axes_ask h lt few = omega (arith, A.lines.few)
 
     pub axes_more : {x : ℕ} {text' : List ℕ} → k < s.d → x ≡ core_size s k → Put 105 (axis_line s k) text text' → AtAxis text' (start + 8 * x) (k + 1)

@@ -5,3 +5,7 @@ use Rattle.std.specs.Prelude.{◌≡◌, ℕ, ◌+◌, ◌≤◌, List, ◌++◌
 pub record Put (most : ℕ) (x l m : List ℕ) : Type 0 where
   pub there : m ≡ l ++ x
   pub few : length m ≤ length l + most
+
+-- n bytes more have room behind l
+abbrev pub Room : ℕ → List ℕ → Type 0
+Room n l = length l + n ≤ 2048

@@ -1,14 +1,14 @@
 // The listing of a chain file, as text of a fixed capacity.
 #![tactic(auto)]
 
-ghost use Rattle.std.specs.Prelude.{◌≡◌, ◌+◌, ◌≤◌, ◌<◌, length};
+ghost use Rattle.std.specs.Prelude.{◌≡◌, ◌<◌, length};
 ghost use Rattle.lists.specs.Lists.{joined};
 ghost use Rattle.shape.specs.Limits.{most_axes};
 ghost use Rattle.shape.specs.Sizes.{SizesWithin};
 ghost use Rattle.words.specs.Placed.{placed};
 ghost use Rattle.fileform.specs.File.{body_start};
 ghost use Rattle.fileform.specs.Text.{digits_of, field, headline, axis_line, chain_text, refused_text, listing_of};
-ghost use Rattle.listing.specs.Ends.{Put};
+ghost use Rattle.listing.specs.Ends.{Put, Room};
 
 use answers::Refusal;
 use arrayvec::ArrayVec;
@@ -26,7 +26,7 @@ pub type Text = ArrayVec<u8, TEXT>;
 
 // `write!` would be shorter, but promises its text only where it answers Ok, and not that it does.
 fn put_word(word: &[u8], text: &mut Text)
-    requires { length text.old.items + length word.now ≤ 2048 }
+    requires { Room (length word.now) text.old.items }
     ensures { Put (length word.now) word.now text.old.items text.new.items }
 {
     text.try_extend_from_slice(word).unwrap();
@@ -34,7 +34,7 @@ fn put_word(word: &[u8], text: &mut Text)
 
 // A number in decimal digits.
 fn put_digits(n: usize, text: &mut Text)
-    requires { length text.old.items + 20 ≤ 2048 }
+    requires { Room 20 text.old.items }
     ensures { Put 20 (digits_of n) text.old.items text.new.items }
 {
     let mut digits = [0u8; 20];
@@ -45,7 +45,7 @@ fn put_digits(n: usize, text: &mut Text)
 // A number, and `after` behind it.
 #[tactic(auto, using(crate::proofs::Grows::field_put))]
 fn put_field(n: usize, after: u8, text: &mut Text)
-    requires { length text.old.items + 21 ≤ 2048 }
+    requires { Room 21 text.old.items }
     ensures { Put 21 (field n after) text.old.items text.new.items }
 {
     put_digits(n, text);
@@ -54,7 +54,7 @@ fn put_field(n: usize, after: u8, text: &mut Text)
 
 // The line of one axis, whose body starts at `start`.
 fn put_axis(s: Shape, k: usize, start: usize, text: &mut Text)
-    requires { (k < most_axes) × (start ≡ body_start s k) × (length text.old.items + 105 ≤ 2048) }
+    requires { (k < most_axes) × (start ≡ body_start s k) × (Room 105 text.old.items) }
     ensures { Put 105 (axis_line s k) text.old.items text.new.items }
 {
     put_field(k, b' ', text);
@@ -68,7 +68,7 @@ fn put_axis(s: Shape, k: usize, start: usize, text: &mut Text)
 #[tactic(auto, using(chainfile::proofs::Bodies::bodywise, crate::proofs::Grows::axes_ask))]
 fn put_axes(s: Shape, text: &mut Text)
     requires sizes_within { SizesWithin s }
-    requires room { length text.old.items + 1680 ≤ 2048 }
+    requires room { Room 1680 text.old.items }
     ensures { Put 1680 (joined s.d (axis_line s)) text.old.items text.new.items }
 {
     let mut start = 8 + 12 * s.d;
@@ -81,7 +81,7 @@ fn put_axes(s: Shape, text: &mut Text)
 // The first line.
 fn put_headline(s: Shape, text: &mut Text)
     requires sizes_within { SizesWithin s }
-    requires room { length text.old.items + 55 ≤ 2048 }
+    requires room { Room 55 text.old.items }
     ensures { Put 55 (headline s) text.old.items text.new.items }
 {
     put_word(b"axes ", text);
@@ -94,7 +94,7 @@ fn put_headline(s: Shape, text: &mut Text)
 #[tactic(auto, using(crate::proofs::Grows::chain_put))]
 fn put_chain(s: Shape, text: &mut Text)
     requires sizes_within { SizesWithin s }
-    requires room { length text.old.items + 1735 ≤ 2048 }
+    requires room { Room 1735 text.old.items }
     ensures { Put 1735 (chain_text s) text.old.items text.new.items }
 {
     put_headline(s, text);
@@ -104,7 +104,7 @@ fn put_chain(s: Shape, text: &mut Text)
 // A refusal by its number and place in the scope's table.
 #[tactic(auto, using(crate::proofs::Grows::refusal_put))]
 fn put_refusal(r: Refusal, text: &mut Text)
-    requires { length text.old.items + 53 ≤ 2048 }
+    requires { Room 53 text.old.items }
     ensures { Put 53 (refused_text r) text.old.items text.new.items }
 {
     let number = r.number() as usize;
