@@ -7,7 +7,6 @@ pub mod careful;
 
 ghost use Rattle.std.specs.Prelude.{◌≡◌, Bool, true, false, ◌&&◌, ◌+◌, ◌-◌, ◌*◌, ◌≤◌, ◌<◌, length, Ok, is_none, IfSome};
 ghost use Rattle.answers.specs.Outcome.{outcome_of};
-ghost use Rattle.lists.specs.Lists.{iter};
 ghost use Rattle.lists.specs.Floats.{at, all_finite};
 ghost use Rattle.cutform.specs.Rotation.{eye};
 ghost use Rattle.pairform.specs.Columns.{dot, skipped};
@@ -324,29 +323,6 @@ fn two_rows(
     k.second.is_none() & k.quiet
 }
 
-// How many rows of a pass were made, and whether no pair of them was turned.
-#[derive(Clone, Copy)]
-struct Rows {
-    p: usize,
-    quiet: bool,
-}
-
-// The rows two by two, as long as there are three columns more.
-fn rows_in_step(a: &mut [f64], v: &mut [f64], ss: &mut [f64], m: usize, n: usize) -> Rows
-    requires { Beside m n a.old v.old ss.old }
-    ensures quiet_after { passed (svd a.new v.new) result.quiet
-        ≡ iter result.p (row_free m n) (passed (svd a.old v.old) true) }
-    ensures beside { Beside m n a.new v.new ss.new × (result.p ≤ n) }
-{
-    let mut p = 0;
-    let mut quiet = true;
-    while p + 2 < n {
-        quiet = two_rows(a, v, ss, m, n, p, quiet);
-        p += 2;
-    }
-    Rows { p, quiet }
-}
-
 // The pairs (p, q) of one p.
 fn row(
     a: &mut [f64],
@@ -371,28 +347,22 @@ fn row(
     quiet
 }
 
-// The rows from `begun` on, one by one.
-fn last_rows(a: &mut [f64], v: &mut [f64], ss: &mut [f64], m: usize, n: usize, begun: Rows) -> bool
-    requires { Beside m n a.old v.old ss.old × (begun.p ≤ n) }
-    ensures result_after { (x : Pass) → passed (svd a.old v.old) begun.quiet ≡ iter begun.p (row_free m n) x →
-        passed (svd a.new v.new) result ≡ iter n (row_free m n) x }
-    ensures beside { Beside m n a.new v.new ss.new }
-{
-    let mut quiet = begun.quiet;
-    for p in begun.p..n {
-        quiet = row(a, v, ss, m, n, p, quiet);
-    }
-    quiet
-}
-
-// One pass: whether it turned no pair.
+// One pass: whether it turned no pair. Rows go two by two, as long as there are three columns more, and the last ones one by one.
 fn pass(a: &mut [f64], v: &mut [f64], ss: &mut [f64], m: usize, n: usize) -> bool
     requires { Beside m n a.old v.old ss.old }
     ensures { (passed (svd a.new v.new) result ≡ pass_free m n (passed (svd a.old v.old) true))
         × Beside m n a.new v.new ss.new }
 {
-    let begun = rows_in_step(a, v, ss, m, n);
-    last_rows(a, v, ss, m, n, begun)
+    let mut p = 0;
+    let mut quiet = true;
+    while p + 2 < n {
+        quiet = two_rows(a, v, ss, m, n, p, quiet);
+        p += 2;
+    }
+    for last in p..n {
+        quiet = row(a, v, ss, m, n, last, quiet);
+    }
+    quiet
 }
 
 const MOST_PASSES: usize = 100;
