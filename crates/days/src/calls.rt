@@ -1,5 +1,6 @@
 // The calls of a kept run on lists that stand in one list: source, weights, chain, carries, sums, each from a place of its own on.
-use drawing::{asks, parts};
+use drawing::asks::{Ask, List};
+use drawing::parts;
 
 // What scratch holds before a call, and what is kept before a fresh run.
 pub const MARK: f64 = 7.5;
@@ -24,8 +25,8 @@ pub const KEPT: usize = HELD - CHAIN;
 
 const SCRATCH: usize = shape::SCRATCH_TIMES * ROOM + shape::SCRATCH_BESIDE;
 
-// What a verdict tells: all 0 where there is no refusal.
-#[derive(Clone, Copy)]
+// What a refusal tells.
+#[derive(Clone, Copy, Debug, PartialEq, Eq)]
 pub struct Told {
     pub number: usize,
     pub place: usize,
@@ -41,19 +42,13 @@ pub fn checked(number: usize, place: usize) -> Told {
     }
 }
 
-pub fn same_told(a: Told, b: Told) -> bool {
-    (a.number == b.number) & (a.place == b.place) & (a.index == b.index)
-}
-
-pub fn reading(v: Result<(), answers::Refusal>) -> Told {
-    match v {
-        Ok(()) => checked(0, 0),
-        Err(q) => Told {
-            number: q.number() as usize,
-            place: q.place(),
-            index: q.index(),
-        },
-    }
+// None where a call was accepted.
+pub fn reading(v: Result<(), answers::Refusal>) -> Option<Told> {
+    v.err().map(|q| Told {
+        number: usize::from(q.number()),
+        place: q.place(),
+        index: q.index(),
+    })
 }
 
 // How many numbers of each list a call is lent.
@@ -68,26 +63,24 @@ pub struct Lengths {
 }
 
 // One more or one less where the list is the one whose length is wrong.
-fn lent(wrong: usize, list: usize, n: usize) -> usize {
-    if wrong == list {
-        return n ^ 1;
-    }
-    n
+fn lent(wrong: Option<List>, list: List, n: usize) -> usize {
+    if wrong == Some(list) { n ^ 1 } else { n }
 }
 
-pub fn lengths_of(s: shape::Shape, wrong: usize) -> Lengths {
+pub fn lengths_of(s: shape::Shape, wrong: Option<List>) -> Lengths {
     let end = drawing::plans::starts(s, s.d);
-    let mut scratch = SCRATCH;
-    if end.core < ROOM {
-        scratch = shape::scratch_for(end.core);
-    }
+    let scratch = if end.core < ROOM {
+        shape::scratch_for(end.core)
+    } else {
+        SCRATCH
+    };
     Lengths {
-        source: lent(wrong, 0, end.core),
-        weights: lent(wrong, 1, end.weights),
-        chain: lent(wrong, 2, end.core),
-        carries: lent(wrong, 3, end.carry),
-        sums: lent(wrong, 4, end.sums),
-        scratch: lent(wrong, asks::SCRATCH, scratch),
+        source: lent(wrong, List::Source, end.core),
+        weights: lent(wrong, List::Weights, end.weights),
+        chain: lent(wrong, List::Chain, end.core),
+        carries: lent(wrong, List::Carries, end.carry),
+        sums: lent(wrong, List::Sums, end.sums),
+        scratch: lent(wrong, List::Scratch, scratch),
     }
 }
 
@@ -103,14 +96,7 @@ fn keep(at: usize, list: &[f64; ROOM], n: usize, held: &mut [f64; HELD]) {
 }
 
 pub fn all_are(list: &[f64], x: f64) -> bool {
-    let mut same = true;
-    let mut i = 0;
-    while i < list.len() {
-        let one = comparing::same_number(list[i], x);
-        same = same & one;
-        i += 1;
-    }
-    same
+    list.iter().all(|y| comparing::same_number(*y, x))
 }
 
 // What a call answered, and whether it left alone what it must.
@@ -122,13 +108,10 @@ pub struct Ended {
 
 // Scratch is unwritten after a refusal that nothing was worked for, and zero after any other answer.
 fn ending(ran: runform::Ran, scratch: &[f64; SCRATCH], n: usize) -> Ended {
-    let v = ran.verdict;
-    let mut left = 0.0;
-    if let Err(q) = v {
-        if q.before_work() {
-            left = MARK;
-        }
-    }
+    let left = match ran.verdict {
+        Err(q) if q.before_work() => MARK,
+        _ => 0.0,
+    };
     Ended {
         ran,
         clean: all_are(parts::window(scratch, 0, n), left),
@@ -137,18 +120,15 @@ fn ending(ran: runform::Ran, scratch: &[f64; SCRATCH], n: usize) -> Ended {
 
 // ---- the four calls
 pub fn fresh(r: runform::Run, n: Lengths, held: &mut [f64; HELD]) -> Ended {
-    let s = r.shape;
-    let xs = r.axes;
-    let set = r.set;
     let mut chain = list(held, CHAIN, n.chain);
     let mut carries = list(held, CARRIES, n.carries);
     let mut sums = list(held, SUMS, n.sums);
     let mut scratch = [MARK; SCRATCH];
     let all = &*held;
     let ran = runs::fresh_run(
-        s,
-        xs,
-        set,
+        r.shape,
+        r.axes,
+        r.set,
         parts::window(all, 0, n.source),
         parts::window(all, WEIGHTS, n.weights),
         parts::front(&mut chain, n.chain),
@@ -162,13 +142,7 @@ pub fn fresh(r: runform::Run, n: Lengths, held: &mut [f64; HELD]) -> Ended {
     ending(ran, &scratch, n.scratch)
 }
 
-pub fn core(
-    q: asks::Ask,
-    r: runform::Run,
-    n: Lengths,
-    part: &[f64],
-    held: &mut [f64; HELD],
-) -> Ended {
+pub fn core(q: Ask, r: runform::Run, n: Lengths, part: &[f64], held: &mut [f64; HELD]) -> Ended {
     let mut source = list(held, 0, n.source);
     let mut chain = list(held, CHAIN, n.chain);
     let mut carries = list(held, CARRIES, n.carries);
@@ -192,13 +166,7 @@ pub fn core(
     ending(ran, &scratch, n.scratch)
 }
 
-pub fn weights(
-    q: asks::Ask,
-    r: runform::Run,
-    n: Lengths,
-    part: &[f64],
-    held: &mut [f64; HELD],
-) -> Ended {
+pub fn weights(q: Ask, r: runform::Run, n: Lengths, part: &[f64], held: &mut [f64; HELD]) -> Ended {
     let mut weights = list(held, WEIGHTS, n.weights);
     let mut sums = list(held, SUMS, n.sums);
     let mut scratch = [MARK; SCRATCH];
@@ -219,8 +187,7 @@ pub fn weights(
     ending(ran, &scratch, n.scratch)
 }
 
-pub fn axis(q: asks::Ask, r: runform::Run, n: Lengths, held: &mut [f64; HELD]) -> Ended {
-    let x = q.axis;
+pub fn axis(q: Ask, r: runform::Run, n: Lengths, held: &mut [f64; HELD]) -> Ended {
     let mut chain = list(held, CHAIN, n.chain);
     let mut carries = list(held, CARRIES, n.carries);
     let mut sums = list(held, SUMS, n.sums);
@@ -229,7 +196,7 @@ pub fn axis(q: asks::Ask, r: runform::Run, n: Lengths, held: &mut [f64; HELD]) -
     let ran = runs::replace_axis(
         r,
         q.zone,
-        x,
+        q.axis,
         parts::window(all, 0, n.source),
         parts::window(all, WEIGHTS, n.weights),
         parts::front(&mut chain, n.chain),

@@ -4,112 +4,92 @@
 // must be.
 #![tactic(auto)]
 
-ghost use Rattle.std.specs.Prelude.{◌≤◌};
-
 mod calls;
 mod turns;
 
-use drawing::{chance, plans};
+use drawing::asks::{Ask, LISTS};
+use drawing::{asks, chance, parts, plans};
 use std::io;
-
-// Every number of cores with every limit of ranks.
-const DAYS: usize = 128;
 
 const TURNS: usize = 50;
 
 const TURNS_SPOILT: usize = 12;
 
-// How many lists a fresh run is lent.
-const LISTS: usize = 6;
-
 // A core and one number more.
 const PART: usize = 1025;
 
-// ---- what is counted: the replacements, the refusals by their number, then these
-const TURN: usize = 15;
+// What is counted of turns: replacements, refusals by their number, all turns, and those that were as they must be.
+#[derive(Clone, Copy)]
+struct Counts {
+    replaced: usize,
+    refused: [usize; 15],
+    turns: usize,
+    agreed: usize,
+}
 
-const AGREED: usize = 16;
+impl Counts {
+    fn none() -> Counts {
+        Counts {
+            replaced: 0,
+            refused: [0; 15],
+            turns: 0,
+            agreed: 0,
+        }
+    }
 
-const DAY: usize = 17;
+    // One more turn.
+    fn count(&mut self, told: Option<calls::Told>, agrees: bool) {
+        self.turns = self.turns.wrapping_add(1);
+        if agrees {
+            self.agreed = self.agreed.wrapping_add(1);
+        }
+        match told {
+            None => self.replaced = self.replaced.wrapping_add(1),
+            Some(t) => {
+                if let Some(n) = self.refused.get_mut(t.number) {
+                    *n = n.wrapping_add(1);
+                }
+            }
+        }
+    }
+}
 
-// The same again of the turns on runs that others wrote to, and of the fresh runs.
-const SPOILT: usize = 18;
-
-const COUNTS: usize = 36;
-
+// Of days, of the turns drawn on them, and of those on runs that others wrote to, with the fresh runs that are lent a wrong length.
 #[derive(Clone, Copy)]
 struct Tally {
-    counts: [usize; COUNTS],
+    days: usize,
+    drawn: Counts,
+    spoilt: Counts,
 }
 
-// One more of what is counted at a place behind another.
-fn one_more(t: Tally, from: usize, what: usize) -> Tally {
-    let mut u = t;
-    let k = std::num::wrapping_add_usize(from, what);
-    if k < COUNTS {
-        u.counts[k] = std::num::wrapping_add_usize(t.counts[k], 1);
-    }
-    u
-}
-
-// One more turn.
-fn counted(t: Tally, from: usize, number: usize, agrees: bool) -> Tally {
-    let u = one_more(one_more(t, from, TURN), from, number);
-    if agrees {
-        return one_more(u, from, AGREED);
-    }
-    u
-}
-
-fn asked(seed: usize, s: shape::Shape, from: usize) -> drawing::asks::Ask {
-    if from == SPOILT {
-        return drawing::asks::drawn_spoilt(seed, s);
-    }
-    drawing::asks::drawn(seed, s)
-}
-
-// So many turns of a day, on a run that is made, counted from a place on.
-fn turns_of(
+// So many turns of a day, on a run that is made, each as `draw` asks it.
+fn turns_of<F: Fn(usize, shape::Shape) -> Ask>(
+    draw: F,
     seed: usize,
     count: usize,
-    from: usize,
-    r: runform::Run,
+    made: runform::Run,
     list: [f64; calls::HELD],
-    t: Tally,
-) -> Tally
-    requires { count ≤ 1000 }
+    counts: &mut Counts,
+)
+    requires { F.IsAlwaysCallable draw }
 {
     let mut part = [0.0; PART];
     let mut x = seed;
-    let mut run = r;
+    let mut run = made;
     let mut held = list;
-    let mut tally = t;
-    let mut i = 0;
-    while i < count {
-        let s = run.shape;
-        let q = asked(x, s, from);
-        drawing::asks::write_part(q, &mut part);
-        let end = turns::turn(q, run, held, drawing::parts::window(&part, 0, q.length));
+    for _ in 0..count {
+        let q = draw(x, run.shape);
+        asks::write_part(q, &mut part);
+        let end = turns::turn(q, run, held, parts::window(&part, 0, q.length));
         x = q.seed;
         run = end.run;
         held = end.held;
-        tally = counted(tally, from, end.number, end.agrees);
-        i += 1;
+        counts.count(end.told, end.agrees);
     }
-    tally
-}
-
-// A fresh run for each list that it is lent, whose length is wrong.
-fn lent_wrong(r: runform::Run, held: [f64; calls::HELD], t: Tally) -> Tally {
-    let mut tally = t;
-    for list in 0..LISTS {
-        tally = counted(tally, SPOILT, 5, turns::is_refused_by_length(r, list, held));
-    }
-    tally
 }
 
 // A day whose fresh run is refused counts as a turn that does not agree.
-fn day(seed: usize, s: shape::Shape, t: Tally) -> Tally {
+fn day(seed: usize, s: shape::Shape, tally: &mut Tally) {
     let mut held = [calls::MARK; calls::HELD];
     let scale = plans::scale(chance::next(seed ^ 64));
     chance::fill(seed ^ 1, scale, &mut held[..calls::CHAIN]);
@@ -121,77 +101,66 @@ fn day(seed: usize, s: shape::Shape, t: Tally) -> Tally {
         bonds: [none; shape::MOST_AXES],
         figure: 0.0,
     };
-    let n = calls::lengths_of(s, drawing::asks::NO_LIST);
-    let end = calls::fresh(run, n, &mut held);
-    let ran = end.ran;
-    let v = ran.verdict;
-    let made = ran.run;
-    let number = calls::reading(v).number;
-    let u = one_more(t, 0, DAY);
-    if number != 0 {
-        return counted(u, 0, number, false);
+    let end = calls::fresh(run, calls::lengths_of(s, None), &mut held);
+    tally.days = tally.days.wrapping_add(1);
+    let told = calls::reading(end.ran.verdict);
+    if told.is_some() {
+        tally.drawn.count(told, false);
+        return;
     }
-    let w = lent_wrong(made, held, turns_of(seed ^ 8, TURNS, 0, made, held, u));
-    turns_of(seed ^ 32, TURNS_SPOILT, SPOILT, made, held, w)
+    let made = end.ran.run;
+    turns_of(asks::drawn, seed ^ 8, TURNS, made, held, &mut tally.drawn);
+    for list in LISTS {
+        let due = calls::checked(5, list as usize);
+        let agrees = turns::is_refused(made, Some(list), held, Some(due));
+        tally.spoilt.count(Some(due), agrees);
+    }
+    turns_of(
+        asks::drawn_spoilt,
+        seed ^ 32,
+        TURNS_SPOILT,
+        made,
+        held,
+        &mut tally.spoilt,
+    );
 }
 
 // The most points of an axis for which d cores of a rank stay within the room.
 fn most_points(d: usize, rank: usize) -> usize {
-    if (d < 5) | (rank < 5) {
-        return 16;
-    }
-    4
+    if d < 5 || rank < 5 { 16 } else { 4 }
 }
 
+// Every number of cores with every limit of ranks.
 fn days() -> Tally {
     let mut seed = 88172645463325252;
     let mut tally = Tally {
-        counts: [0; COUNTS],
+        days: 0,
+        drawn: Counts::none(),
+        spoilt: Counts::none(),
     };
-    let mut i = 0;
-    while i < DAYS {
-        let d = 1 + i % 16;
-        let rank = 1 + i / 16;
-        let s = plans::shape(seed, d, rank, most_points(d, rank));
-        tally = day(seed, s, tally);
-        seed = chance::next(seed ^ 16);
-        i += 1;
+    for rank in 1..=shape::MOST_RANK {
+        for d in 1..=shape::MOST_AXES {
+            let s = plans::shape(seed, d, rank, most_points(d, rank));
+            day(seed, s, &mut tally);
+            seed = chance::next(seed ^ 16);
+        }
     }
     tally
 }
 
-// A line of words and a count.
-fn line(rt: &impl Print, words: &[u8], t: Tally, from: usize, what: usize) -> io::Result<()> {
-    rt.write_all(words)?;
-    let k = std::num::wrapping_add_usize(from, what);
-    if k < COUNTS {
-        rt.print(t.counts[k])?;
+fn print(rt: &impl Print, counts: &Counts) -> io::Result<()> {
+    println!(rt; "replaced {}", counts.replaced)?;
+    for number in [2, 3, 4, 5, 6, 7, 8, 9, 12, 13, 14] {
+        println!(rt; "refused {number}: {}", counts.refused[number])?;
     }
-    rt.write_all(b"\n")
-}
-
-// What is counted from a place on.
-fn lines(rt: &impl Print, t: Tally, from: usize) -> io::Result<()> {
-    line(rt, b"replaced ", t, from, 0)?;
-    line(rt, b"refused 2: ", t, from, 2)?;
-    line(rt, b"refused 3: ", t, from, 3)?;
-    line(rt, b"refused 4: ", t, from, 4)?;
-    line(rt, b"refused 5: ", t, from, 5)?;
-    line(rt, b"refused 6: ", t, from, 6)?;
-    line(rt, b"refused 7: ", t, from, 7)?;
-    line(rt, b"refused 8: ", t, from, 8)?;
-    line(rt, b"refused 9: ", t, from, 9)?;
-    line(rt, b"refused 12: ", t, from, 12)?;
-    line(rt, b"refused 13: ", t, from, 13)?;
-    line(rt, b"refused 14: ", t, from, 14)?;
-    line(rt, b"turns ", t, from, TURN)?;
-    line(rt, b"agreed ", t, from, AGREED)
+    println!(rt; "turns {}", counts.turns)?;
+    println!(rt; "agreed {}", counts.agreed)
 }
 
 fn main(rt: HostRuntime) -> io::Result<()> {
-    let t = days();
-    line(&rt, b"days ", t, 0, DAY)?;
-    lines(&rt, t, 0)?;
-    rt.write_all(b"spoilt by others, and lent wrong\n")?;
-    lines(&rt, t, SPOILT)
+    let tally = days();
+    println!(rt; "days {}", tally.days)?;
+    print(&rt, &tally.drawn)?;
+    println!(rt; "spoilt by others, and lent wrong")?;
+    print(&rt, &tally.spoilt)
 }

@@ -1,103 +1,96 @@
 // One turn of a day: a replacement, and a fresh run beside it, compared.
 use crate::calls;
-use drawing::{asks, parts};
+use crate::calls::Told;
+use drawing::asks::{Ask, Flaw, Held, Kind, List};
+use drawing::{asks, parts, plans};
 
 // Whether a fresh run with the new part in is to answer the same, but for a shift that is made too far.
-fn as_fresh(q: asks::Ask) -> bool {
-    (asks::NOT_FINITE <= q.flaw) & (q.flaw < asks::SPOILT) | (q.flaw == asks::OLD_TOO_FAR)
+fn as_fresh(q: Ask) -> bool {
+    match q.flaw {
+        None => true,
+        Some(
+            Flaw::NotFinite
+            | Flaw::BelowZero
+            | Flaw::Unknown
+            | Flaw::TooFar
+            | Flaw::Overflow
+            | Flaw::OldTooFar,
+        ) => true,
+        _ => false,
+    }
 }
 
 // Whether a replacement shifts the axis whose record others wrote to: one of a core, of a zone not behind it, as long as time goes on.
-fn is_shifted(q: asks::Ask, set: stepform::Settings) -> bool {
-    (q.kind == asks::CORE) & (q.zone <= q.spot) & (0.0 < set.tau)
+fn is_shifted(q: Ask, set: stepform::Settings) -> bool {
+    q.kind == Kind::Core && q.zone <= q.spot && 0.0 < set.tau
 }
 
-// What is to be told of a run that others wrote to, by the flaw.
-fn expected_spoilt(q: asks::Ask, set: stepform::Settings, fresh: calls::Told) -> calls::Told {
-    if (q.flaw == asks::OLD_TOO_FAR) & !is_shifted(q, set) {
-        return fresh;
+// The place of a list in a call; behind a new part scratch is one further on.
+fn place(list: List, kind: Kind) -> usize {
+    match (list, kind) {
+        (List::Scratch, Kind::Core | Kind::Weights) => 6,
+        _ => list as usize,
     }
-    let mut lower = q.spot;
-    if q.zone < q.spot {
-        lower = q.zone;
-    }
-    let numbers = [6, 7, 6, 7, 7, 6, 2, 6, 8];
-    let places = [0, 0, q.spot, q.spot, q.spot, q.spot, q.spot, lower, q.spot];
-    let k = drawing::chance::below(q.flaw, asks::KINDS_SPOILT);
-    calls::checked(numbers[k], places[k])
 }
 
-// What is to be told: as a fresh run, where there can be one, and else by the flaw.
-fn expected(q: asks::Ask, set: stepform::Settings, fresh: calls::Told) -> calls::Told {
-    let flaw = q.flaw;
-    if asks::SPOILT <= flaw {
-        return expected_spoilt(q, set, fresh);
-    }
-    if asks::NOT_FINITE <= flaw {
-        return fresh;
-    }
-    let mut lent = q.lent;
-    if (lent == asks::SCRATCH) & (q.kind != asks::AXIS) {
-        lent = 6;
-    }
-    let numbers = [3, 3, 4, 5, 5, 6, 6];
-    let places = [q.spot, q.spot, 0, 5, lent, q.spot, 0];
-    calls::checked(numbers[flaw], places[flaw])
+// What is to be told: by the flaw, or as a fresh run, where there can be one.
+fn expected(q: Ask, set: stepform::Settings, fresh: Option<Told>) -> Option<Told> {
+    let (number, place) = match q.flaw {
+        Some(Flaw::RankZero | Flaw::RankAbove) => (3, q.spot),
+        Some(Flaw::Zone) => (4, 0),
+        Some(Flaw::Part) => (5, 5),
+        Some(Flaw::Lent(list)) => (5, place(list, q.kind)),
+        Some(Flaw::Held(_)) => (6, q.spot),
+        Some(Flaw::Figure) => (6, 0),
+        Some(Flaw::LoneNotFinite) => (6, 0),
+        Some(Flaw::LoneOutOfOrder) => (7, 0),
+        Some(Flaw::OldNotFinite | Flaw::TwoSettings) => (6, q.spot),
+        Some(Flaw::OldBelowZero | Flaw::OldUnknown) => (7, q.spot),
+        Some(Flaw::SizeAndZone) => (2, q.spot),
+        Some(Flaw::TwoNumbers(_)) => (6, q.spot.min(q.zone)),
+        Some(Flaw::OldTooFar) if is_shifted(q, set) => (8, q.spot),
+        _ => return fresh,
+    };
+    Some(calls::checked(number, place))
 }
 
 // ---- the fresh run
 // The run with a new record that is in order, or its lists with a new part.
-fn renewed(
-    q: asks::Ask,
-    r: runform::Run,
-    part: &[f64],
-    held: &mut [f64; calls::HELD],
-) -> runform::Run {
-    let mut run = r;
+fn renewed(q: Ask, r: runform::Run, part: &[f64], held: &mut [f64; calls::HELD]) -> runform::Run {
+    if !as_fresh(q) {
+        return r;
+    }
+    let at = plans::starts(r.shape, q.zone);
     let mut xs = r.axes;
-    let s = r.shape;
-    let z = q.zone;
-    let a = q.axis;
-    if as_fresh(q) {
-        let at = drawing::plans::starts(s, z);
-        if q.kind == asks::CORE {
-            parts::paste(at.core, part, held);
-        }
-        if q.kind == asks::WEIGHTS {
-            parts::paste(
-                std::num::wrapping_add_usize(calls::WEIGHTS, at.weights),
-                part,
-                held,
-            );
-        }
-        if q.kind == asks::AXIS {
-            if z < shape::MOST_AXES {
-                xs[z] = a;
+    match q.kind {
+        Kind::Core => parts::paste(at.core, part, held),
+        Kind::Weights => parts::paste(calls::WEIGHTS.wrapping_add(at.weights), part, held),
+        Kind::Axis => {
+            if let Some(x) = xs.get_mut(q.zone) {
+                *x = q.axis;
             }
         }
     }
+    let mut run = r;
     run.axes = xs;
     run
 }
 
 // ---- what others wrote
 // What is said of a bond, with a rank that none can have, or a dropped value that isn't finite; `right` is the source's there.
-fn spoilt_bond(q: asks::Ask, b: cutform::Bond, right: usize) -> cutform::Bond {
+fn spoilt_bond(q: Ask, b: cutform::Bond, right: usize) -> cutform::Bond {
     let mut t = b;
-    if q.flaw == asks::RANK_ZERO {
-        t.rank = 0;
-    }
-    if q.flaw == asks::RANK_ABOVE {
-        t.rank = std::num::wrapping_add_usize(right, 1);
-    }
-    if q.spoilt == asks::DROPPED {
-        t.dropped = q.wrong;
+    match q.flaw {
+        Some(Flaw::RankZero) => t.rank = 0,
+        Some(Flaw::RankAbove) => t.rank = right.wrapping_add(1),
+        Some(Flaw::Held(Held::Dropped) | Flaw::TwoNumbers(Held::Dropped)) => t.dropped = q.wrong,
+        _ => {}
     }
     t
 }
 
 // The record as others wrote to it.
-fn spoilt(q: asks::Ask, r: runform::Run) -> runform::Run {
+fn spoilt(q: Ask, r: runform::Run) -> runform::Run {
     let mut t = r;
     let mut s = r.shape;
     let mut xs = r.axes;
@@ -106,12 +99,12 @@ fn spoilt(q: asks::Ask, r: runform::Run) -> runform::Run {
     let k = q.spot;
     if k < shape::MOST_AXES {
         xs[k] = asks::spoilt_axis(q, xs[k]);
-        if q.flaw == asks::SIZE_AND_ZONE {
+        if q.flaw == Some(Flaw::SizeAndZone) {
             s.n[k] = 0;
         }
         bonds[k] = spoilt_bond(q, bonds[k], s.right[k]);
     }
-    if q.flaw == asks::FIGURE {
+    if q.flaw == Some(Flaw::Figure) {
         t.figure = q.wrong;
     }
     t.shape = s;
@@ -122,9 +115,9 @@ fn spoilt(q: asks::Ask, r: runform::Run) -> runform::Run {
 }
 
 // The record as it was before others wrote to it, of a replacement that was made all the same.
-fn mended(q: asks::Ask, a: runform::Run, r: runform::Run) -> runform::Run {
+fn mended(q: Ask, a: runform::Run, r: runform::Run) -> runform::Run {
     let mut t = a;
-    if q.flaw == asks::OLD_TOO_FAR {
+    if q.flaw == Some(Flaw::OldTooFar) {
         let xs = r.axes;
         t.axes = xs;
     }
@@ -132,89 +125,79 @@ fn mended(q: asks::Ask, a: runform::Run, r: runform::Run) -> runform::Run {
 }
 
 // Where they wrote to a list, or behind all.
-fn spoilt_place(q: asks::Ask, s: shape::Shape) -> usize {
-    let list = q.spoilt;
-    if 4 < list {
-        return calls::HELD;
+fn spoilt_place(q: Ask, s: shape::Shape) -> usize {
+    let at = plans::starts(s, q.spot);
+    match q.flaw.and_then(Flaw::held) {
+        Some(Held::List(List::Source)) => at.core,
+        Some(Held::List(List::Weights)) => calls::WEIGHTS.wrapping_add(at.weights),
+        Some(Held::List(List::Chain)) => calls::CHAIN.wrapping_add(at.core),
+        Some(Held::List(List::Carries)) => calls::CARRIES.wrapping_add(at.carry),
+        Some(Held::List(List::Sums)) => calls::SUMS.wrapping_add(at.sums),
+        _ => calls::HELD,
     }
-    let at = drawing::plans::starts(s, q.spot);
-    let lists = [0, calls::WEIGHTS, calls::CHAIN, calls::CARRIES, calls::SUMS];
-    let zones = [at.core, at.weights, at.core, at.carry, at.sums];
-    std::num::wrapping_add_usize(lists[list], zones[list])
 }
 
-fn replace(
-    q: asks::Ask,
-    r: runform::Run,
-    part: &[f64],
-    held: &mut [f64; calls::HELD],
-) -> calls::Ended {
-    let s = r.shape;
-    let n = calls::lengths_of(s, q.lent);
-    if q.kind == asks::CORE {
-        return calls::core(q, r, n, part, held);
+fn replace(q: Ask, r: runform::Run, part: &[f64], held: &mut [f64; calls::HELD]) -> calls::Ended {
+    let lent = match q.flaw {
+        Some(Flaw::Lent(list)) => Some(list),
+        _ => None,
+    };
+    let n = calls::lengths_of(r.shape, lent);
+    match q.kind {
+        Kind::Core => calls::core(q, r, n, part, held),
+        Kind::Weights => calls::weights(q, r, n, part, held),
+        Kind::Axis => calls::axis(q, r, n, held),
     }
-    if q.kind == asks::WEIGHTS {
-        return calls::weights(q, r, n, part, held);
-    }
-    calls::axis(q, r, n, held)
 }
 
 // The replacement on the run as others wrote to it, where that is the flaw; what they wrote must stand after it, and is put right.
 fn replace_spoilt(
-    q: asks::Ask,
+    q: Ask,
     r: runform::Run,
     part: &[f64],
     held: &mut [f64; calls::HELD],
 ) -> calls::Ended {
-    let s = r.shape;
-    let at = spoilt_place(q, s);
+    let at = spoilt_place(q, r.shape);
     let was = parts::exchanged(held, at, q.wrong);
-    let t = spoilt(q, r);
-    let end = replace(q, t, part, held);
+    let mut end = replace(q, spoilt(q, r), part, held);
     let found = parts::exchanged(held, at, was);
-    let ran = end.ran;
-    let stands = comparing::same_number(found, q.wrong);
-    calls::Ended {
-        ran,
-        clean: end.clean & stands,
-    }
+    end.clean = end.clean && comparing::same_number(found, q.wrong);
+    end
 }
 
 // ---- the comparison
 fn same_axis(a: stepform::Axis, b: stepform::Axis) -> bool {
-    let shift = comparing::same_number(a.a, b.a) & comparing::same_number(a.b, b.b);
-    let ends = comparing::same_number(a.xmin, b.xmin) & comparing::same_number(a.xmax, b.xmax);
-    shift & ends & (a.boundary == b.boundary)
+    comparing::same_number(a.a, b.a)
+        && comparing::same_number(a.b, b.b)
+        && comparing::same_number(a.xmin, b.xmin)
+        && comparing::same_number(a.xmax, b.xmax)
+        && a.boundary == b.boundary
 }
 
-// Whether two runs are made from shapes and records that are the same.
-fn same_zones(a: runform::Run, b: runform::Run) -> bool {
-    let s = a.shape;
-    let t = b.shape;
-    let x = a.axes;
-    let y = b.axes;
-    let mut same = s.d == t.d;
-    let mut k = 0;
-    while k < shape::MOST_AXES {
-        let ranks = (s.left[k] == t.left[k]) & (s.right[k] == t.right[k]);
-        let axis = same_axis(x[k], y[k]);
-        same = same & ranks & (s.n[k] == t.n[k]) & axis;
-        k += 1;
-    }
-    same
+fn same_shape(s: shape::Shape, t: shape::Shape) -> bool {
+    s.d == t.d && s.left == t.left && s.n == t.n && s.right == t.right
+}
+
+fn same_settings(s: stepform::Settings, t: stepform::Settings) -> bool {
+    comparing::same_number(s.tau, t.tau)
+        && comparing::same_number(s.c, t.c)
+        && comparing::same_number(s.cutting.eps, t.cutting.eps)
+        && s.cutting.mode == t.cutting.mode
+}
+
+fn same_axes(
+    xs: [stepform::Axis; shape::MOST_AXES],
+    ys: [stepform::Axis; shape::MOST_AXES],
+) -> bool {
+    xs.iter().zip(&ys).all(|(x, y)| same_axis(*x, *y))
 }
 
 // Two records, in every field.
 fn same_run(a: runform::Run, b: runform::Run) -> bool {
-    let s = a.set;
-    let t = b.set;
-    let times = comparing::same_number(s.tau, t.tau) & comparing::same_number(s.c, t.c);
-    let way = s.cutting;
-    let other_way = t.cutting;
-    let cut = comparing::same_number(way.eps, other_way.eps) & (way.mode == other_way.mode);
-    let settings = times & cut;
-    settings & same_zones(a, b) & comparing::same_record(a, b)
+    same_settings(a.set, b.set)
+        && same_shape(a.shape, b.shape)
+        && same_axes(a.axes, b.axes)
+        && comparing::same_record(a, b)
 }
 
 // What was found of the lists: as the fresh run's, as they were, and what is kept of the zones before z as it was.
@@ -226,7 +209,7 @@ struct Found {
 }
 
 fn look(
-    n: drawing::plans::Places,
+    n: plans::Places,
     held: &[f64; calls::HELD],
     before: &[f64; calls::HELD],
     fresh: &[f64; calls::HELD],
@@ -252,38 +235,33 @@ fn look(
 
 // Whether an answer is right: one that is no refusal has the fresh run's bits, what others wrote, and no zone before the named one
 // written; a refused one left the run alone, and the run, where the flaw is none of its inputs', is still the fresh one.
-fn right(q: asks::Ask, r: runform::Run, got: runform::Ran, want: runform::Ran, f: Found) -> bool {
-    let v = got.verdict;
-    let w = want.verdict;
-    let a = got.run;
-    let b = want.run;
-    let set = r.set;
-    let told = calls::reading(v);
-    let due = expected(q, set, calls::reading(w));
-    let agrees = calls::same_told(told, due);
-    if told.number == 0 {
-        return agrees & same_run(a, spoilt(q, b)) & f.fresh & f.apart;
+fn right(q: Ask, r: runform::Run, got: runform::Ran, want: runform::Ran, f: Found) -> bool {
+    let told = calls::reading(got.verdict);
+    if told != expected(q, r.set, calls::reading(want.verdict)) {
+        return false;
     }
-    let t = spoilt(q, r);
-    let left = agrees & same_run(a, t) & f.still;
-    left & (as_fresh(q) | (same_run(r, b) & f.fresh))
+    match told {
+        None => same_run(got.run, spoilt(q, want.run)) && f.fresh && f.apart,
+        Some(_) => {
+            same_run(got.run, spoilt(q, r))
+                && f.still
+                && (as_fresh(q) || same_run(r, want.run) && f.fresh)
+        }
+    }
 }
 
-// The run after a turn and its lists, the number of its refusal, 0 for none, and whether all was as it must be.
+// The run after a turn and its lists, what was told, and whether all was as it must be.
 #[derive(Clone, Copy)]
 pub struct Turned {
     pub run: runform::Run,
     pub held: [f64; calls::HELD],
-    pub number: usize,
+    pub told: Option<Told>,
     pub agrees: bool,
 }
 
 // Whether a fresh run that is refused left alone what it was to write.
 fn unwritten(v: Result<(), answers::Refusal>, held: &[f64; calls::HELD]) -> bool {
-    if calls::reading(v).number == 0 {
-        return true;
-    }
-    calls::all_are(parts::window(held, calls::CHAIN, calls::KEPT), calls::MARK)
+    v.is_ok() || calls::all_are(parts::window(held, calls::CHAIN, calls::KEPT), calls::MARK)
 }
 
 // ---- unused room
@@ -303,18 +281,17 @@ fn size_of(left: usize, n: usize, right: usize) -> usize {
         n: points,
         right: rights,
     };
-    let from = drawing::plans::starts(s, 1);
-    let to = drawing::plans::starts(s, 2);
-    std::num::wrapping_sub_usize(to.core, from.core)
+    let to = plans::starts(s, 2).core;
+    to.wrapping_sub(plans::starts(s, 1).core)
 }
 
 // Whether a slot of a list, from one place to another, is +0 behind its first `used` numbers.
 fn is_clear(held: &[f64; calls::HELD], list: usize, from: usize, to: usize, used: usize) -> bool {
-    let size = std::num::wrapping_sub_usize(to, from);
+    let size = to.wrapping_sub(from);
     if size < used {
         return size == 0;
     }
-    let at = std::num::wrapping_add_usize(list, std::num::wrapping_add_usize(from, used));
+    let at = list.wrapping_add(from.wrapping_add(used));
     calls::all_are(parts::window(held, at, size - used), 0.0)
 }
 
@@ -328,8 +305,8 @@ fn zone_clear(
     kept: usize,
     held: &[f64; calls::HELD],
 ) -> bool {
-    let at = drawing::plans::starts(s, k);
-    let to = drawing::plans::starts(s, std::num::wrapping_add_usize(k, 1));
+    let at = plans::starts(s, k);
+    let to = plans::starts(s, k.wrapping_add(1));
     let core = is_clear(held, calls::CHAIN, at.core, to.core, size_of(left, n, kept));
     let carry = is_clear(
         held,
@@ -338,27 +315,21 @@ fn zone_clear(
         to.carry,
         size_of(kept, right, 1),
     );
-    core & carry & is_clear(held, calls::SUMS, at.sums, to.sums, kept)
+    core && carry && is_clear(held, calls::SUMS, at.sums, to.sums, kept)
 }
 
 // The same of all zones.
 fn room_clear(r: runform::Run, held: &[f64; calls::HELD]) -> bool {
     let s = r.shape;
-    let bonds = r.bonds;
     let mut left = 1;
-    let mut all = true;
-    for k in 0..shape::MOST_AXES {
-        if k < s.d {
-            let mut kept = 1;
-            if k + 1 < s.d {
-                kept = bonds[k].rank;
-            }
-            let zone = zone_clear(s, k, left, s.n[k], s.right[k], kept, held);
-            all = all & zone;
-            left = kept;
+    for k in 0..s.d.min(shape::MOST_AXES) {
+        let kept = if k + 1 < s.d { r.bonds[k].rank } else { 1 };
+        if !zone_clear(s, k, left, s.n[k], s.right[k], kept, held) {
+            return false;
         }
+        left = kept;
     }
-    all
+    true
 }
 
 // ---- fresh runs that are refused
@@ -376,60 +347,63 @@ fn same_lists(a: &[f64; calls::HELD], b: &[f64; calls::HELD]) -> bool {
 }
 
 // Whether a fresh run is refused with what is due, and leaves its lists alone and in its record nothing but what it was given.
-fn is_refused(r: runform::Run, wrong: usize, held: [f64; calls::HELD], due: calls::Told) -> bool {
-    let s = r.shape;
+pub fn is_refused(
+    r: runform::Run,
+    wrong: Option<List>,
+    held: [f64; calls::HELD],
+    due: Option<Told>,
+) -> bool {
     let mut now = held;
-    let end = calls::fresh(r, calls::lengths_of(s, wrong), &mut now);
-    let got = end.ran;
-    let a = got.run;
-    let v = got.verdict;
-    let agrees = calls::same_told(calls::reading(v), due);
-    agrees & end.clean & same_run(a, blank(r)) & same_lists(&now, &held)
-}
-
-// The same of a fresh run that is lent a list of a wrong length.
-pub fn is_refused_by_length(r: runform::Run, list: usize, held: [f64; calls::HELD]) -> bool {
-    is_refused(r, list, held, calls::checked(5, list))
+    let end = calls::fresh(r, calls::lengths_of(r.shape, wrong), &mut now);
+    calls::reading(end.ran.verdict) == due
+        && end.clean
+        && same_run(end.ran.run, blank(r))
+        && same_lists(&now, &held)
 }
 
 // The same of the settings and the axis record that others wrote to, where they are to be refused.
-fn refused_beside(q: asks::Ask, r: runform::Run, held: [f64; calls::HELD]) -> bool {
-    if (q.flaw < asks::SPOILT) | (asks::TWO_SETTINGS < q.flaw) {
-        return true;
+fn refused_beside(q: Ask, r: runform::Run, held: [f64; calls::HELD]) -> bool {
+    match q.flaw {
+        Some(
+            Flaw::LoneNotFinite
+            | Flaw::LoneOutOfOrder
+            | Flaw::OldNotFinite
+            | Flaw::OldBelowZero
+            | Flaw::OldUnknown
+            | Flaw::TwoSettings,
+        ) => is_refused(spoilt(q, r), None, held, expected(q, r.set, None)),
+        _ => true,
     }
-    let set = r.set;
-    let due = expected_spoilt(q, set, calls::checked(0, 0));
-    is_refused(spoilt(q, r), asks::NO_LIST, held, due)
 }
 
 // One turn: what is asked is done on the run that is held, and a fresh run is made beside it.
-pub fn turn(q: asks::Ask, r: runform::Run, held: [f64; calls::HELD], part: &[f64]) -> Turned {
-    let s = r.shape;
+pub fn turn(q: Ask, r: runform::Run, held: [f64; calls::HELD], part: &[f64]) -> Turned {
     let mut now = held;
     let mut fresh = held;
-    lists::fill(&mut fresh[calls::CHAIN..], calls::MARK);
+    fresh[calls::CHAIN..].fill(calls::MARK);
     let end = replace_spoilt(q, r, part, &mut now);
     let with = renewed(q, r, part, &mut fresh);
-    let beside = calls::fresh(with, calls::lengths_of(s, asks::NO_LIST), &mut fresh);
-    let got = end.ran;
-    let want = beside.ran;
-    let w = want.verdict;
-    let alone = unwritten(w, &fresh);
-    let f = look(drawing::plans::starts(s, q.zone), &now, &held, &fresh);
-    let refused = refused_beside(q, r, held);
-    let mut agrees = right(q, r, got, want, f) & end.clean & beside.clean & alone & refused;
-    let v = got.verdict;
-    let number = calls::reading(v).number;
-    let mut run = r;
-    if number == 0 {
-        let made = got.run;
-        run = mended(q, made, r);
-        agrees = agrees & room_clear(made, &now);
-    }
-    Turned {
-        run,
-        held: now,
-        number,
-        agrees,
+    let beside = calls::fresh(with, calls::lengths_of(r.shape, None), &mut fresh);
+    let f = look(plans::starts(r.shape, q.zone), &now, &held, &fresh);
+    let agrees = right(q, r, end.ran, beside.ran, f)
+        && end.clean
+        && beside.clean
+        && unwritten(beside.ran.verdict, &fresh)
+        && refused_beside(q, r, held);
+    let made = end.ran.run;
+    let told = calls::reading(end.ran.verdict);
+    match told {
+        None => Turned {
+            run: mended(q, made, r),
+            held: now,
+            told,
+            agrees: agrees && room_clear(made, &now),
+        },
+        Some(_) => Turned {
+            run: r,
+            held: now,
+            told,
+            agrees,
+        },
     }
 }

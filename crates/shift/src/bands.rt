@@ -31,7 +31,7 @@ pub fn weights_of(ratio: f64) -> [f64; 4]
 }
 
 // Where the rows of a band start, which come again after `period`: at the offsets s0 - 1 to s0 + 2, for the floor s0 of the ratio.
-#[tactic(auto, using(numbers::proofs::Reach::parts_whole, crate::proofs::Starts::starting))]
+#[tactic(auto, using(numbers::proofs::Reach::in_reach_whole, crate::proofs::Starts::starting))]
 pub fn starts_of(ratio: f64, period: usize, rr: usize) -> [usize; 4]
     requires { (1 ≤ period) × (period ≤ 2 * most_points) × (period * rr < 2 ^ 64) × (in_reach ratio ≡ true) }
     ensures { result ≡ starts_of period rr (whole_of ratio) }
