@@ -93,10 +93,8 @@ pub fn plan(eps: f64, mode: usize) -> crate::plans::Plan {
 pub fn rare_plan(mode: usize) -> crate::plans::Plan {
     let mut p = plan(MILLIONTH, mode);
     let mut source = CORES;
-    let mut i = 0;
-    while i < HARBOUR_NUMBERS {
-        source[i] = source[i] * 1e-32;
-        i += 1;
+    for x in &mut source[..HARBOUR_NUMBERS] {
+        *x = *x * 1e-32;
     }
     p.source = source;
     p

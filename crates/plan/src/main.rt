@@ -7,7 +7,7 @@ mod print;
 mod reasons;
 mod table;
 
-use print::say;
+use reasons::Told;
 use std::io::Result;
 
 // The plan so far, and whether it had the bits of a fresh run each time.
@@ -17,150 +17,104 @@ struct State {
     same: bool,
 }
 
-fn refused(rt: &impl Print, q: answers::Refusal) -> Result<()> {
-    say(rt, b"   refused with ")?;
-    print::refusal(rt, q)?;
-    say(rt, b"\n   written: nothing\n")
-}
-
 // What an accepted call writes, from zone z to the last.
-fn written(rt: &impl Print, what: &[u8], z: usize) -> Result<()> {
-    say(rt, b"   written: ")?;
-    say(rt, what)?;
-    say(rt, b" of zones ")?;
-    print::number(rt, z)?;
-    say(rt, b" to ")?;
-    print::number(rt, inputs::ZONES - 1)?;
-    say(rt, b"\n")
+fn written(rt: &impl Print, what: &str, z: usize) -> Result<()> {
+    println!(rt; "   written: {what} of zones {z} to {}", inputs::ZONES - 1)
 }
 
 // What became of the plan, and whether a fresh run has the same bits.
-fn told(rt: &impl Print, before: bool, a: plans::Answer, what: &[u8], z: usize) -> Result<State> {
-    let verdict = a.verdict;
-    match verdict {
+fn told(rt: &impl Print, before: bool, a: plans::Answer, what: &str, z: usize) -> Result<State> {
+    match a.verdict {
         Ok(()) => written(rt, what, z)?,
-        Err(q) => refused(rt, q)?,
+        Err(q) => {
+            println!(rt; "   refused with {}", Told(q))?;
+            println!(rt; "   written: nothing")?;
+        }
     }
     let plan = a.plan;
-    let run = plan.run;
-    say(rt, b"   ")?;
-    print::figure(rt, run.figure)?;
+    print!(rt; "   ")?;
+    print::figure(rt, plan.run.figure)?;
     let same = plans::as_fresh(plan);
-    say(rt, b"   same bits as a fresh run: ")?;
-    print::yes(rt, same)?;
-    say(rt, b"\n\n")?;
+    println!(rt; "   same bits as a fresh run: {}", print::yes(same))?;
+    println!(rt; "")?;
     Ok(State {
         plan,
-        same: before & same,
+        same: before && same,
     })
 }
 
 fn morning(rt: &impl Print) -> Result<State> {
-    say(
-        rt,
-        b"A heating plan of five zones in a row. A zone's load is one of a few points, and the weather ties\n",
+    println!(rt;
+        "A heating plan of five zones in a row. A zone's load is one of a few points, and the weather ties"
     )?;
-    say(
-        rt,
-        b"it to its neighbours: a rank counts the kinds of weather told apart, a kept rank those that rounding\n",
+    println!(rt;
+        "it to its neighbours: a rank counts the kinds of weather told apart, a kept rank those that rounding"
     )?;
-    say(
-        rt,
-        b"leaves, and the largest dropped says how much the strongest of the others counts; sweeps are the work\n",
+    println!(rt;
+        "leaves, and the largest dropped says how much the strongest of the others counts; sweeps are the work"
     )?;
-    say(
-        rt,
-        b"of that, until it is settled. A weight is 1 where a load is within the pipe's limit, and less where\n",
+    println!(rt;
+        "of that, until it is settled. A weight is 1 where a load is within the pipe's limit, and less where"
     )?;
-    say(
-        rt,
-        b"it is not. Loads that spread beyond an end of their axis come in again at the other end; Hospital's are\n",
+    println!(rt;
+        "it is not. Loads that spread beyond an end of their axis come in again at the other end; Hospital's are"
     )?;
-    say(
-        rt,
-        b"reflected. The figure is the chance that every zone is within its limit, a quarter of an hour on.\n\n",
+    println!(rt;
+        "reflected. The figure is the chance that every zone is within its limit, a quarter of an hour on."
     )?;
-    say(rt, b"The fresh run:\n")?;
+    println!(rt; "")?;
+    println!(rt; "The fresh run:")?;
     let a = plans::fresh(inputs::plan(inputs::MILLIONTH, cutform::ABSOLUTE));
-    told(rt, true, a, b"cores, carries and sums", 0)
+    told(rt, true, a, "cores, carries and sums", 0)
 }
 
 fn wider_pipe(rt: &impl Print, now: State) -> Result<State> {
-    say(rt, b"New weights for zone 3, Station: a wider pipe.\n")?;
-    let p = now.plan;
+    println!(rt; "New weights for zone 3, Station: a wider pipe.")?;
     // its fifth load is within the limit
     let part = [1.0, 1.0, 1.0, 1.0, 1.0, 0.5];
-    let a = plans::new_weights(p, inputs::STATION, &part);
-    told(rt, now.same, a, b"sums alone,", inputs::STATION)
+    let a = plans::new_weights(now.plan, inputs::STATION, &part);
+    told(rt, now.same, a, "sums alone,", inputs::STATION)
 }
 
 fn new_forecast(rt: &impl Print, now: State) -> Result<State> {
-    say(rt, b"A new core for zone 1, Old Town: a new forecast.\n")?;
-    let p = now.plan;
+    println!(rt; "A new core for zone 1, Old Town: a new forecast.")?;
     let part = inputs::new_forecast();
-    let a = plans::new_core(p, inputs::OLD_TOWN, &part);
-    told(
-        rt,
-        now.same,
-        a,
-        b"cores, carries and sums",
-        inputs::OLD_TOWN,
-    )
+    let a = plans::new_core(now.plan, inputs::OLD_TOWN, &part);
+    told(rt, now.same, a, "cores, carries and sums", inputs::OLD_TOWN)
 }
 
 // A forecast so wild that its squares are too large: the zone's own Gram matrix is refused.
 fn wild_forecast(rt: &impl Print, now: State) -> Result<State> {
-    say(
-        rt,
-        b"A new core for zone 1, Old Town, with a slip of the pen: 0.024e200 for 0.024.\n",
-    )?;
-    let p = now.plan;
+    println!(rt; "A new core for zone 1, Old Town, with a slip of the pen: 0.024e200 for 0.024.")?;
     let mut part = inputs::new_forecast();
     part[1] = 0.024e200;
-    let a = plans::new_core(p, inputs::OLD_TOWN, &part);
-    told(
-        rt,
-        now.same,
-        a,
-        b"cores, carries and sums",
-        inputs::OLD_TOWN,
-    )
+    let a = plans::new_core(now.plan, inputs::OLD_TOWN, &part);
+    told(rt, now.same, a, "cores, carries and sums", inputs::OLD_TOWN)
 }
 
 // A weight so wild that a partial sum of its zone is too large.
 fn wild_weights(rt: &impl Print, now: State) -> Result<State> {
-    say(
-        rt,
-        b"New weights for zone 0, Harbour, far too large: 1.5e308 for three loads.\n",
-    )?;
-    let p = now.plan;
+    println!(rt; "New weights for zone 0, Harbour, far too large: 1.5e308 for three loads.")?;
     let part = [1.5e308, 1.5e308, 1.5e308, 0.5];
-    let a = plans::new_weights(p, inputs::HARBOUR, &part);
-    told(rt, now.same, a, b"sums alone,", inputs::HARBOUR)
+    let a = plans::new_weights(now.plan, inputs::HARBOUR, &part);
+    told(rt, now.same, a, "sums alone,", inputs::HARBOUR)
 }
 
 fn new_record(rt: &impl Print, now: State, z: usize, x: stepform::Axis) -> Result<State> {
-    let p = now.plan;
-    let a = plans::new_axis(p, z, x);
-    told(rt, now.same, a, b"cores, carries and sums", z)
+    let a = plans::new_axis(now.plan, z, x);
+    told(rt, now.same, a, "cores, carries and sums", z)
 }
 
 // Insulation, first with a slip of the pen.
 fn insulated(rt: &impl Print, now: State) -> Result<State> {
-    say(
-        rt,
-        b"A new axis record for zone 2, Mill, with a slip of the pen: a = -0.01.\n",
-    )?;
+    println!(rt; "A new axis record for zone 2, Mill, with a slip of the pen: a = -0.01.")?;
     let slip = new_record(
         rt,
         now,
         inputs::MILL,
         inputs::axis(-0.01, stepform::PERIODIC),
     )?;
-    say(
-        rt,
-        b"The same with a = 0.01: insulation, the loads spread less.\n",
-    )?;
+    println!(rt; "The same with a = 0.01: insulation, the loads spread less.")?;
     new_record(
         rt,
         slip,
@@ -171,12 +125,9 @@ fn insulated(rt: &impl Print, now: State) -> Result<State> {
 
 // An axis that reflects, first with a boundary that there isn't.
 fn reflecting(rt: &impl Print, now: State) -> Result<State> {
-    say(
-        rt,
-        b"A new axis record for zone 3, Station, with a boundary that isn't known: 2.\n",
-    )?;
+    println!(rt; "A new axis record for zone 3, Station, with a boundary that isn't known: 2.")?;
     let slip = new_record(rt, now, inputs::STATION, inputs::axis(0.04, 2))?;
-    say(rt, b"The same with 1: its loads are reflected too.\n")?;
+    println!(rt; "The same with 1: its loads are reflected too.")?;
     new_record(
         rt,
         slip,
@@ -186,52 +137,41 @@ fn reflecting(rt: &impl Print, now: State) -> Result<State> {
 }
 
 fn show(rt: &impl Print, now: State) -> Result<()> {
-    let p = now.plan;
-    let run = p.run;
-    table::zones(rt, run)?;
-    say(rt, b"\n")
+    table::zones(rt, now.plan.run)?;
+    println!(rt; "")
 }
 
 // The morning's plan at another eps.
 fn at_eps(rt: &impl Print, eps: f64) -> Result<()> {
     let a = plans::fresh(inputs::plan(eps, cutform::ABSOLUTE));
-    let plan = a.plan;
-    let run = plan.run;
-    table::at_eps(rt, eps, run)
+    table::at_eps(rt, eps, a.plan.run)
 }
 
 fn three_eps(rt: &impl Print) -> Result<()> {
-    say(
-        rt,
-        b"The morning's plan at three values of eps: each bond's kept rank, and the largest value that it dropped.\n\n",
+    println!(rt;
+        "The morning's plan at three values of eps: each bond's kept rank, and the largest value that it dropped."
     )?;
-    say(
-        rt,
-        b"     eps      Harbour     Old Town         Mill      Station    chance\n",
-    )?;
+    println!(rt; "")?;
+    println!(rt; "     eps      Harbour     Old Town         Mill      Station    chance")?;
     at_eps(rt, inputs::MILLIONTH)?;
     at_eps(rt, 0.2)?;
     at_eps(rt, 0.3)?;
-    say(rt, b"\n")
+    println!(rt; "")
 }
 
 // How many 10^-32 the chance is in rare weather, in one mode.
 fn rare(rt: &impl Print, mode: usize) -> Result<()> {
     let a = plans::fresh(inputs::rare_plan(mode));
-    let plan = a.plan;
-    let run = plan.run;
-    print::small(rt, run.figure * 1e32, 0)
+    print::small(rt, a.plan.run.figure * 1e32, 0)
 }
 
 fn both_modes(rt: &impl Print) -> Result<()> {
-    say(
-        rt,
-        b"In weather of one chance in 10^32 the morning's chance, in 10^-32, is ",
-    )?;
+    print!(rt; "In weather of one chance in 10^32 the morning's chance, in 10^-32, is ")?;
     rare(rt, cutform::ABSOLUTE)?;
-    say(rt, b" in absolute mode, ")?;
+    print!(rt; " in absolute mode, ")?;
     rare(rt, cutform::SCALED)?;
-    say(rt, b" in scaled mode.\n\n")
+    println!(rt; " in scaled mode.")?;
+    println!(rt; "")
 }
 
 fn main(rt: HostRuntime) -> Result<()> {
@@ -241,11 +181,13 @@ fn main(rt: HostRuntime) -> Result<()> {
     let c = wild_forecast(&rt, wild_weights(&rt, b)?)?;
     let d = new_forecast(&rt, c)?;
     let e = reflecting(&rt, insulated(&rt, d)?)?;
-    say(&rt, b"At the end of the day:\n\n")?;
+    println!(rt; "At the end of the day:")?;
+    println!(rt; "")?;
     show(&rt, e)?;
     three_eps(&rt)?;
     both_modes(&rt)?;
-    say(&rt, b"Every run had the bits of a fresh run: ")?;
-    print::yes(&rt, e.same)?;
-    say(&rt, b"\n")
+    println!(rt;
+        "Every run had the bits of a fresh run: {}",
+        print::yes(e.same)
+    )
 }
