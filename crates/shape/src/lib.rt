@@ -43,7 +43,7 @@ pub const MOST_SUMS: usize = MOST_AXES * MOST_RANK;
 
 // d cores; core k has the sizes left[k], n[k], right[k]. Both ranks of a bond stand in it, since a chain in memory may
 // have neighbours that differ.
-#[derive(Clone, Copy)]
+#[derive(Clone, Copy, Debug, PartialEq, Eq)]
 pub struct Shape {
     pub d: usize,
     pub left: [usize; MOST_AXES],

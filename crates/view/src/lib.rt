@@ -7,7 +7,7 @@ ghost use Rattle.shape.specs.Sizes.{SizesWithin};
 ghost use Rattle.view.specs.View.{core_spot, spot_of, view_of, seen_at, seen};
 
 // Where a core stands in its chain, and its sizes.
-#[derive(Clone, Copy)]
+#[derive(Clone, Copy, Debug, PartialEq, Eq)]
 pub struct Spot {
     pub start: usize,
     pub rl: usize,
