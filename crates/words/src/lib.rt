@@ -68,6 +68,7 @@ fn f64_at(bytes: &[u8], p: usize) -> f64
 }
 
 // As many numbers as out has, from p on, all of them finite.
+#[tactic(auto, using(crate::proofs::Runs::number_finite))]
 pub fn numbers(bytes: &[u8], p: usize, out: &mut [f64])
     requires { (p + 8 * length out.old ≤ length bytes.now) × (all_finite (numbers_from bytes.now p (length out.old)) ≡ true) }
     ensures { out.new ≡ numbers_from bytes.now p (length out.old) }
@@ -114,6 +115,7 @@ pub fn put(src: &[u8], out: &mut [u8], p: usize)
 }
 
 // The bytes of finite numbers, one after another from p on.
+#[tactic(auto, using(lists::proofs::Floats::finite_get_d_lem, crate::proofs::Runs::write_none, crate::proofs::Runs::write_more))]
 pub fn put_numbers(list: &[f64], out: &mut [u8], p: usize)
     requires { (p + 8 * length list.now ≤ length out.old) × (all_finite list.now ≡ true) }
     ensures { out.new ≡ placed p (bytes_of_all list.now) out.old }
