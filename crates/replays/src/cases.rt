@@ -60,29 +60,22 @@ pub fn lent(input: Stdin, room: &mut [f64]) -> &mut [f64] {
 // How many numbers follow, then each: the front of a room that holds them.
 pub fn list(input: Stdin, room: &mut [f64]) -> &mut [f64] {
     let list = lent(input, room);
-    let mut i = 0;
-    while i < list.len() {
-        list[i] = number(input);
-        i += 1;
+    for x in list.iter_mut() {
+        *x = number(input);
     }
     list
 }
 
 // The word that follows while i is below n, then `rest`.
 fn wanted(input: Stdin, i: usize, n: usize, rest: usize) -> usize {
-    if i < n {
-        return word(input);
-    }
-    rest
+    if i < n { word(input) } else { rest }
 }
 
 // The n sizes that follow, and 0 behind them; of more than an array has, those that it has.
 fn sizes(input: Stdin, n: usize) -> [usize; shape::MOST_AXES] {
     let mut list = [0; shape::MOST_AXES];
-    let mut k = 0;
-    while k < shape::MOST_AXES {
+    for k in 0..shape::MOST_AXES {
         list[k] = wanted(input, k, n, 0);
-        k += 1;
     }
     list
 }
@@ -120,10 +113,8 @@ pub fn holds(input: Stdin, list: &[f64]) -> bool {
     let n = word(input);
     let rest = word(input);
     let mut all = n <= list.len();
-    let mut i = 0;
-    while i < list.len() {
-        all = all & (digits::pattern(list[i]) == wanted(input, i, n, rest) as u64);
-        i += 1;
+    for (i, x) in list.iter().enumerate() {
+        all &= digits::pattern(*x) == wanted(input, i, n, rest) as u64;
     }
     all
 }
@@ -132,20 +123,10 @@ pub fn holds(input: Stdin, list: &[f64]) -> bool {
 pub fn counts(input: Stdin, list: [usize; shape::MOST_AXES]) -> bool {
     let n = word(input);
     let mut all = true;
-    let mut k = 0;
-    while k < shape::MOST_AXES {
-        all = all & (list[k] == wanted(input, k, n, 0));
-        k += 1;
+    for k in 0..shape::MOST_AXES {
+        all &= list[k] == wanted(input, k, n, 0);
     }
     all
-}
-
-// The rank that bond k of n was given, and 0 behind them.
-fn given(k: usize, n: usize, rank: usize) -> usize {
-    if k < n {
-        return rank;
-    }
-    0
 }
 
 // Whether the sweeps that follow, how many and each, are those of the first bonds, and 0 behind them; a bond's rank is the shape's.
@@ -156,12 +137,10 @@ pub fn sweeps(
 ) -> bool {
     let n = word(input);
     let mut all = true;
-    let mut k = 0;
-    while k < shape::MOST_AXES {
+    for k in 0..shape::MOST_AXES {
         let b = list[k];
-        let rank = b.rank == given(k, n, right[k]);
-        all = all & rank & (b.sweeps == wanted(input, k, n, 0));
-        k += 1;
+        all &= b.rank == if k < n { right[k] } else { 0 };
+        all &= b.sweeps == wanted(input, k, n, 0);
     }
     all
 }
@@ -170,10 +149,8 @@ pub fn sweeps(
 pub fn flags(input: Stdin, list: [cutform::Bond; shape::MOST_AXES]) -> bool {
     let n = word(input);
     let mut all = true;
-    let mut k = 0;
-    while k < shape::MOST_AXES {
-        all = all & (list[k].settled == (wanted(input, k, n, 0) == 1));
-        k += 1;
+    for k in 0..shape::MOST_AXES {
+        all &= list[k].settled == (wanted(input, k, n, 0) == 1);
     }
     all
 }
@@ -182,10 +159,8 @@ pub fn flags(input: Stdin, list: [cutform::Bond; shape::MOST_AXES]) -> bool {
 pub fn dropped(input: Stdin, list: [cutform::Bond; shape::MOST_AXES]) -> bool {
     let n = word(input);
     let mut all = true;
-    let mut k = 0;
-    while k < shape::MOST_AXES {
-        all = all & (digits::pattern(list[k].dropped) == wanted(input, k, n, 0) as u64);
-        k += 1;
+    for k in 0..shape::MOST_AXES {
+        all &= digits::pattern(list[k].dropped) == wanted(input, k, n, 0) as u64;
     }
     all
 }
@@ -203,10 +178,6 @@ pub fn shape_is(input: Stdin, s: shape::Shape) -> bool {
 }
 
 // A line of standard output: words, how many cases there are, and how many agree.
-pub fn print(rt: &impl Print, words: &[u8], cases: usize, good: usize) -> io::Result<()> {
-    rt.write_all(words)?;
-    rt.print(cases)?;
-    rt.write_all(b" agree ")?;
-    rt.print(good)?;
-    rt.write_all(b"\n")
+pub fn print(rt: &impl Print, words: &str, cases: usize, good: usize) -> io::Result<()> {
+    println!(rt; "{words} {cases} agree {good}")
 }

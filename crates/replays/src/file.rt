@@ -35,10 +35,8 @@ fn byte(input: Stdin) -> u8 {
 // Whether the bytes that follow are these.
 fn same_bytes(input: Stdin, got: &[u8]) -> bool {
     let mut all = crate::cases::word(input) == got.len();
-    let mut i = 0;
-    while i < got.len() {
-        all = all & (got[i] == byte(input));
-        i += 1;
+    for b in got {
+        all &= *b == byte(input);
     }
     all
 }

@@ -18,49 +18,45 @@ use std::io::Stdin;
 // Above the cases of any list: a count that is out of step is cut down, so that the program ends.
 const MOST_CASES: usize = 4096;
 
-fn agrees(input: Stdin, list: usize) -> bool {
-    match list {
-        0 => inner::agrees(input),
-        1 => round::agrees(input),
-        2 => step::agrees(input),
-        3 => pairs::agrees(input),
-        4 => start::agrees(input),
-        5 => entry::agrees(input),
-        _ => file::agrees(input),
-    }
-}
-
-fn agreed(input: Stdin, list: usize, cases: usize) -> usize {
-    let mut good = 0;
-    let mut i = 0;
-    while i < cases {
-        if agrees(input, list) {
-            good += 1;
-        }
-        i += 1;
-    }
-    good
-}
-
-fn replayed(rt: &impl Print, input: Stdin, words: &[u8], list: usize) -> io::Result<()> {
+// The cases that follow, as many as it says, each judged by `agrees`.
+fn replayed<F: Fn(Stdin) -> bool>(
+    rt: &impl Print,
+    input: Stdin,
+    words: &str,
+    agrees: &F,
+) -> io::Result<()>
+    requires { F.IsAlwaysCallable agrees.now }
+{
     let cases = cases::word(input);
-    let good = agreed(input, list, cases % MOST_CASES);
+    let mut good: usize = 0;
+    for _ in 0..cases % MOST_CASES {
+        if agrees(input) {
+            good = good.wrapping_add(1);
+        }
+    }
     cases::print(rt, words, cases, good)
 }
 
 // A list, then the wrong answers behind it.
-fn both(rt: &impl Print, input: Stdin, words: &[u8], list: usize) -> io::Result<()> {
-    replayed(rt, input, words, list)?;
-    replayed(rt, input, b"  made wrong ", list)
+fn both<F: Fn(Stdin) -> bool>(
+    rt: &impl Print,
+    input: Stdin,
+    words: &str,
+    agrees: F,
+) -> io::Result<()>
+    requires { F.IsAlwaysCallable agrees }
+{
+    replayed(rt, input, words, &agrees)?;
+    replayed(rt, input, "  made wrong", &agrees)
 }
 
 fn main(rt: HostRuntime) -> io::Result<()> {
     let input = rt.stdin();
-    both(&rt, input, b"inner products ", 0)?;
-    both(&rt, input, b"roundings ", 1)?;
-    both(&rt, input, b"steps and evolves ", 2)?;
-    both(&rt, input, b"pairs ", 3)?;
-    both(&rt, input, b"starts ", 4)?;
-    both(&rt, input, b"entries ", 5)?;
-    both(&rt, input, b"chain files ", 6)
+    both(&rt, input, "inner products", inner::agrees)?;
+    both(&rt, input, "roundings", round::agrees)?;
+    both(&rt, input, "steps and evolves", step::agrees)?;
+    both(&rt, input, "pairs", pairs::agrees)?;
+    both(&rt, input, "starts", start::agrees)?;
+    both(&rt, input, "entries", entry::agrees)?;
+    both(&rt, input, "chain files", file::agrees)
 }

@@ -22,10 +22,8 @@ fn record(input: Stdin) -> stepform::Axis {
 // The axis records that follow; one too many is refused by its count, wherever it stands.
 fn records(input: Stdin, count: usize) -> [stepform::Axis; shape::MOST_AXES] {
     let mut list = [axes::BLANK; shape::MOST_AXES];
-    let mut k = 0;
-    while k < count {
+    for k in 0..count {
         list[k % shape::MOST_AXES] = record(input);
-        k += 1;
     }
     list
 }
