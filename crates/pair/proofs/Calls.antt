@@ -73,7 +73,8 @@ module _ (l r : Core) (eps : Float) (left_out right_out scratch : List Float) wh
     rw (f.right_length, c.right_roomy) (mul-le-mul_right r.rr (mul-le-mul_right r.n f.within_limit)),
   )
 
-  by_accepted : (h : Halves) → (pair_ok l r eps (length left_out) (length right_out) (length scratch) then pair_of eps l r) ≡ Ok h → Accepted l r eps left_out right_out scratch (record { rank = h.left.rr; passes = h.passes }) (pair_by left_out right_out scratch (Ok h))
+  by_accepted : (h : Halves) → (pair_ok l r eps (length left_out) (length right_out) (length scratch) then pair_of eps l r) ≡ Ok h
+      → Accepted l r eps left_out right_out scratch (record { rank = h.left.rr; passes = h.passes }) (pair_by left_out right_out scratch (Ok h))
   unfolding pair_by
   by_accepted h e =
       let (ok, made) = then_is (pair_ok l r eps (length left_out) (length right_out) (length scratch)) (pair_of eps l r) h e in

@@ -5,8 +5,8 @@ ghost use Rattle.lists.specs.Floats.{all_finite};
 ghost use Rattle.shape.specs.Limits.{most_points, most_lines};
 ghost use Rattle.pairform.specs.Call.{core_of, sizes_ok, pair_sized, pair_lent, pair_finite, pair_ok};
 
-#[tactic(auto, unfolding(pairform::specs::Call::sizes_ok))]
 // The outer ranks needn't be 1.
+#[tactic(auto, unfolding(pairform::specs::Call::sizes_ok))]
 fn sizes_ok(c: pairform::Sizes) -> bool
     ensures { result ≡ sizes_ok (core_of c []) }
 {
@@ -24,6 +24,7 @@ fn lines_ok(sized: bool, i: usize, j: usize) -> bool
 }
 
 // Refusals 2 and 3.
+#[tactic(auto, using(crate::proofs::Verdicts::small), unfolding(pairform::specs::Call::pair_sized, answers::specs::Outcome::demand))]
 fn sized(l: pairform::Sizes, r: pairform::Sizes) -> Result<(), answers::Refusal>
     ensures { result ≡ pair_sized (core_of l []) (core_of r []) }
 {
@@ -77,6 +78,7 @@ fn eps_and_left(eps: f64, left: &[f64]) -> bool
 }
 
 // Refusals 6 and 7.
+#[tactic(auto, unfolding(pairform::specs::Call::pair_finite, answers::specs::Outcome::demand))]
 fn finite(eps: f64, left: &[f64], right: &[f64]) -> Result<(), answers::Refusal>
     ensures { result ≡ pair_finite eps left.now right.now }
 {

@@ -4,6 +4,7 @@ ghost use Rattle.numbers.specs.Arithmetic.{times};
 ghost use Rattle.pairform.specs.Numbers.{inverse};
 
 // 1/value, or 0 where the value isn't above zero.
+#[tactic(auto, unfolding(pairform::specs::Numbers::inverse, lists::specs::Lists::pick))]
 fn inverse(value: f64) -> f64
     ensures { result ≡ inverse value }
 {

@@ -82,8 +82,11 @@ spun m n p q a v a' v' k P ea ev b = rw (ea, ev, P) (go (skipped (dot m a p q) (
     c : Float
     c = cosine_of t
 
+    plan : Bool → Option Angle
+    plan y = pick y None (Some (record { c = c; s = times c t }))
+
     go : (y : Bool)
-        → passed (svd (by_plan m n p q (pick y None (Some (record { c = c; s = times c t }))) a) (by_plan n n p q (pick y None (Some (record { c = c; s = times c t }))) v)) (is_none {T = Angle} (pick y None (Some (record { c = c; s = times c t }))) && b)
+        → passed (svd (by_plan m n p q (plan y) a) (by_plan n n p q (plan y) v)) (is_none (plan y) && b)
         ≡ pick y (passed (svd a v) b) (passed (svd (turn_stored m n p q c (times c t) a) (turn_stored n n p q c (times c t) v)) false)
     go true = refl
     go false = refl

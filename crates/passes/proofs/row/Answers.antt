@@ -27,7 +27,16 @@ pub loop-q-smaller : goal.loop-q-smaller
 loop-q-smaller c = search turns
 
 pub loop-q-preserved : goal.loop-q-preserved
-loop-q-preserved c = (search turns, search turns, search turns, search turns, search turns, c.step-k.ensures.beside.0, rw (none_told _ _ c.is_none-quiet.ensures) (from_more _ _ _ _ _ _ c.loop-q.invariant.6 (c.step-k.ensures.b_after _) c.loop-q.invariant.1), c.step-k.ensures.beside.1)
+loop-q-preserved c = (
+  search turns,
+  search turns,
+  search turns,
+  search turns,
+  search turns,
+  c.step-k.ensures.beside.0,
+  rw (none_told _ _ c.is_none-quiet.ensures) (from_more _ _ _ _ _ _ c.loop-q.invariant.6 (c.step-k.ensures.b_after _) c.loop-q.invariant.1),
+  c.step-k.ensures.beside.1,
+)
 
 pub shape_of-a : goal.shape_of-a
 shape_of-a c = search turns
