@@ -38,6 +38,7 @@ pub fn finish(s: shape::Shape, w: cuts::Walked, chain: &mut [f64], scratch: &mut
     if let Err(q) = w.verdict {
         return refused_rounding(q, s);
     }
+    // A field that is an array is proved only through a variable of its own.
     let bonds = w.bonds;
     Rounded {
         verdict: Ok(()),

@@ -133,6 +133,7 @@ fn steps_in(
             return w;
         }
         t = w.shape;
+        // An array that a call gives is proved only through a variable of its own.
         let more = further(said, w.bonds);
         said = more;
     }
