@@ -4,6 +4,9 @@ use Rattle.numbers.proofs.Reach.{in_reach_whole}
 use Rattle.shift.proofs.Starts.{starts_are, size_fits}
 use Rattle.shift.proofs.bands.starts_of.Goals as goal
 
+pub stepped-requires : goal.stepped-requires
+stepped-requires c = search (rules, size_fits)
+
 pub stepped-requires-2 : goal.stepped-requires-2
 stepped-requires-2 c = search (rules, size_fits)
 
