@@ -2,9 +2,7 @@
 
 // The n numbers of a list from one place on; none where it hasn't got them.
 pub fn window(list: &[f64], at: usize, n: usize) -> &[f64] {
-    list.get(at..)
-        .and_then(|rest| rest.get(..n))
-        .unwrap_or(&[])
+    list.get(at..).and_then(|rest| rest.get(..n)).unwrap_or(&[])
 }
 
 // The first n numbers of a list, or all of it.

@@ -97,9 +97,7 @@ pub fn verdict(input: Stdin, v: Result<(), answers::Refusal>) -> bool {
     let index = word(input);
     match v {
         Ok(()) => (number == 0) & (place == 0) & (index == 0),
-        Err(r) => (number == r.number() as usize)
-            & (place == r.place())
-            & (index == r.index()),
+        Err(r) => (number == r.number() as usize) & (place == r.place()) & (index == r.index()),
     }
 }
 

@@ -44,7 +44,10 @@ pub extern "C" fn uyavsker_rank1_separable(
         result chain.new }
 {
     let shape = s.into();
-    told::started_out(shape, product::start::rank1_separable(shape, vectors, chain))
+    told::started_out(
+        shape,
+        product::start::rank1_separable(shape, vectors, chain),
+    )
 }
 
 #[unsafe(no_mangle)]
