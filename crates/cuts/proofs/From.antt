@@ -13,7 +13,7 @@ use lib.Ieee.{Float}
 use Rattle.numbers.specs.Arithmetic.{zero64}
 use Rattle.answers.specs.declared.Refusal.{Refusal}
 use Rattle.std.specs.Prelude.{Ok, Err}
-use Rattle.answers.specs.Outcome.{Answer, bind, answered, Check}
+use Rattle.answers.specs.Outcome.{Answer, bind, answered}
 use Rattle.answers.proofs.Outcomes.{bind_assoc, bind_cong, bind_ok, ok_inj}
 use Rattle.lists.specs.Lists.{listed}
 use Rattle.lists.specs.Slots.{offset, slot, put, fit}
@@ -356,6 +356,3 @@ end_inside s z k t h A l o = record {
   first = A.first;
   last = A.last;
 }
-
-pub refused_fits : {P : Type 0} (v : Check) (q : Refusal) → v ≡ Err q → v ≡ Ok tt → P
-refused_fits v q e f = let z : ◌≡◌ {A = ℕ} 0 1 = cc in let n : ⊥ = omega arith in absurd n

@@ -19,7 +19,7 @@ use Rattle.cutform.specs.Keeping.{bond_size, carry_size, Stepped, rank_at, carry
 
 -- a chain before any of its bonds is cut
 abbrev pub unrounded : Shape → Walked
-unrounded s = record { verdict = Ok tt; shape = s; bonds = replicate most_axes no_bond }
+unrounded s = record { shape = s; bonds = replicate most_axes no_bond }
 
 -- ---- zone after zone
 -- what zone k leaves, in its slots

@@ -4,12 +4,14 @@
 
 pub mod zone;
 
-ghost use Rattle.std.specs.Prelude.{◌≡◌, cond, ◌+◌, ◌-◌, ◌*◌, ◌≤◌, ◌<◌, length, Ok};
-ghost use Rattle.answers.specs.Outcome.{answered};
+ghost use Rattle.std.specs.Prelude.{◌≡◌, cond, ◌+◌, ◌-◌, ◌*◌, ◌≤◌, ◌<◌, length};
+ghost use Rattle.std.specs.Result.{IfOk};
+ghost use Rattle.answers.specs.Outcome.{outcome_of};
 ghost use Rattle.lists.specs.Slots.{offset};
 ghost use Rattle.shape.specs.Limits.{most_axes, most_core};
 ghost use Rattle.shape.specs.Sizes.{SizesWithin, Inside};
 ghost use Rattle.cutform.specs.Keeping.{carry_size, round_from};
+ghost use Rattle.cuts.specs.declared.Walked.{Walked};
 ghost use Rattle.cuts.specs.Slots.{unrounded, held, held_by, places_of, rank_left, AtZone, Ready, ZoneCut};
 
 // How many numbers the slot of bond k's carry has; right of the last core there is none.
@@ -40,7 +42,6 @@ pub fn carry_offset(s: shape::Shape, k: usize) -> usize
 // What a rounding from some zone on came to: the chain's shape, and what is said of each bond.
 #[derive(Clone, Copy)]
 pub struct Walked {
-    pub verdict: Result<(), answers::Refusal>,
     pub shape: shape::Shape,
     pub bonds: [cutform::Bond; shape::MOST_AXES],
 }
@@ -51,7 +52,6 @@ pub fn unrounded(s: shape::Shape) -> Walked
 {
     let none = bond::no_bond();
     Walked {
-        verdict: Ok(()),
         shape: s,
         bonds: [none; shape::MOST_AXES],
     }
@@ -163,33 +163,20 @@ pub fn round_from(
     work: &mut [f64],
     carries: &mut [f64],
     room: &mut [f64],
-) -> Walked
+) -> Result<Walked, answers::Refusal>
     requires sizes_within { SizesWithin s }
     requires z_le_d { (z ≤ s.d) × (most_core ≤ length room.old) × AtZone s z z w.shape (held_by w work.old carries.old) }
     ensures { (round_from cutting s z w.shape (held_by w work.old carries.old)
-        ≡ answered result.verdict (result.shape, held_by result work.new carries.new)) × (z ≡ 0 → result.verdict ≡ Ok tt → Inside s result.shape) }
+        ≡ outcome_of result (λ (x : Walked). (x.shape, held_by x work.new carries.new))) × (z ≡ 0 → IfOk result (λ (x : Walked). Inside s x.shape)) }
 {
     let mut shape = w.shape;
     let mut bonds = w.bonds;
     let mut r = left_rank(z, w);
     for k in z..s.d {
-        let cut = match zone_cut(k, s, shape, r, cutting, work, carries, room) {
-            Ok(cut) => cut,
-            Err(q) => {
-                return Walked {
-                    verdict: Err(q),
-                    shape,
-                    bonds,
-                };
-            }
-        };
+        let cut = zone_cut(k, s, shape, r, cutting, work, carries, room)?;
         shape = shape.with_core(k, r, cut.rank);
         bonds[k] = placed(k + 1 < s.d, cut, bonds[k]);
         r = cut.rank;
     }
-    Walked {
-        verdict: Ok(()),
-        shape,
-        bonds,
-    }
+    Ok(Walked { shape, bonds })
 }

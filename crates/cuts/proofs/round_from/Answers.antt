@@ -1,9 +1,9 @@
-use mathlib.Core.Path.{refl}
 use native.Mathlib.Omega.{arith}
 use Prim.Native.Nat.{◌<◌}
 use lib.ListN.{length}
-use Rattle.answers.specs.Outcome.{answered}
-use Rattle.cuts.proofs.From.{from_is, at_any, loop_more, loop_stop, loop_next, loop_end, end_inside, refused_fits}
+use Rattle.std.proofs.lemmas.Result.{err_from_is_err_and}
+use Rattle.answers.specs.Outcome.{outcome_of}
+use Rattle.cuts.proofs.From.{from_is, at_any, loop_more, loop_stop, loop_next, loop_end, end_inside}
 use Rattle.cuts.proofs.Stands.{zone_turned_lem, zone_stopped, rank_carried}
 use Rattle.cuts.proofs.round_from.Goals as goal
 
@@ -19,12 +19,13 @@ zone_cut-requires c = record {
   k_lt_d = (c.loop-k-test.true, omega (arith, c.requires.z_le_d.1, c.loop-k.auto.room), record { bonds = _; left = c.loop-k.invariant.rank c.loop-k-test.true; zone = at_any _ _ _ _ _ c.loop-k.invariant.zone });
 }
 
-pub returns-in-Err : goal.returns-in-Err
-unfolding answered
-returns-in-Err c =
+pub returns-in_err-cut : goal.returns-in_err-cut
+unfolding outcome_of
+returns-in_err-cut c =
+    let p = err_from_is_err_and c.from_residual.result c.from_residual.ensures.1 in
     let zone = c.zone_cut.ensures (record { bonds = _; left = c.loop-k.invariant.rank c.loop-k-test.true; zone = at_any _ _ _ _ _ c.loop-k.invariant.zone }) in
-    let turn = zone_stopped _ _ _ _ _ _ _ _ zone _ c.in-Err.is in
-    (loop_stop _ _ _ c.args.z _ _ _ c.loop-k.invariant.left c.loop-k-test.true _ turn, λ o f. refused_fits _ _ refl f)
+    let turn = zone_stopped _ _ _ _ _ _ _ _ zone _ c.in_err-cut.was in
+    rw (p.1, p.2) (loop_stop _ _ _ c.args.z _ _ _ c.loop-k.invariant.left c.loop-k-test.true _ turn, λ o. tt)
 
 pub with_core-shape-requires : goal.with_core-shape-requires
 with_core-shape-requires c = omega (arith, c.requires.sizes_within.axes.most, c.loop-k-test.true)
@@ -45,14 +46,14 @@ pub loop-k-preserved : goal.loop-k-preserved
 loop-k-preserved c =
     let zone = c.zone_cut.ensures (record { bonds = _; left = c.loop-k.invariant.rank c.loop-k-test.true; zone = at_any _ _ _ _ _ c.loop-k.invariant.zone }) in
     let room : c.loop-k.k < length c.loop-k.bonds = omega (arith, c.loop-k.invariant.zone.bonds, c.requires.sizes_within.axes.most, c.loop-k-test.true) in
-    let turn = zone_turned_lem _ _ _ _ _ _ _ _ zone _ c.in-Ok.is c.loop-k-test.true room _
+    let turn = zone_turned_lem _ _ _ _ _ _ _ _ zone _ c.in_ok-cut.was c.loop-k-test.true room _
     (c.loop-k.invariant.rank c.loop-k-test.true) _ c.with_core-shape.ensures _ c.placed.ensures in
     record {
-      rank = λ m. rank_carried _ _ _ _ _ _ _ _ zone _ c.in-Ok.is c.loop-k-test.true room _ c.placed.ensures _ m;
+      rank = λ m. rank_carried _ _ _ _ _ _ _ _ zone _ c.in_ok-cut.was c.loop-k-test.true room _ c.placed.ensures _ m;
       zone = loop_next _ _ _ c.args.z _ _ _ c.loop-k.invariant.left c.loop-k-test.true _ _ turn c.loop-k.invariant.zone;
       left = loop_more _ _ _ c.args.z _ _ _ c.loop-k.invariant.left c.loop-k-test.true _ _ turn;
     }
 
 pub returns : goal.returns
-unfolding answered
-returns c = (loop_end _ _ _ c.args.z _ _ _ c.loop-k.invariant.left c.loop-k-test.false, λ o f. end_inside _ _ _ _ _ c.loop-k.invariant.zone c.loop-k-test.false o)
+unfolding outcome_of
+returns c = (loop_end _ _ _ c.args.z _ _ _ c.loop-k.invariant.left c.loop-k-test.false, λ o. end_inside _ _ _ _ _ c.loop-k.invariant.zone c.loop-k-test.false o)
