@@ -13,7 +13,7 @@ use Rattle.numbers.specs.Arithmetic.{zero64}
 use Rattle.answers.specs.declared.Refusal.{Refusal}
 use Rattle.answers.specs.declared.Refusal.TheVariants.{Length, Number, Setting}
 use Rattle.std.specs.Prelude.{Ok, Err}
-use Rattle.answers.specs.Outcome.{Answer, Check, bind, answered, ◌then◌}
+use Rattle.answers.specs.Outcome.{Answer, Check, bind, outcome_of, ◌then◌}
 use Rattle.answers.proofs.Checks.{verdict_passed, verdict_refused, then_is}
 use Rattle.answers.proofs.Late.{Early, early_demand, early_then, early_each}
 use Rattle.answers.proofs.Outcomes.{bind_ok, ok_inj, ok_err, err_inj}
@@ -39,6 +39,7 @@ use Rattle.shape.proofs.Packing.{Fitting, cut_pack}
 use Rattle.cutform.specs.declared.Cutting.{Cutting}
 use Rattle.cutform.specs.Bonds.{no_bond, cut_bond}
 use Rattle.cutform.specs.declared.Rounded.{Rounded}
+use Rattle.std.specs.Result.{IfOk}
 use Rattle.cuts.specs.declared.Walked.{Walked}
 use Rattle.cutform.specs.Rounding.{Carry, none, some, Cut, taken_in, cut_if, round_core, rounding, cores_in, bonds_in}
 use Rattle.cutform.specs.Keeping.{bond_size, Stepped, keep_step, carry_left, round_from}
@@ -172,19 +173,19 @@ module _ (cutting : Cutting) (s : Shape) where
           ap (λ (x : Core). x.rl * x.n * x.rr) c ∙ sym (left_at k lt).0
 
       -- what a walk that went through leaves is the call's end
-      pub ended_fits : (l w : List Float) → s.d ≤ most_axes → (x : Walked) (work carries : List Float) → h.bonds ≡ replicate most_axes no_bond → x.verdict ≡ Ok tt
+      pub ended_fits : (l w : List Float) → s.d ≤ most_axes → (x : Walked) (work carries : List Float) → h.bonds ≡ replicate most_axes no_bond
           → reshaped 0 s (cores_in tr) ≡ x.shape → keep_step s 0 tr h ≡ held_by x work carries → Inside s x.shape → length work ≡ length w
-          → ended_by s l w (Ok tr) ≡ finished s x l work
+          → ended_by s l w (Ok tr) ≡ finished s (Ok x) l work
       unfolding ended_as keep_step scratch_after
-      ended_fits l w m x work carries hb v g k I n =
+      ended_fits l w m x work carries hb g k I n =
           let a : x.bonds ≡ fit no_bond most_axes (bonds_in tr) =
           ap (λ (y : Stepped). y.bonds) (sym k) ∙ ap (write (bond_size s) no_bond s.d 0 (map (λ (r : Carry × Cut). r.1.bonds) tr)) hb
           ∙ array_is no_bond (λ (r : Carry × Cut). r.1.bonds) bonds_all m in
           let c : fit zero64 (length l) (joined s.d (λ (j : ℕ). take (core_size x.shape j) (slot (core_size s) j work))) ≡ chain_after l (cores_in tr) =
           packed_is s x.shape work l none_left.1.core (cores_in tr) (length-map tr (λ (r : Carry × Cut). r.1.core) ∙ tr_length) (λ j lt. stands j lt) in
-          rw v (rw (a, ← g, n)
+          rw (a, ← g, n)
           (ap (λ (y : List Float). record { result = record { verdict = Ok tt; shape = reshaped 0 s (cores_in tr); bonds = fit no_bond most_axes (bonds_in tr) }; chain = y; scratch = zeros (length w) })
-          (sym c ∙ ap (λ (t : Shape). fit zero64 (length l) (joined s.d (λ (j : ℕ). take (core_size t j) (slot (core_size s) j work)))) (sym g))))
+          (sym c ∙ ap (λ (t : Shape). fit zero64 (length l) (joined s.d (λ (j : ℕ). take (core_size t j) (slot (core_size s) j work)))) (sym g)))
         where
           stands : (j : ℕ) → j < s.d → (get_or (cores_in tr) j none_left.1.core).entries ≡ take (core_size x.shape j) (slot (core_size s) j work)
           stands j lt =
@@ -206,9 +207,9 @@ places_there l d o h = let g : d - 1 < length l = go l (d - 1) h in omega arith
 
 -- ---- the call's work, by what `round_from` says of it
 module _ (cutting : Cutting) (s : Shape) (l w start : List Float) (long : length l ≡ entries_of s) (same : take (length l) start ≡ l) (wide : entries_of s ≤ length start) (shp : Shaped s)
-    (u : Walked) (i : u ≡ unrounded s) (held : List Float) (x : Walked) (work carries : List Float)
-    (e : round_from cutting s 0 u.shape (held_by u start held) ≡ answered x.verdict (x.shape, held_by x work carries))
-    (I : x.verdict ≡ Ok tt → Inside s x.shape) (n : length work ≡ length w) where
+    (u : Walked) (i : u ≡ unrounded s) (held : List Float) (o : Answer Walked) (work carries : List Float)
+    (e : round_from cutting s 0 u.shape (held_by u start held) ≡ outcome_of o (λ (x : Walked). (x.shape, held_by x work carries)))
+    (I : IfOk o (λ (x : Walked). Inside s x.shape)) (n : length work ≡ length w) where
   abbrev h : Stepped
   h = held_by (unrounded s) start held
 
@@ -224,39 +225,39 @@ module _ (cutting : Cutting) (s : Shape) (l w start : List Float) (long : length
   abbrev whole : Answer (List (Carry × Cut))
   whole = walk (λ (k : ℕ). round_core cutting (ltb (suc k) s.d) k) 0 (carry_left s s h 0) (listed (s.d - 0) 0 (standing s s start))
 
-  by_outcome : (o : Answer (List (Carry × Cut))) → whole ≡ o → (v : Check) → x.verdict ≡ v
-      → bind {B = Shape × Stepped} o (λ tr. Ok (reshaped 0 s (cores_in tr), keep_step s 0 tr h)) ≡ answered v (x.shape, held_by x work carries)
-      → ended_by s l w o ≡ finished s x l work
-  unfolding answered ended_as scratch_after pick
-  by_outcome (Ok tr) f (Ok _) v g =
+  by_outcome : (a : Answer (List (Carry × Cut))) → whole ≡ a → (v : Answer Walked) → IfOk v (λ (x : Walked). Inside s x.shape)
+      → bind {B = Shape × Stepped} a (λ tr. Ok (reshaped 0 s (cores_in tr), keep_step s 0 tr h)) ≡ outcome_of v (λ (x : Walked). (x.shape, held_by x work carries))
+      → ended_by s l w a ≡ finished s v l work
+  unfolding outcome_of ended_as scratch_after pick
+  by_outcome (Ok tr) f (Ok x) I g =
       let p = ok_inj g in
-      ended_fits cutting s h wide tr f a b l w m x work carries refl v (ap (λ (y : Shape × Stepped). y.0) p) (ap (λ (y : Shape × Stepped). y.1) p) (I v) n
-  by_outcome (Ok tr) f (Err q) v g = absurd (ok_err g)
-  by_outcome (Err r) f (Ok _) v g = absurd (ok_err (sym g))
-  by_outcome (Err r) f (Err q) v g =
+      ended_fits cutting s h wide tr f a b l w m x work carries refl (ap (λ (y : Shape × Stepped). y.0) p) (ap (λ (y : Shape × Stepped). y.1) p) I n
+  by_outcome (Ok tr) f (Err q) I g = absurd (ok_err g)
+  by_outcome (Err r) f (Ok x) I g = absurd (ok_err (sym g))
+  by_outcome (Err r) f (Err q) I g =
       let t = late_rounding cutting s.d 0 (carry_left s s h 0) (listed (s.d - 0) 0 (standing s s start)) r f in
       let u = err_inj g in
-      rw (v, t, n) (ap (λ (y : Refusal). record { result = record { verdict = Err y; shape = s; bonds = replicate most_axes no_bond }; chain = l; scratch = zeros (length w) }) u)
+      rw (t, n) (ap (λ (y : Refusal). record { result = record { verdict = Err y; shape = s; bonds = replicate most_axes no_bond }; chain = l; scratch = zeros (length w) }) u)
 
-  pub ended_is : ended_by s l w (rounding cutting (cores_of s l)) ≡ finished s x l work
+  pub ended_is : ended_by s l w (rounding cutting (cores_of s l)) ≡ finished s o l work
   unfolding round_from
   ended_is =
       ap (ended_by s l w) (source_walk cutting s l start long (subst (λ (j : ℕ). take j start ≡ l) long same) h refl)
-      ∙ by_outcome whole refl x.verdict refl (subst (λ (y : Walked). round_from cutting s 0 y.shape (held_by y start held) ≡ answered x.verdict (x.shape, held_by x work carries)) i e)
+      ∙ by_outcome whole refl o I (subst (λ (y : Walked). round_from cutting s 0 y.shape (held_by y start held) ≡ outcome_of o (λ (x : Walked). (x.shape, held_by x work carries))) i e)
 
 -- ---- the parts of the code
 pub loaded : (l scratch x : List Float) → x ≡ l → take (length l) (x ++ drop (length l - 0) scratch) ≡ l
 loaded l scratch x e = ap (λ (y : List Float). take (length l) (y ++ drop (length l - 0) scratch)) e ∙ take_at l (drop (length l - 0) scratch) (length l) refl
 
 -- the call's end: c and z are what `leave` left
-module _ (s : Shape) (w : Walked) (chain scratch : List Float) (c z : List Float) (g : c ≡ left_by w.verdict s w.shape chain scratch) (f : z ≡ zeros (length scratch)) (r : Rounded) where
-  pub finish_stops : (q : Refusal) → w.verdict ≡ Err q → r ≡ record { verdict = Err q; shape = s; bonds = replicate most_axes no_bond }
+module _ (s : Shape) (w : Answer Walked) (chain scratch : List Float) (c z : List Float) (g : c ≡ left_by w s chain scratch) (f : z ≡ zeros (length scratch)) (r : Rounded) where
+  pub finish_stops : (q : Refusal) → w ≡ Err q → r ≡ record { verdict = Err q; shape = s; bonds = replicate most_axes no_bond }
       → ◌≡◌ {A = Ended} (record { result = r; chain = c; scratch = z }) (finished s w chain scratch)
-  finish_stops q v e = let h : c ≡ chain = g ∙ ap (λ (y : Check). left_by y s w.shape chain scratch) v in rw (v, e, f, h)
+  finish_stops q v e = let h : c ≡ chain = g ∙ ap (λ (y : Answer Walked). left_by y s chain scratch) v in rw (v, e, f, h)
 
-  pub finish_goes : w.verdict ≡ Ok tt → r ≡ record { verdict = Ok tt; shape = w.shape; bonds = w.bonds }
+  pub finish_goes : (x : Walked) → w ≡ Ok x → r ≡ record { verdict = Ok tt; shape = x.shape; bonds = x.bonds }
       → ◌≡◌ {A = Ended} (record { result = r; chain = c; scratch = z }) (finished s w chain scratch)
-  finish_goes v e = let h : c ≡ left_by (Ok tt) s w.shape chain scratch = g ∙ ap (λ (y : Check). left_by y s w.shape chain scratch) v in rw (v, e, f, h)
+  finish_goes x v e = let h : c ≡ left_by (Ok x) s chain scratch = g ∙ ap (λ (y : Answer Walked). left_by y s chain scratch) v in rw (v, e, f, h)
 
 -- before any turn, whatever carries stand in their room
 pub start_at : (s : Shape) (u : Walked) (work carries : List Float) → Shaped s → u ≡ unrounded s → length s.left ≡ most_axes → length s.right ≡ most_axes → entries_of s ≤ length work → most_axes * (most_rank * most_rank) ≤ length carries

@@ -4,6 +4,7 @@
 pub mod packing;
 
 ghost use Rattle.std.specs.Prelude.{◌≡◌, ◌≤◌, length, replicate, take, Ok, Err};
+ghost use Rattle.std.specs.Result.{IfOk};
 ghost use Rattle.shape.specs.Limits.{most_axes};
 ghost use Rattle.shape.specs.Shapes.{chain_ok, entries_of};
 ghost use Rattle.shape.specs.Sizes.{SizesWithin, Inside};
@@ -11,6 +12,7 @@ ghost use Rattle.shape.specs.Cores.{cores_of};
 ghost use Rattle.cutform.specs.Bonds.{no_bond};
 ghost use Rattle.cutform.specs.Rounding.{rounding};
 ghost use Rattle.cutform.specs.Call.{ended_by, round_call};
+ghost use Rattle.cuts.specs.declared.Walked.{Walked};
 ghost use Rattle.rounding.specs.Slots.{finished};
 
 use cutform::Rounded;
@@ -28,22 +30,29 @@ pub fn refused_rounding(r: answers::Refusal, s: shape::Shape) -> Rounded
 
 // The end of a call that rounds: where nothing was refused the chain is written, and scratch is +0 in any case.
 #[tactic(auto, using(crate::proofs::Ends::finish_ends))]
-pub fn finish(s: shape::Shape, w: cuts::Walked, chain: &mut [f64], scratch: &mut [f64]) -> Rounded
+pub fn finish(
+    s: shape::Shape,
+    w: Result<cuts::Walked, answers::Refusal>,
+    chain: &mut [f64],
+    scratch: &mut [f64],
+) -> Rounded
     requires sizes_within { SizesWithin s }
-    requires inside { (w.verdict ≡ Ok tt → Inside s w.shape) × (entries_of s ≤ length chain.old) × (entries_of s ≤ length scratch.old) }
+    requires inside { IfOk w (λ (x : Walked). Inside s x.shape) × (entries_of s ≤ length chain.old) × (entries_of s ≤ length scratch.old) }
     ensures { record { result = result; chain = chain.new; scratch = scratch.new }
         ≡ finished s w chain.old scratch.old }
 {
-    packing::leave(w.verdict, s, w.shape, chain, scratch);
-    if let Err(q) = w.verdict {
-        return refused_rounding(q, s);
-    }
-    // A field that is an array is proved only through a variable of its own.
-    let bonds = w.bonds;
-    Rounded {
-        verdict: Ok(()),
-        shape: w.shape,
-        bonds,
+    packing::leave(s, w, chain, scratch);
+    match w {
+        Ok(x) => {
+            // A field that is an array is proved only through a variable of its own.
+            let bonds = x.bonds;
+            Rounded {
+                verdict: Ok(()),
+                shape: x.shape,
+                bonds,
+            }
+        }
+        Err(q) => refused_rounding(q, s),
     }
 }
 

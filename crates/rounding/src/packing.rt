@@ -1,11 +1,13 @@
 // What a call that works in scratch leaves: the chain packed from there, and scratch all +0.
-ghost use Rattle.std.specs.Prelude.{◌≡◌, ℕ, ◌≤◌, ◌<◌, length, take, Ok};
+ghost use Rattle.std.specs.Prelude.{◌≡◌, ℕ, ◌≤◌, ◌<◌, length, take};
+ghost use Rattle.std.specs.Result.{IfOk};
 ghost use Rattle.numbers.specs.Arithmetic.{zero64};
 ghost use Rattle.lists.specs.Lists.{joined};
 ghost use Rattle.lists.specs.Slots.{slot, fit};
 ghost use Rattle.lists.specs.Floats.{zeros};
 ghost use Rattle.shape.specs.Shapes.{core_size, entries_of};
 ghost use Rattle.shape.specs.Sizes.{SizesWithin, Inside};
+ghost use Rattle.cuts.specs.declared.Walked.{Walked};
 ghost use Rattle.rounding.specs.Left.{left_by};
 
 // The cores' numbers, which stand in `work` where the cores of shape s begin, one after another at the chain's front,
@@ -30,22 +32,21 @@ fn pack(s: shape::Shape, t: shape::Shape, work: &[f64], chain: &mut [f64])
     lists::fill(&mut chain[at..], 0.0);
 }
 
-// Where nothing was refused the chain is written, with the sizes of t, and scratch is +0 in any case.
+// Where nothing was refused the chain is written, with its new sizes, and scratch is +0 in any case.
 #[tactic(auto, using(crate::proofs::Rooms::inside_rooms))]
 pub fn leave(
-    verdict: Result<(), answers::Refusal>,
     s: shape::Shape,
-    t: shape::Shape,
+    w: Result<cuts::Walked, answers::Refusal>,
     chain: &mut [f64],
     scratch: &mut [f64],
 )
     requires sizes_within { SizesWithin s }
-    requires inside { (verdict ≡ Ok tt → Inside s t) × (entries_of s ≤ length chain.old) × (entries_of s ≤ length scratch.old) }
-    ensures chain_after { chain.new ≡ left_by verdict s t chain.old scratch.old }
+    requires inside { IfOk w (λ (x : Walked). Inside s x.shape) × (entries_of s ≤ length chain.old) × (entries_of s ≤ length scratch.old) }
+    ensures chain_after { chain.new ≡ left_by w s chain.old scratch.old }
     ensures scratch_after { scratch.new ≡ zeros (length scratch.old) }
 {
-    if verdict.is_ok() {
-        pack(s, t, scratch, chain);
+    if let Ok(x) = w {
+        pack(s, x.shape, scratch, chain);
     }
     lists::fill(scratch, 0.0);
 }

@@ -29,7 +29,7 @@ finish-requires c = let h = shaped c.args.s _ c.requires.s_value in
     record {
       sizes_within = h.sizes;
       inside = (
-        λ v. c.round_from-w.ensures.1 refl v,
+        c.round_from-w.ensures.1 refl,
         omega (arith, c.requires.chain_len.0),
         omega (
           arith,
@@ -49,4 +49,4 @@ returns c = let h = shaped c.args.s _ c.requires.s_value in
     (ended_is c.args.cutting c.args.s c.args.chain.now c.args.scratch.now _ c.requires.chain_len.0 c.load.ensures
     (omega (arith, c.requires.chain_len.1, c.load.auto.scratch)) h _
     c.unrounded.ensures _ _ _ _
-    c.round_from-w.ensures.0 (λ v. c.round_from-w.ensures.1 refl v) (c.round_from-w.auto.work ∙ c.load.auto.scratch))
+    c.round_from-w.ensures.0 (c.round_from-w.ensures.1 refl) (c.round_from-w.auto.work ∙ c.load.auto.scratch))
