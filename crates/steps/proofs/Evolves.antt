@@ -8,9 +8,7 @@ use lib.ListN.{length, replicate}
 use lib.Seq.{ext_get_or}
 use lib.Ieee.{Float}
 use Rattle.answers.specs.declared.Refusal.{Refusal}
-use Rattle.std.specs.Prelude.{Ok, Err, true, false}
-use Rattle.std.specs.Result.{is_err}
-use Rattle.std.proofs.lemmas.Bool.{false≢true}
+use Rattle.std.specs.Prelude.{Ok, Err}
 use Rattle.answers.specs.Outcome.{Answer, bind, verdict_of, Check}
 use Rattle.answers.proofs.Outcomes.{ok_inj, err_inj, ok_err, bind_ok, passed_ok}
 use Rattle.lists.specs.Lists.{tab}
@@ -28,21 +26,13 @@ use Rattle.cutform.specs.declared.Bond.{Bond}
 use Rattle.cutform.specs.Bonds.{no_bond}
 use Rattle.stepform.specs.declared.Settings.{Settings}
 use Rattle.stepform.specs.Steps.{step, further, steps_from, steps_of}
+use Rattle.cuts.specs.declared.Walked.{Walked}
 use Rattle.steps.specs.Held.{Ends, Came, step_of, Placed}
 use Rattle.steps.proofs.Reshapes.{Ranked, reshaped_out, reshaped_at, reshaped_again}
 
 refused_by : {A : Type 0} (T : Answer A) (v : Check) (q : Refusal) → v ≡ verdict_of T → v ≡ Err q → T ≡ Err q
 refused_by (Ok a) v q e h = let z : ◌≡◌ {A = ℕ} 0 1 = cc in let n : ⊥ = omega arith in absurd n
 refused_by (Err r) v q e h = let p : r ≡ q = cc in ap Err p
-
--- a verdict by what `is_err` says of it
-pub refused_is : (v : Check) → is_err v ≡ true → (q : Refusal) × (v ≡ Err q)
-refused_is (Ok _) e = absurd (false≢true e)
-refused_is (Err q) e = (q, refl)
-
-pub passed_is : (v : Check) → is_err v ≡ false → v ≡ Ok tt
-passed_is (Ok _) e = refl
-passed_is (Err q) e = absurd (false≢true (sym e))
 
 -- what is refused with a last touch was refused before it
 refused_first : {A B : Type 0} (T : Answer A) (k : A → B) (q : Refusal) → bind T (λ a. Ok (k a)) ≡ Err q → T ≡ Err q
@@ -96,16 +86,17 @@ module _ (set : Settings) (s : Shape) (xs : List Axis) (T : Answer After) where
   pub going_same : (k m : ℕ) (t : Shape) (said : List Bond) (w : List Float) → k ≡ m → Going k t said w → Going m t said w
   going_same k m t said w e G = subst (λ (j : ℕ). Going j t said w) e G
 
-  module _ (m : ℕ) (t : Shape) (said : List Bond) (w : List Float) (G : Going m t said w) (v : Check) (u : Shape) (bonds : List Bond) (w' : List Float)
-      (C : Came (step_of set xs (stood t w)) s t v u bonds w') where
+  module _ (m : ℕ) (t : Shape) (said : List Bond) (w : List Float) (G : Going m t said w) (o : Answer Walked) (w' : List Float)
+      (C : Came (step_of set xs (stood t w)) s t o w') where
     -- one step more is made
-    pub going_more : 0 < m → v ≡ Ok tt → (said' : List Bond) → said' ≡ further said bonds → Going (m - 1) u said' w'
+    pub going_more : 0 < m → (y : Walked) → o ≡ Ok y → (said' : List Bond) → said' ≡ further said y.bonds → Going (m - 1) y.shape said' w'
     unfolding steps_from
-    going_more l f said' e =
-        let o = step set xs (stood t w) in
-        let D = passed_ok (step_of set xs (stood t w)) (sym C.verdict ∙ f) in
-        let B = bind_ok o (λ tr. Ok (after_cuts tr)) D.0 D.1 in
-        let E = C.ends D.0 D.1 in
+    going_more l y f said' e =
+        let u = y.shape in
+        let T' = step set xs (stood t w) in
+        let D = passed_ok (step_of set xs (stood t w)) (sym C.verdict ∙ ap verdict_of f) in
+        let B = bind_ok T' (λ tr. Ok (after_cuts tr)) D.0 D.1 in
+        let E = C.ends D.0 y D.1 f in
         let a = ok_inj B.2 in
         let n : m ≡ suc (m - 1) = omega arith in
         let cores : cores_in B.0 ≡ stood u w' = ap (λ (x : After). x.cores) a ∙ E.cores in
@@ -130,19 +121,18 @@ module _ (set : Settings) (s : Shape) (xs : List Axis) (T : Answer After) where
         }
 
     -- a step on the way is refused, and so are all
-    pub going_stops : 0 < m → (q : Refusal) → v ≡ Err q → Came T s s v u bonds w'
+    pub going_stops : 0 < m → (q : Refusal) → o ≡ Err q → Came T s s (Err q) w'
     unfolding steps_from
     going_stops l q f =
         let n : m ≡ suc (m - 1) = omega arith in
-        let o = step set xs (stood t w) in
-        let r = refused_first o after_cuts q (refused_by (step_of set xs (stood t w)) v q C.verdict f) in
+        let r = refused_first (step set xs (stood t w)) after_cuts q (refused_by (step_of set xs (stood t w)) (verdict_of o) q C.verdict (ap verdict_of f)) in
         let R : T ≡ Err q =
         G.rest ∙ ap (λ (i : ℕ). steps_from i set xs (record { cores = stood t w; bonds = said })) n
         ∙ ap (λ (y : Answer (List (Carry × Cut))). bind y (λ x. steps_from (m - 1) set xs (record { cores = cores_in x; bonds = further said (after_cuts x).bonds }))) r in
-        record { verdict = f ∙ ap verdict_of (sym R); ends = λ a e. absurd (ok_err (sym e ∙ R)) }
+        record { verdict = ap verdict_of (sym R); ends = λ a x e g. absurd (ok_err (sym e ∙ R)) }
 
   -- all are made
-  pub going_ends : (m : ℕ) (t : Shape) (said : List Bond) (w : List Float) → Going m t said w → m ≤ 0 → Came T s s (Ok tt) t said w
+  pub going_ends : (m : ℕ) (t : Shape) (said : List Bond) (w : List Float) → Going m t said w → m ≤ 0 → Came T s s (Ok (record { shape = t; bonds = said })) w
   unfolding steps_from
   going_ends m t said w G l =
       let z : m ≡ 0 = omega arith in
@@ -150,7 +140,9 @@ module _ (set : Settings) (s : Shape) (xs : List Axis) (T : Answer After) where
       let R : T ≡ Ok end = G.rest ∙ ap (λ (i : ℕ). steps_from i set xs end) z in
       record {
         verdict = ap verdict_of (sym R);
-        ends = λ a e. subst (Ends s s t said w) (ok_inj (sym R ∙ e)) (record { shape = G.shape; inside = G.inside; cores = refl; said = refl });
+        ends = λ a x e g.
+            subst (λ (y : Walked). Ends s s y.shape y.bonds w a) (ok_inj g)
+            (subst (Ends s s t said w) (ok_inj (sym R ∙ e)) (record { shape = G.shape; inside = G.inside; cores = refl; said = refl }));
       }
 
   pub going_placed : (m : ℕ) (t : Shape) (said : List Bond) (w : List Float) → Going m t said w → entries_of s ≤ length w → Placed s t w

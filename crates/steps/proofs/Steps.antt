@@ -12,7 +12,7 @@ use Rattle.numbers.specs.Arithmetic.{plus, times, zero64, one64}
 use Rattle.answers.specs.declared.Part.TheVariants.{Entry}
 use Rattle.answers.specs.declared.Refusal.{Refusal}
 use Rattle.std.specs.Prelude.{Ok, Err}
-use Rattle.answers.specs.Outcome.{Answer, bind, making, answered, verdict_of, Check}
+use Rattle.answers.specs.Outcome.{Answer, bind, making, answered, outcome_of, verdict_of, Check}
 use Rattle.answers.proofs.Outcomes.{bind_assoc, bind_cong, bind_ok, ok_inj, err_inj, ok_err}
 use Rattle.lists.specs.Lists.{listed, tab}
 use Rattle.lists.specs.Slots.{offset, slot, laid, write}
@@ -42,6 +42,10 @@ use Rattle.stepform.specs.Zones.{Zone, zones_of, rules}
 use Rattle.stepform.specs.Steps.{holding, shift_zone, scale_zone, round_zone, step_from, step}
 use Rattle.checks.specs.Over.{zone_in, stand_from, Onward}
 use Rattle.steps.proofs.Gathers.{zones_listed}
+use Rattle.std.specs.Result.{IfOk}
+use Rattle.std.proofs.lemmas.Result.{IfOk-at_ok}
+use Rattle.cuts.specs.declared.Walked.{Walked}
+use Rattle.cuts.specs.Slots.{held_by}
 use Rattle.steps.specs.Held.{step_held, step_of, Ends, Came}
 use Rattle.steps.proofs.Traces.{Found, bonds_front, cores_stand}
 
@@ -78,9 +82,9 @@ module _ (set : Settings) (s t : Shape) (z : ℕ) (xs : List Axis) where
           ap (λ (o : Answer (List (Carry × Cut))). bind o (λ tr. Ok (reshaped z t (cores_in tr), keep_step s z tr h)))
           (sym (bind_assoc E (λ a. every (scale_zone rules set) z a) F) ∙ ap (λ (o : Answer (List Core)). bind o F) m)
 
-      pub held_stops : (q : Refusal) → r ≡ Err q → (x : Shape × Stepped) → step_held set s z xs t h ≡ answered (Err q) x
+      pub held_stops : (q : Refusal) → r ≡ Err q → step_held set s z xs t h ≡ Err q
       unfolding answered
-      held_stops q e x = opened ∙ ap (λ (y : Check). bind (bind (answered y (stand_from s t z v)) (λ b. walk (round_zone rules set s.d) z (carry_left s t h z) b)) (λ tr. Ok (reshaped z t (cores_in tr), keep_step s z tr h))) e
+      held_stops q e = opened ∙ ap (λ (y : Check). bind (bind (answered y (stand_from s t z v)) (λ b. walk (round_zone rules set s.d) z (carry_left s t h z) b)) (λ tr. Ok (reshaped z t (cores_in tr), keep_step s z tr h))) e
 
       pub held_goes : r ≡ Ok tt → Onward s z h.chain v → (o : Answer (Shape × Stepped)) → round_from set.cutting s z t (with h v) ≡ o → step_held set s z xs t h ≡ o
       unfolding answered round_from round_zone rules
@@ -93,22 +97,24 @@ module _ (set : Settings) (s t : Shape) (z : ℕ) (xs : List Axis) where
           ∙ g
 
 -- ---- what came of it, by the code's answer
-module _ {A B : Type 0} (k : A → B) where
-  pub verdict_of_lem : (T : Answer A) (v : Check) (b : B) → bind T (λ a. Ok (k a)) ≡ answered v b → v ≡ verdict_of T
-  unfolding answered
-  verdict_of_lem (Ok a) (Ok _) b e = refl
-  verdict_of_lem (Ok a) (Err q) b e = absurd (ok_err e)
-  verdict_of_lem (Err r) (Ok _) b e = absurd (ok_err (sym e))
-  verdict_of_lem (Err r) (Err q) b e = ap Err (err_inj (sym e))
+module _ {A B D : Type 0} (k : A → B) (f : D → B) where
+  pub verdict_of_lem : (T : Answer A) (o : Answer D) → bind T (λ a. Ok (k a)) ≡ outcome_of o f → verdict_of o ≡ verdict_of T
+  unfolding outcome_of
+  verdict_of_lem (Ok a) (Ok x) e = refl
+  verdict_of_lem (Ok a) (Err q) e = absurd (ok_err e)
+  verdict_of_lem (Err r) (Ok x) e = absurd (ok_err (sym e))
+  verdict_of_lem (Err r) (Err q) e = ap Err (err_inj (sym e))
 
+  pub value_of : (T : Answer A) (o : Answer D) → bind T (λ a. Ok (k a)) ≡ outcome_of o f → (a : A) → T ≡ Ok a → (x : D) → o ≡ Ok x → k a ≡ f x
+  unfolding outcome_of
+  value_of (Ok b) (Ok y) e a g x h = ap k (ok_inj (sym g)) ∙ ok_inj e ∙ ap f (ok_inj h)
+  value_of (Ok b) (Err q) e a g x h = absurd (ok_err (sym h))
+  value_of (Err r) o e a g x h = absurd (ok_err (sym g))
+
+module _ {A B : Type 0} (k : A → B) where
   verdict_after : (T : Answer A) → verdict_of (bind T (λ a. Ok (k a))) ≡ verdict_of T
   verdict_after (Ok a) = refl
   verdict_after (Err r) = refl
-
-  pub value_of : (T : Answer A) (v : Check) (b : B) → bind T (λ a. Ok (k a)) ≡ answered v b → (a : A) → T ≡ Ok a → (k a ≡ b) × (v ≡ Ok tt)
-  unfolding answered
-  value_of T (Ok _) b e a g = (ok_inj (sym (ap (λ (o : Answer A). bind o (λ a. Ok (k a))) g) ∙ e), refl)
-  value_of T (Err q) b e a g = absurd (ok_err (sym (ap (λ (o : Answer A). bind o (λ a. Ok (k a))) g) ∙ e))
 
 -- the moves leave each core its points and all its numbers
 module _ (set : Settings) (t : Shape) where
@@ -162,34 +168,38 @@ module _ (set : Settings) (s t : Shape) (xs : List Axis) (h : Stepped) (I : Insi
       let n = every_length (scale_zone rules set) 0 A.0 B.0 B.1 ∙ every_length (shift_zone rules set) 0 zones A.0 A.1 ∙ listed_length (s.d - 0) 0 (zone_in s t xs h.chain) ∙ sub-zero s.d in
       (B.0, n, G, B.2)
 
-  module _ (blank : h.bonds ≡ replicate most_axes no_bond) (v : Check) (u : Shape) (h' : Stepped) (e : step_held set s 0 xs t h ≡ answered v (u, h')) where
+  module _ (blank : h.bonds ≡ replicate most_axes no_bond) (o : Answer Walked) (work carries : List Float)
+      (e : step_held set s 0 xs t h ≡ outcome_of o (λ (x : Walked). (x.shape, held_by x work carries))) where
     abbrev T : Answer (List (Carry × Cut))
     T = step_from rules set s.d 0 none zones
 
     abbrev kept : List (Carry × Cut) → Shape × Stepped
     kept tr = (reshaped 0 t (cores_in tr), keep_step s 0 tr h)
 
-    plain : bind T (λ tr. Ok (kept tr)) ≡ answered v (u, h')
+    abbrev come : Walked → Shape × Stepped
+    come x = (x.shape, held_by x work carries)
+
+    plain : bind T (λ tr. Ok (kept tr)) ≡ outcome_of o come
     unfolding step_held carry_left
     plain = e
 
-    pub came_of : (v ≡ Ok tt → Inside s u) → Came (step_of set xs (tab s.d (standing s t h.chain))) s t v u h'.bonds h'.chain
+    pub came_of : IfOk o (λ (x : Walked). Inside s x.shape) → Came (step_of set xs (tab s.d (standing s t h.chain))) s t o work
     came_of inside = record {
-      verdict = verdict_of_lem kept T v (u, h') plain ∙ ap verdict_of (sym step_is) ∙ sym (verdict_after after_cuts (step set xs (tab s.d (standing s t h.chain))));
-      ends = λ a b.
+      verdict = verdict_of_lem kept come T o plain ∙ ap verdict_of (sym step_is) ∙ sym (verdict_after after_cuts (step set xs (tab s.d (standing s t h.chain))));
+      ends = λ a x b g.
           let D = bind_ok (step set xs (tab s.d (standing s t h.chain))) (λ x. Ok (after_cuts x)) a b in
           let tr = D.0 in
           let f = sym step_is ∙ D.1 in
-          let k = value_of kept T v (u, h') plain tr f in
-          let shape : u ≡ reshaped 0 t (cores_in tr) = ap (λ (x : Shape × Stepped). x.0) (sym k.0) in
-          let held : h' ≡ keep_step s 0 tr h = ap (λ (x : Shape × Stepped). x.1) (sym k.0) in
+          let k = value_of kept come T o plain tr f x g in
+          let shape : x.shape ≡ reshaped 0 t (cores_in tr) = ap (λ (y : Shape × Stepped). y.0) (sym k) in
+          let held : held_by x work carries ≡ keep_step s 0 tr h = ap (λ (y : Shape × Stepped). y.1) (sym k) in
           let R = ready tr f in
-          let J = inside k.1 in
+          let J = IfOk-at_ok (λ (y : Walked). Inside s y.shape) g inside in
           let stand = cores_stand set.cutting s t h I lefts rights R.0 R.1 R.2 tr R.3 (subst (Inside s) shape J) in
-          subst (Ends s t u h'.bonds h'.chain) (ok_inj D.2) (record {
+          subst (Ends s t x.shape x.bonds work) (ok_inj D.2) (record {
             shape = shape;
             inside = J;
-            cores = stand ∙ ap (λ (x : Shape). tab s.d (standing s x (keep_step s 0 tr h).chain)) (sym shape) ∙ ap (λ (x : Stepped). tab s.d (standing s u x.chain)) (sym held);
-            said = ap (λ (x : Stepped). x.bonds) held ∙ bonds_front set.cutting s t h I lefts rights R.0 R.1 R.2 tr R.3 blank;
+            cores = stand ∙ ap (λ (y : Shape). tab s.d (standing s y (keep_step s 0 tr h).chain)) (sym shape) ∙ ap (λ (y : Stepped). tab s.d (standing s x.shape y.chain)) (sym held);
+            said = ap (λ (y : Stepped). y.bonds) held ∙ bonds_front set.cutting s t h I lefts rights R.0 R.1 R.2 tr R.3 blank;
           });
     }

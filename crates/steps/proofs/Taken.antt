@@ -8,7 +8,7 @@ use mathlib.Core.List.{List, ◌++◌}
 use lib.ListN.{length, take, drop, length-append}
 use lib.Seq.{take_at, take-take, take-length}
 use lib.Ieee.{Float}
-use Rattle.answers.specs.Outcome.{Answer, Check}
+use Rattle.answers.specs.Outcome.{Answer}
 use Rattle.lists.specs.Lists.{tab}
 use Rattle.lists.specs.Slots.{offset, slot}
 use Rattle.lists.proofs.Tables.{listed_same}
@@ -17,8 +17,8 @@ use Rattle.shape.specs.declared.Shape.{Shape}
 use Rattle.shape.specs.Limits.{most_axes}
 use Rattle.shape.specs.Shapes.{left_of, points_of, right_of, chain_ok, core_size, entries_of}
 use Rattle.shape.specs.Cores.{Core, core_with, core_at, cores_of, standing}
-use Rattle.cutform.specs.declared.Bond.{Bond}
 use Rattle.cutform.specs.Rounding.{After}
+use Rattle.cuts.specs.declared.Walked.{Walked}
 use Rattle.steps.specs.Held.{Came, Placed}
 use Rattle.shape.proofs.Shaped.{shaped}
 use Rattle.shape.proofs.Insides.{inside_itself}
@@ -45,6 +45,6 @@ taken_over s l x r e n =
 pub placed_own : (s : Shape) (l x r : List Float) → chain_ok s ≡ Ok tt → x ≡ l → length l ≡ entries_of s → length s.left ≡ most_axes → length s.right ≡ most_axes → Placed s s (x ++ r)
 placed_own s l x r ok e n a b = record { inside = inside_itself s (shaped s (λ (k : ℕ). true) ok); lefts = a; rights = b; long = omega (arith, length-append x r, ap length e) }
 
-pub came_own : (T : List Core → Answer After) (s : Shape) (l x r : List Float) → x ≡ l → length l ≡ entries_of s → (v : Check) (u : Shape) (bonds : List Bond) (w : List Float)
-    → Came (T (tab s.d (standing s s (x ++ r)))) s s v u bonds w → Came (T (cores_of s l)) s s v u bonds w
-came_own T s l x r e n v u bonds w C = subst (λ (cs : List Core). Came (T cs) s s v u bonds w) (taken_over s l x r e n) C
+pub came_own : (T : List Core → Answer After) (s : Shape) (l x r : List Float) → x ≡ l → length l ≡ entries_of s → (o : Answer Walked) (w : List Float)
+    → Came (T (tab s.d (standing s s (x ++ r)))) s s o w → Came (T (cores_of s l)) s s o w
+came_own T s l x r e n o w C = subst (λ (cs : List Core). Came (T cs) s s o w) (taken_over s l x r e n) C

@@ -1,6 +1,6 @@
 -- A step of the zones from one on as memory has it, and what came of steps over a whole chain. Definitions for code only.
 use Rattle.std.specs.Prelude.{◌≡◌, ℕ, ◌-◌, ◌≤◌, ◌<◌, true, List, length, Float, Ok}
-use Rattle.answers.specs.Outcome.{Answer, bind, verdict_of, Check}
+use Rattle.answers.specs.Outcome.{Answer, bind, verdict_of}
 use Rattle.lists.specs.Lists.{listed, tab}
 use Rattle.shape.specs.declared.Shape.{Shape}
 use Rattle.shape.specs.Limits.{most_axes, most_carries}
@@ -9,6 +9,7 @@ use Rattle.shape.specs.Sizes.{Inside}
 use Rattle.shape.specs.Cores.{Core, standing, reshaped}
 use Rattle.stepform.specs.declared.Axis.{Axis}
 use Rattle.cutform.specs.declared.Bond.{Bond}
+use Rattle.cuts.specs.declared.Walked.{Walked}
 use Rattle.cutform.specs.Rounding.{cores_in, After, after_cuts}
 use Rattle.cutform.specs.Keeping.{Stepped, keep_step, carry_left}
 use Rattle.stepform.specs.declared.Settings.{Settings}
@@ -30,10 +31,10 @@ pub record Ends (s t u : Shape) (bonds : List Bond) (w : List Float) (a : After)
   pub cores : a.cores ≡ tab s.d (standing s u w)
   pub said : bonds ≡ a.bonds
 
--- v is the verdict on T, which began with a chain of shape t
-pub record Came (T : Answer After) (s t : Shape) (v : Check) (u : Shape) (bonds : List Bond) (w : List Float) : Type 0 where
-  pub verdict : v ≡ verdict_of T
-  pub ends : (a : After) → T ≡ Ok a → Ends s t u bonds w a
+-- o is what T, which began with a chain of shape t, came to
+pub record Came (T : Answer After) (s t : Shape) (o : Answer Walked) (w : List Float) : Type 0 where
+  pub verdict : verdict_of o ≡ verdict_of T
+  pub ends : (a : After) (x : Walked) → T ≡ Ok a → o ≡ Ok x → Ends s t x.shape x.bonds w a
 
 -- one step, by what it leaves
 abbrev pub step_of : Settings → List Axis → List Core → Answer After

@@ -4,27 +4,19 @@
 pub mod moves;
 pub mod shifts;
 
-ghost use Rattle.std.specs.Prelude.{◌≡◌, true, ℕ, ◌≤◌, ◌<◌, length, Ok, Err};
-ghost use Rattle.answers.specs.Outcome.{answered};
+ghost use Rattle.std.specs.Prelude.{◌≡◌, true, ℕ, ◌≤◌, ◌<◌, length, Ok};
+ghost use Rattle.std.specs.Result.{IfOk};
+ghost use Rattle.answers.specs.Outcome.{outcome_of};
 ghost use Rattle.lists.specs.Lists.{tab};
 ghost use Rattle.shape.specs.Shapes.{chain_ok, entries_of};
 ghost use Rattle.shape.specs.Sizes.{Inside};
 ghost use Rattle.shape.specs.Cores.{standing, cores_of};
+ghost use Rattle.cuts.specs.declared.Walked.{Walked};
 ghost use Rattle.cuts.specs.Slots.{AtZone, held_by};
 ghost use Rattle.stepform.specs.Steps.{greater, further_bond, further, steps_of};
 ghost use Rattle.stepform.specs.Call.{axis_reaches};
 ghost use Rattle.checks.specs.Over.{Stands, Rooms};
 ghost use Rattle.steps.specs.Held.{step_held, step_of, Came, Placed, Ready};
-
-fn refused_walk(q: answers::Refusal, t: shape::Shape) -> cuts::Walked
-    ensures { result.verdict ≡ Err q }
-{
-    cuts::Walked {
-        verdict: Err(q),
-        shape: t,
-        bonds: [bond::no_bond(); shape::MOST_AXES],
-    }
-}
 
 // A step of the zones from z on, from what w holds left of z: shifts, scaling, rounding.
 pub fn step_from(
@@ -37,17 +29,15 @@ pub fn step_from(
     carries: &mut [f64],
     room: &mut [f64],
     block: &mut [f64],
-) -> cuts::Walked
+) -> Result<cuts::Walked, answers::Refusal>
     requires stands { (Stands s w.shape work.old) × (Rooms room.old block.old) }
     requires z_le_d { (z ≤ s.d) × ((k : ℕ) → z ≤ k → k < s.d → axis_reaches set s xs k ≡ true) }
     requires at_zone { AtZone s z z w.shape (held_by w work.old carries.old) }
     ensures { (step_held set s z xs w.shape (held_by w work.old carries.old)
-        ≡ answered result.verdict (result.shape, held_by result work.new carries.new)) × (z ≡ 0 → result.verdict ≡ Ok tt → Inside s result.shape) }
+        ≡ outcome_of result (λ (x : Walked). (x.shape, held_by x work.new carries.new))) × (z ≡ 0 → IfOk result (λ (x : Walked). Inside s x.shape)) }
 {
     let t = w.shape;
-    if let Err(q) = shifts::move_from(z, s, t, set, xs, work, room, block) {
-        return refused_walk(q, t);
-    }
+    shifts::move_from(z, s, t, set, xs, work, room, block)?;
     cuts::round_from(z, s, w, set.cutting, work, carries, room)
 }
 
@@ -61,10 +51,10 @@ fn one_step(
     carries: &mut [f64],
     room: &mut [f64],
     block: &mut [f64],
-) -> cuts::Walked
+) -> Result<cuts::Walked, answers::Refusal>
     requires ready { Ready set s xs carries.old room.old block.old }
     requires placed { Placed s t work.old }
-    ensures { Came (step_of set xs (tab s.d (standing s t work.old))) s t result.verdict result.shape result.bonds work.new }
+    ensures { Came (step_of set xs (tab s.d (standing s t work.old))) s t result work.new }
 {
     step_from(
         0,
@@ -120,28 +110,24 @@ fn steps_in(
     carries: &mut [f64],
     room: &mut [f64],
     block: &mut [f64],
-) -> cuts::Walked
+) -> Result<cuts::Walked, answers::Refusal>
     requires ready { Ready set s xs carries.old room.old block.old }
     requires placed { Placed s s work.old }
-    ensures { Came (steps_of m set xs (tab s.d (standing s s work.old))) s s result.verdict result.shape result.bonds work.new }
+    ensures { Came (steps_of m set xs (tab s.d (standing s s work.old))) s s result work.new }
 {
     let mut t = s;
     let mut said = [bond::no_bond(); shape::MOST_AXES];
     for _ in 0..m {
-        let w = one_step(s, t, set, xs, work, carries, room, block);
-        if w.verdict.is_err() {
-            return w;
-        }
+        let w = one_step(s, t, set, xs, work, carries, room, block)?;
         t = w.shape;
         // An array that a call gives is proved only through a variable of its own.
         let more = further(said, w.bonds);
         said = more;
     }
-    cuts::Walked {
-        verdict: Ok(()),
+    Ok(cuts::Walked {
         shape: t,
         bonds: said,
-    }
+    })
 }
 
 // The chain taken into scratch, then m steps of it there.
@@ -152,10 +138,10 @@ pub fn stepped(
     xs: [stepform::Axis; shape::MOST_AXES],
     chain: &[f64],
     scratch: &mut [f64],
-) -> cuts::Walked
+) -> Result<cuts::Walked, answers::Refusal>
     requires s_value { (chain_ok s ≡ Ok tt) × ((k : ℕ) → k < s.d → axis_reaches set s xs k ≡ true) }
     requires chain_len { (length chain.now ≡ entries_of s) × (entries_of s ≤ length scratch.old) }
-    ensures { Came (steps_of m set xs (cores_of s chain.now)) s s result.verdict result.shape result.bonds scratch.new }
+    ensures { Came (steps_of m set xs (cores_of s chain.now)) s s result scratch.new }
 {
     let mut carries = [0.0; shape::MOST_CARRIES];
     let mut room = [0.0; shape::MOST_CORE];
@@ -172,10 +158,10 @@ pub fn stepped_once(
     xs: [stepform::Axis; shape::MOST_AXES],
     chain: &[f64],
     scratch: &mut [f64],
-) -> cuts::Walked
+) -> Result<cuts::Walked, answers::Refusal>
     requires s_value { (chain_ok s ≡ Ok tt) × ((k : ℕ) → k < s.d → axis_reaches set s xs k ≡ true) }
     requires chain_len { (length chain.now ≡ entries_of s) × (entries_of s ≤ length scratch.old) }
-    ensures { Came (step_of set xs (cores_of s chain.now)) s s result.verdict result.shape result.bonds scratch.new }
+    ensures { Came (step_of set xs (cores_of s chain.now)) s s result scratch.new }
 {
     let mut carries = [0.0; shape::MOST_CARRIES];
     let mut room = [0.0; shape::MOST_CORE];

@@ -1,11 +1,16 @@
--- `steps::step_from`: moves that are refused stop it (step_stops); else the rounding of what they left is the step (held_goes), with memory still at its zone (at_again).
-use Rattle.steps.proofs.Asked.{at_again, step_stops}
-use Rattle.steps.proofs.Steps.{held_goes}
+-- `steps::step_from`: moves that are refused stop it (held_stops); else the rounding of what they left is the step (held_goes), with memory still at its zone (at_again).
+use Rattle.std.proofs.lemmas.Result.{err_from_is_err_and}
+use Rattle.answers.specs.Outcome.{outcome_of}
+use Rattle.steps.proofs.Asked.{at_again}
+use Rattle.steps.proofs.Steps.{held_stops, held_goes}
 use native.Mathlib.Omega.{arith}
 use Rattle.steps.proofs.step_from.Goals as goal
 
-pub returns-in-Err : goal.returns-in-Err
-returns-in-Err c = step_stops _ _ _ _ _ _ _ _ c.move_from.ensures.a_value _ c.in-Err.is _ c.refused_walk.ensures _
+pub returns-in_err-move_from : goal.returns-in_err-move_from
+unfolding outcome_of
+returns-in_err-move_from c =
+    let p = err_from_is_err_and c.from_residual.result c.from_residual.ensures.1 in
+    rw (p.1, p.2) (held_stops _ _ _ _ _ _ _ _ c.move_from.ensures.a_value _ c.in_err-move_from.was, λ o. tt)
 
 pub round_from-requires : goal.round_from-requires
 round_from-requires c = record {
@@ -21,7 +26,7 @@ round_from-requires c = record {
 pub returns : goal.returns
 returns c = (
   held_goes _ _ _ _ _ _ _ _ c.move_from.ensures.a_value
-      c.in_default.is c.move_from.ensures.onward _
+      c.in_ok-move_from.was c.move_from.ensures.onward _
       c.round_from.ensures.0,
   c.round_from.ensures.1,
 )

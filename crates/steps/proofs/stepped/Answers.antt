@@ -13,4 +13,4 @@ steps_in-requires c = record {
 pub returns : goal.returns
 returns c = came_own (steps_of c.args.m c.args.set c.args.xs) _ _ _ _
     c.copy.ensures
-    c.requires.chain_len.0 _ _ _ _ c.steps_in.ensures
+    c.requires.chain_len.0 _ _ c.steps_in.ensures

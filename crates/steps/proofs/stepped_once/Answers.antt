@@ -12,4 +12,4 @@ one_step-requires c = record {
 
 pub returns : goal.returns
 returns c = came_own (step_of c.args.set c.args.xs) _ _ _ _ c.copy.ensures
-    c.requires.chain_len.0 _ _ _ _ c.one_step.ensures
+    c.requires.chain_len.0 _ _ c.one_step.ensures
