@@ -3,64 +3,73 @@ use mathlib.Core.Path.{◌≡◌, refl, sym, ap, ◌∙◌, subst}
 use Prim.Native.Nat.{ℕ, ◌≤◌}
 use mathlib.Core.Bool.{Bool, true, false, ◌&&◌, true≢false}
 use mathlib.Core.List.{List}
-use lib.ListN.{length, replicate}
+use lib.ListN.{length, replicate, take}
+use Rattle.numbers.specs.Arithmetic.{zero64}
+use Rattle.lists.specs.Lists.{joined}
+use Rattle.lists.specs.Slots.{slot, fit}
 use lib.Ieee.{Float}
 use Rattle.answers.specs.declared.Refusal.{Refusal}
 use Rattle.std.specs.Prelude.{Ok, Err}
-use Rattle.answers.specs.Outcome.{Answer, Check, ◌then◌, bind, demand}
+use Rattle.answers.specs.Outcome.{Answer, Check, ◌then◌, bind, demand, verdict_of}
 use Rattle.answers.specs.Table.{Late}
 use Rattle.answers.proofs.Late.{late_ok, late_bind}
-use Rattle.answers.proofs.Outcomes.{passed_ok, bind_cong}
+use Rattle.answers.proofs.Outcomes.{passed_ok, bind_cong, ok_inj, err_inj, ok_err}
 use Rattle.lists.proofs.Tests.{both}
 use Rattle.shape.specs.declared.Shape.{Shape}
 use Rattle.shape.specs.Limits.{most_axes, within}
-use Rattle.shape.specs.Shapes.{chain_ok}
+use Rattle.shape.specs.Shapes.{chain_ok, core_size}
 use Rattle.shape.specs.Sizes.{SizesWithin, Inside}
 use Rattle.shape.specs.Cores.{Core, cores_of}
 use Rattle.shape.proofs.Shaped.{shaped, within_is}
 use Rattle.stepform.specs.declared.Axis.{Axis}
 use Rattle.cutform.specs.declared.Rounded.{Rounded}
-use Rattle.cutform.specs.declared.Bond.{Bond}
 use Rattle.cutform.specs.declared.Cutting.{Cutting}
 use Rattle.cutform.specs.Bonds.{no_bond}
+use Rattle.std.specs.Result.{IfOk}
 use Rattle.cuts.specs.declared.Walked.{Walked}
 use Rattle.cutform.specs.Rounding.{After, after_cuts}
 use Rattle.cutform.specs.Call.{not_below_zero, cutting_ok, Ended, ended_as, ended_by}
-use Rattle.rounding.specs.Slots.{finished_by, finished}
+use Rattle.rounding.specs.Slots.{finished}
 use Rattle.stepform.specs.declared.Settings.{Settings}
 use Rattle.stepform.specs.Steps.{step, steps_of}
 use Rattle.stepform.specs.Lone.{lone_finite, lone_ok, most_steps, course_finite, course_ok}
 use Rattle.stepform.specs.Call.{settings_ok, step_ok, step_over, settings_for, evolve_over}
 use Rattle.steps.specs.Held.{step_of, Came}
 use Rattle.evolution.specs.Held.{Finished, Answers}
-use Rattle.steps.proofs.Asked.{not_fits}
 use Rattle.stepform.proofs.Late.{late_step}
 use Rattle.evolution.proofs.Ends.{finished_is, over_stops, over_goes, over_passed}
 
-pub came_inside : (T : Answer After) (s t : Shape) (v : Check) (u : Shape) (bonds : List Bond) (w : List Float) → Came T s t v u bonds w
-    → v ≡ Ok tt → Inside s u
-came_inside T s t v u bonds w C h = let D = passed_ok T (sym C.verdict ∙ h) in (C.ends D.0 D.1).inside
+pub came_inside : (T : Answer After) (s t : Shape) (o : Answer Walked) (w : List Float) → Came T s t o w → IfOk o (λ (x : Walked). Inside s x.shape)
+came_inside T s t o w C = go o refl
+  where
+    go : (u : Answer Walked) → o ≡ u → IfOk u (λ (x : Walked). Inside s x.shape)
+    go (Ok x) h = let D = passed_ok T (sym C.verdict ∙ ap verdict_of h) in (C.ends D.0 x D.1 h).inside
+    go (Err q) h = tt
 
 pub ok_sizes : (s : Shape) → chain_ok s ≡ Ok tt → SizesWithin s
 ok_sizes s e = (shaped s (λ (k : ℕ). true) e).sizes
 
 -- ---- the end
 -- the call's end as `finish` answers it
-pub finished_as : (s : Shape) (w : Walked) (l v : List Float) (e : Ended) → e ≡ finished s w l v → Finished s w l v e.result e.chain e.scratch
-finished_as s w l v e p = go w.verdict refl p
-  where
-    go : (x : Check) → w.verdict ≡ x → e ≡ finished_by x s w l v → Finished s w l v e.result e.chain e.scratch
-    go (Ok _) h p = record { cleared = ap (λ (y : Ended). y.scratch) p; refused = λ q g. absurd (not_fits w.verdict q g h); made = λ g. (ap (λ (y : Ended). y.result) p, ap (λ (y : Ended). y.chain) p) }
-    go (Err q) h p =
-        record {
-          cleared = ap (λ (y : Ended). y.scratch) p;
-          refused = λ r g. let z : q ≡ r = cc in (ap (λ (y : Ended). y.result) p ∙ ap (λ (y : Refusal). record { verdict = Err y; shape = s; bonds = replicate most_axes no_bond }) z, ap (λ (y : Ended). y.chain) p);
-          made = λ g. absurd (not_fits w.verdict q h g);
-        }
+pub finished_as : (s : Shape) (o : Answer Walked) (l v : List Float) (e : Ended) → e ≡ finished s o l v → Finished s o l v e.result e.chain e.scratch
+finished_as s (Ok x) l v e p = record {
+  cleared = ap (λ (y : Ended). y.scratch) p;
+  refused = λ q g. absurd (ok_err g);
+  made = λ w g.
+      subst
+      (λ (y : Walked). (e.result ≡ record { verdict = Ok tt; shape = y.shape; bonds = y.bonds })
+      × (e.chain ≡ fit zero64 (length l) (joined s.d (λ (k : ℕ). take (core_size y.shape k) (slot (core_size s) k v))))) (ok_inj g)
+      (ap (λ (y : Ended). y.result) p, ap (λ (y : Ended). y.chain) p);
+}
+finished_as s (Err q) l v e p = record {
+  cleared = ap (λ (y : Ended). y.scratch) p;
+  refused = λ r g. (ap (λ (y : Ended). y.result) p ∙ ap (λ (y : Refusal). record { verdict = Err y; shape = s; bonds = replicate most_axes no_bond }) (err_inj g), ap (λ (y : Ended). y.chain) p);
+  made = λ w g. absurd (ok_err (sym g));
+}
 
-pub work_done : (T : Answer After) (s : Shape) (w : Walked) (l u x : List Float) (r : Rounded) (l' v' : List Float) → length u ≡ length x → Late T
-    → Came T s s w.verdict w.shape w.bonds u → Finished s w l u r l' v' → Answers (ended_as s l x T) r l' v'
-work_done T s w l u x r l' v' n L C F = finished_is s w l u x r l' v' F n T L C
+pub work_done : (T : Answer After) (s : Shape) (o : Answer Walked) (l u x : List Float) (r : Rounded) (l' v' : List Float) → length u ≡ length x → Late T
+    → Came T s s o u → Finished s o l u r l' v' → Answers (ended_as s l x T) r l' v'
+work_done T s o l u x r l' v' n L C F = finished_is s o l u x r l' v' F n T L C
 
 -- one step refuses late
 pub late_once : (set : Settings) (xs : List Axis) (cs : List Core) → Late (step_of set xs cs)

@@ -11,7 +11,8 @@ use Rattle.numbers.specs.Arithmetic.{zero64}
 use Rattle.answers.specs.declared.Refusal.{Refusal}
 use Rattle.answers.specs.declared.Refusal.TheVariants.{Length, Number, Setting, Reach}
 use Rattle.std.specs.Prelude.{Ok, Err}
-use Rattle.answers.specs.Outcome.{Answer, Check, ◌then◌, demand, demand_each}
+use Rattle.answers.proofs.Outcomes.{passed_ok, ok_err, err_inj}
+use Rattle.answers.specs.Outcome.{Answer, Check, verdict_of, ◌then◌, demand, demand_each}
 use Rattle.answers.specs.Table.{before_work, Late}
 use Rattle.answers.proofs.Checks.{demand_is, then_is, each_is, verdict_passed, verdict_refused}
 use Rattle.answers.proofs.Late.{Early, early_demand, early_then, early_each}
@@ -40,16 +41,23 @@ use Rattle.steps.specs.Held.{Came}
 use Rattle.evolution.specs.Held.{Finished, Answers}
 
 -- ---- the end
--- the steps came to w and left u in scratch, which was x
-module _ (s : Shape) (w : Walked) (l u x : List Float) (r : Rounded) (l' v' : List Float) (F : Finished s w l u r l' v') (n : length u ≡ length x) where
+-- what has a refusal as its verdict is that refusal
+refused_is : {A : Type 0} (o : Answer A) (q : Refusal) → verdict_of o ≡ Err q → o ≡ Err q
+refused_is (Ok a) q e = absurd (ok_err e)
+refused_is (Err r) q e = ap Err (err_inj e)
+
+-- the steps came to o and left u in scratch, which was x
+module _ (s : Shape) (o : Answer Walked) (l u x : List Float) (r : Rounded) (l' v' : List Float) (F : Finished s o l u r l' v') (n : length u ≡ length x) where
   cleared : v' ≡ zeros (length x)
   cleared = F.cleared ∙ ap zeros n
 
-  pub finished_is : (T : Answer After) → Late T → Came T s s w.verdict w.shape w.bonds u → Answers (ended_as s l x T) r l' v'
+  pub finished_is : (T : Answer After) → Late T → Came T s s o u → Answers (ended_as s l x T) r l' v'
   unfolding ended_as scratch_after standing
   finished_is (Ok a) L C =
-      let E = C.ends a refl in
-      let M = F.made C.verdict in
+      let P = passed_ok o C.verdict in
+      let w = P.0 in
+      let E = C.ends a w refl P.1 in
+      let M = F.made w P.1 in
       record {
         result = M.0
             ∙ ap (λ (y : Shape). record { verdict = Ok tt; shape = y; bonds = w.bonds }) E.shape
@@ -60,7 +68,7 @@ module _ (s : Shape) (w : Walked) (l u x : List Float) (r : Rounded) (l' v' : Li
         scratch = cleared;
       }
   finished_is (Err q) L C =
-      let M = F.refused q C.verdict in
+      let M = F.refused q (refused_is o q C.verdict) in
       record { result = M.0; chain = M.1; scratch = cleared ∙ unpicked (before_work q) (L q refl) }
     where
       unpicked : (b : Bool) → b ≡ false → zeros (length x) ≡ pick b x (zeros (length x))

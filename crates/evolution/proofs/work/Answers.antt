@@ -8,7 +8,7 @@ pub finish-requires : goal.finish-requires
 finish-requires c = record {
   sizes_within = ok_sizes _ c.requires.s_value.0;
   inside = (
-    came_inside _ _ _ _ _ _ _ c.stepped-w.ensures,
+    came_inside _ _ _ _ _ c.stepped-w.ensures,
     omega (arith, c.requires.chain_len.0),
     omega (arith, c.requires.chain_len.1, c.stepped-w.auto.scratch),
   );
