@@ -8,7 +8,7 @@ use lib.ListN.{length}
 use lib.Ieee.{Float}
 use Rattle.answers.specs.declared.Refusal.{Refusal}
 use Rattle.std.specs.Prelude.{Ok, Err}
-use Rattle.answers.specs.Outcome.{answered, Check}
+use Rattle.answers.specs.Outcome.{Answer, answered, outcome_of, Check}
 use Rattle.lists.specs.Slots.{offset}
 use Rattle.lists.specs.Floats.{at}
 use Rattle.shape.specs.declared.Shape.{Shape}
@@ -26,7 +26,7 @@ use Rattle.stepform.specs.Zones.{rules}
 use Rattle.runform.specs.declared.Run.{Run}
 use Rattle.runform.specs.declared.Ran.{Ran}
 use Rattle.runform.specs.Slices.{Outputs, Slices, outputs}
-use Rattle.runform.specs.Kept.{kept_of, all_carries, all_sums}
+use Rattle.runform.specs.Kept.{Kept, kept_of, all_carries, all_sums}
 use Rattle.runform.specs.Work.{work_from}
 use Rattle.run_slices.specs.Passing.{Beside, over_from}
 use Rattle.run_work.specs.InPlace.{in_place, held_in, Steps, Sums, Memory}
@@ -78,19 +78,25 @@ module _ (r : Run) (z : ℕ) (weights : List Float) (m : Outputs (List Float)) (
 
     pub redo_asks : Steps z w r.set r.axes scratch held × Sums w.shape weights summed
     redo_asks = subst (λ (x : Walked). Steps z x r.set r.axes scratch held × Sums x.shape weights summed) (sym e)
-        (record { ok = A.ok; zone = A.zone; fits = refl; reach = A.reach; ranks = A.ranks; cores = A.room; carried = hl }, record { points = A.points; summed = sl })
+        (record { ok = A.ok; zone = A.zone; reach = A.reach; ranks = A.ranks; cores = A.room; carried = hl }, record { points = A.points; summed = sl })
 
     module _ (carry : Beside (carry_size r.shape) z m.carries held) (sum : Beside (sum_size r.shape) z m.sums summed)
-        (x : Walked) (work held' summed' : List Float)
-        (o : work_from rules (held_in (in_place w.shape r.axes r.set scratch weights) w scratch held summed) z ≡ answered x.verdict (held_in (in_place w.shape r.axes r.set scratch weights) x work held' summed')) where
+        (o : Answer Walked) (work held' summed' : List Float)
+        (d : work_from rules (held_in (in_place w.shape r.axes r.set scratch weights) w scratch held summed) z ≡ outcome_of o (λ (x : Walked). held_in (in_place w.shape r.axes r.set scratch weights) x work held' summed')) where
       abbrev s : Shape
       s = r.shape
 
-      own : work_from rules (held_in (in_place r.shape r.axes r.set scratch weights) (walked_of r) scratch held summed) z ≡ answered x.verdict (held_in (in_place r.shape r.axes r.set scratch weights) x work held' summed')
+      abbrev begun : Answer Kept
+      begun = work_from rules (held_in (in_place r.shape r.axes r.set scratch weights) (walked_of r) scratch held summed) z
+
+      abbrev come : Walked → Kept
+      come x = held_in (in_place r.shape r.axes r.set scratch weights) x work held' summed'
+
+      own : begun ≡ outcome_of o come
       own =
           subst
-          (λ (y : Walked). work_from rules (held_in (in_place y.shape r.axes r.set scratch weights) y scratch held summed) z ≡ answered x.verdict
-          (held_in (in_place y.shape r.axes r.set scratch weights) x work held' summed')) e o
+          (λ (y : Walked). work_from rules (held_in (in_place y.shape r.axes r.set scratch weights) y scratch held summed) z
+          ≡ outcome_of o (λ (x : Walked). held_in (in_place y.shape r.axes r.set scratch weights) x work held' summed')) e d
 
       abbrev figure : Float
       figure = at summed' (offset (sum_size r.shape) (r.shape.d - 1))
@@ -103,9 +109,9 @@ module _ (r : Run) (z : ℕ) (weights : List Float) (m : Outputs (List Float)) (
       over = outputs (over_from (offset (core_size r.shape) z) m.chain work) (over_from (offset (carry_size r.shape) z) m.carries held') (over_from (offset (sum_size r.shape) z) m.sums summed')
 
       -- whatever its source is elsewhere
-      came : (source : List Float) → SourcesFrom r.shape z source scratch
-          → work_from rules (kept_of r (slices_with source m)) z ≡ answered x.verdict (kept_of (run_with r x figure) (slices_with source over))
-      came source f =
+      came : (v : Check) (x : Walked) → begun ≡ answered v (come x) → (source : List Float) → SourcesFrom r.shape z source scratch
+          → work_from rules (kept_of r (slices_with source m)) z ≡ answered v (kept_of (run_with r x figure) (slices_with source over))
+      came v x t source f =
           let k = kept_of r (slices_with source m) in
           let M' : Memory k.inputs k.stepped k.summed z scratch held summed = record {
             sources = f;
@@ -119,27 +125,27 @@ module _ (r : Run) (z : ℕ) (weights : List Float) (m : Outputs (List Float)) (
             sums_long = sums_long;
           } in
           work_over k.inputs shp k.stepped k.summed z A.zone scratch held summed M' (held_by x work held') summed'
-          (offset (core_size s) z) (offset (carry_size s) z) (offset (sum_size s) z) refl refl refl x.verdict own
+          (offset (core_size s) z) (offset (carry_size s) z) (offset (sum_size s) z) refl refl refl v t
 
-      pub renew_stops : (q : Refusal) → x.verdict ≡ Err q → (a : Ran) → a ≡ record { verdict = Err q; run = r } → Renewed r z weights m scratch a m
-      unfolding answered
+      pub renew_stops : (q : Refusal) → o ≡ Err q → (a : Ran) → a ≡ record { verdict = Err q; run = r } → Renewed r z weights m scratch a m
+      unfolding answered outcome_of
       renew_stops q f a g = subst (λ (y : Ran). Renewed r z weights m scratch y m) (sym g) (record {
-        work = λ source h. came source h ∙ ap (λ (v : Check). answered v (kept_of (run_with r x figure) (slices_with source over))) f;
+        work = came (Err q) w (own ∙ rw f);
         left = λ p h. (refl, refl);
       })
 
-      pub renew_fits : x.verdict ≡ Ok tt → (chain' carries' sums' : List Float) (f : Float)
+      pub renew_fits : (x : Walked) → o ≡ Ok x → (chain' carries' sums' : List Float) (f : Float)
           → (f ≡ figure) × (chain' ≡ over_from (offset (core_size r.shape) z) m.chain work)
           × (carries' ≡ over_from (offset (carry_size r.shape) z) m.carries held') × (sums' ≡ over_from (offset (sum_size r.shape) z) m.sums summed')
           → (a : Ran) → a ≡ record { verdict = Ok tt; run = run_with r x f } → Renewed r z weights m scratch a (outputs chain' carries' sums')
-      renew_fits v chain' carries' sums' f c a g = subst (λ (y : Ran). Renewed r z weights m scratch y (outputs chain' carries' sums')) (sym g) (record {
+      unfolding answered outcome_of
+      renew_fits x v chain' carries' sums' f c a g = subst (λ (y : Ran). Renewed r z weights m scratch y (outputs chain' carries' sums')) (sym g) (record {
         work = λ source h.
-            came source h
-            ∙ ap (λ (y : Check). answered y (kept_of (run_with r x figure) (slices_with source over))) v
-            ∙ ap (answered (Ok tt)) (parts source (sym c.0) (sym c.1) (sym c.2) (sym c.3));
+            came (Ok tt) x (own ∙ rw v) source h
+            ∙ ap Ok (parts x source (sym c.0) (sym c.1) (sym c.2) (sym c.3));
         left = λ p h. let n : ◌≡◌ {A = ℕ} 0 1 = cc in let no : ⊥ = omega arith in absurd no;
       })
         where
-          parts : (source : List Float) {f f' : Float} {b b' c c' d d' : List Float} → f ≡ f' → b ≡ b' → c ≡ c' → d ≡ d'
+          parts : (x : Walked) (source : List Float) {f f' : Float} {b b' c c' d d' : List Float} → f ≡ f' → b ≡ b' → c ≡ c' → d ≡ d'
               → kept_of (run_with r x f) (slices_with source (outputs b c d)) ≡ kept_of (run_with r x f') (slices_with source (outputs b' c' d'))
-          parts source o p q t = cc
+          parts x source o p q t = cc

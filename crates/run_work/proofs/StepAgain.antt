@@ -9,8 +9,8 @@ use lib.ListN.{length, take, drop, length-map}
 use lib.Seq.{take-take}
 use lib.Ieee.{Float}
 use Rattle.std.specs.Prelude.{Ok, Err}
-use Rattle.answers.specs.Outcome.{Answer, bind, answered, Check}
-use Rattle.answers.proofs.Outcomes.{bind_assoc, answered_ok}
+use Rattle.answers.specs.Outcome.{Answer, bind, outcome_of}
+use Rattle.answers.proofs.Outcomes.{bind_assoc}
 use Rattle.lists.specs.Lists.{listed}
 use Rattle.lists.specs.Slots.{offset, slot}
 use Rattle.lists.proofs.Tables.{listed_same}
@@ -23,6 +23,7 @@ use Rattle.shape.proofs.Insides.{inside_itself}
 use Rattle.stepform.specs.declared.Axis.{Axis}
 use Rattle.stepform.specs.Axes.{axis_at}
 use Rattle.cutform.specs.Rounding.{Carry, some, Cut, cores_in}
+use Rattle.std.specs.Result.{IfOk}
 use Rattle.cuts.specs.declared.Walked.{Walked}
 use Rattle.cutform.specs.Keeping.{Stepped, carry_size, rank_at, keep_step, carry_left}
 use Rattle.cuts.specs.Slots.{AtZone, held_by, rank_left}
@@ -65,13 +66,13 @@ module _ (s : Shape) (shp : Shaped s) where
         ∙ ap (λ (c : Carry). bind (T c (listed (s.d - z) z (zone_in s s xs h.chain))) (λ tr. Ok (keep_step s z tr h))) (carry_left_lem h z l)
         ∙ ap (λ (zs : List Zone). bind (T (carry_at s h z) zs) (λ tr. Ok (keep_step s z tr h))) zones_stand
 
-    second : (v : Check) (t : Shape) (h' : Stepped) → bind {A = Shape × Stepped} (answered v (t, h')) (λ x. Ok x.1) ≡ answered v h'
-    unfolding answered
-    second (Ok _) t h' = refl
-    second (Err q) t h' = refl
+    second : {D : Type 0} (o : Answer D) (f : D → Shape × Stepped) → bind (outcome_of o f) (λ x. Ok x.1) ≡ outcome_of o (λ x. (f x).1)
+    unfolding outcome_of
+    second (Ok x) f = refl
+    second (Err q) f = refl
 
-    pub restep_is : (v : Check) (t : Shape) (h' : Stepped) → step_held set s z xs s h ≡ answered v (t, h') → restep rules i h z ≡ answered v h'
-    restep_is v t h' e = sym held_restep ∙ ap (λ (o : Answer (Shape × Stepped)). bind o (λ x. Ok x.1)) e ∙ second v t h'
+    pub restep_is : {D : Type 0} (o : Answer D) (f : D → Shape × Stepped) → step_held set s z xs s h ≡ outcome_of o f → restep rules i h z ≡ outcome_of o (λ x. (f x).1)
+    restep_is o f e = sym held_restep ∙ ap (λ (y : Answer (Shape × Stepped)). bind y (λ x. Ok x.1)) e ∙ second o f
 
 -- a list has as many places as what is made of it place by place: so an array of records has those of its memory
 pub mapped_long : (X Y : Type 0) (f : X → Y) (l : List X) (n : ℕ) → length (map f l) ≡ n → length l ≡ n
@@ -119,9 +120,14 @@ module _ (z : ℕ) (w : Walked) (set : Settings) (xs : List Axis) (work carries 
   roomy : Roomy w.shape held
   roomy = let b = bond_count w.shape shp.least in let m = shp.most in record { bonds = omega arith; chain = S.cores; carries = S.carried }
 
-  pub step_made : (r : Walked) (work' carries' : List Float) → step_held set w.shape z xs w.shape held ≡ answered r.verdict (r.shape, held_by r work' carries')
-      → ((weights : List Float) → restep rules (in_place w.shape xs set work weights) held z ≡ answered r.verdict (held_by r work' carries')) × (r.verdict ≡ Ok tt → RanksWithin w.shape r.bonds w.shape.d)
-  step_made r work' carries' e =
-      let R : (weights : List Float) → restep rules (in_place w.shape xs set work weights) held z ≡ answered r.verdict (held_by r work' carries') =
-      λ weights. restep_is w.shape shp xs set weights held z S.zone r.verdict r.shape (held_by r work' carries') e in
-      (R, λ f. ranks_after (in_place w.shape xs set work []) shp held (held_by r work' carries') roomy z S.zone S.ranks (R [] ∙ ap (λ (v : Check). answered v (held_by r work' carries')) f ∙ answered_ok (held_by r work' carries')))
+  pub step_made : (o : Answer Walked) (work' carries' : List Float) → step_held set w.shape z xs w.shape held ≡ outcome_of o (λ (x : Walked). (x.shape, held_by x work' carries'))
+      → ((weights : List Float) → restep rules (in_place w.shape xs set work weights) held z ≡ outcome_of o (λ (x : Walked). held_by x work' carries')) × IfOk o (λ (x : Walked). RanksWithin w.shape x.bonds w.shape.d)
+  unfolding outcome_of
+  step_made o work' carries' e = (R, go o refl)
+    where
+      R : (weights : List Float) → restep rules (in_place w.shape xs set work weights) held z ≡ outcome_of o (λ (x : Walked). held_by x work' carries')
+      R weights = restep_is w.shape shp xs set weights held z S.zone o (λ (x : Walked). (x.shape, held_by x work' carries')) e
+
+      go : (u : Answer Walked) → o ≡ u → IfOk u (λ (x : Walked). RanksWithin w.shape x.bonds w.shape.d)
+      go (Ok x) h = ranks_after (in_place w.shape xs set work []) shp held (held_by x work' carries') roomy z S.zone S.ranks (R [] ∙ rw h)
+      go (Err q) h = tt

@@ -1,5 +1,5 @@
 -- The step, then the sums: a run's work by what its two parts came to. Assumes nothing.
-use mathlib.Core.Path.{◌≡◌, refl, sym, ap, ◌∙◌}
+use mathlib.Core.Path.{◌≡◌, refl, ap, ◌∙◌}
 use Prim.Native.Nat.{ℕ, suc, ◌≤◌, ◌<◌}
 use mathlib.Core.Bool.{Bool, true, false, cond}
 use mathlib.Core.List.{List}
@@ -8,7 +8,7 @@ use lib.ListN.{length}
 use lib.Ieee.{Float}
 use Rattle.answers.specs.declared.Refusal.{Refusal}
 use Rattle.std.specs.Prelude.{Ok, Err}
-use Rattle.answers.specs.Outcome.{Answer, bind, answered, Check}
+use Rattle.answers.specs.Outcome.{Answer, bind, answered, outcome_of, Check}
 use Rattle.lists.proofs.Tests.{leb_yes, ltb_is, and_yes}
 use Rattle.shape.specs.declared.Shape.{Shape}
 use Rattle.shape.specs.Limits.{most_axes, within}
@@ -23,7 +23,7 @@ use Rattle.product.specs.Lent.{SumsStand}
 use Rattle.stepform.specs.Zones.{rules}
 use Rattle.run_work.specs.Ranked.{Ranked}
 use Rattle.run_work.proofs.Ranked.{ranked_inside}
-use Rattle.runform.specs.Kept.{Inputs, Summed, Kept, running}
+use Rattle.runform.specs.Kept.{Inputs, Summed, running}
 use Rattle.runform.specs.Checks.{rank_ok}
 use Rattle.runform.specs.Work.{restep, resum, sum_from, work_from}
 use Rattle.run_work.proofs.Resums.{resum_is}
@@ -49,35 +49,45 @@ module _ (s : Shape) (ok : chain_ok s ≡ Ok tt) (bonds : List Bond) (R : RanksW
   sums_stand t Q work weights sums S l = record { within = (shaped s (λ (k : ℕ). true) ok).sizes; inside = ranked_inside s bonds ranks_pass t Q; cores = l; points = S.points }
 
 -- ---- both
-module _ (i : Inputs) (h h' : Stepped) (z : ℕ) (v : Check) (e : restep rules i h z ≡ answered v h') (u : Summed) where
-  pub work_stops : (q : Refusal) → v ≡ Err q → (k : Kept) → work_from rules (running i h u) z ≡ answered v k
-  unfolding work_from answered
-  work_stops q f k =
-      ap (λ (o : Answer Stepped). bind o (λ t. sum_from rules (running i t u) z)) (e ∙ ap (λ (x : Check). answered x h') f)
-      ∙ sym (ap (λ (x : Check). answered x k) f)
+module _ (i : Inputs) (h : Stepped) (z : ℕ) (u : Summed) where
+  pub work_stops : (q : Refusal) → restep rules i h z ≡ Err q → work_from rules (running i h u) z ≡ Err q
+  unfolding work_from sum_from
+  work_stops q e = ap (λ (o : Answer Stepped). bind o (λ t. sum_from rules (running i t u) z)) e
 
-  work_opened : v ≡ Ok tt → work_from rules (running i h u) z ≡ bind (resum rules i h' u z) (λ x. Ok (running i h' x))
-  unfolding work_from answered sum_from
-  work_opened f = ap (λ (o : Answer Stepped). bind o (λ t. sum_from rules (running i t u) z)) (e ∙ ap (λ (x : Check). answered x h') f)
+  module _ (h' : Stepped) (e : restep rules i h z ≡ Ok h') where
+    work_opened : work_from rules (running i h u) z ≡ bind (resum rules i h' u z) (λ x. Ok (running i h' x))
+    unfolding work_from sum_from
+    work_opened = ap (λ (o : Answer Stepped). bind o (λ t. sum_from rules (running i t u) z)) e
 
-  module _ (f : v ≡ Ok tt) (inside : z < i.shape.d) (t : Shape) (Q : Ranked i.shape h'.bonds t i.shape.d) (r : Check) (sums : List Float)
-      (g : sums_from i.shape t h'.chain i.weights z u.sums ≡ answered r sums) where
-    work_goes : work_from rules (running i h u) z ≡ answered r (running i h' (summed_in i.shape sums))
+    module _ (inside : z < i.shape.d) (t : Shape) (Q : Ranked i.shape h'.bonds t i.shape.d) (r : Check) (sums : List Float)
+        (g : sums_from i.shape t h'.chain i.weights z u.sums ≡ answered r sums) where
+      work_goes : work_from rules (running i h u) z ≡ answered r (running i h' (summed_in i.shape sums))
+      unfolding answered
+      work_goes =
+          work_opened
+          ∙ ap (λ (o : Answer Summed). bind o (λ x. Ok (running i h' x))) (resum_is i h' t Q u z inside ∙ ap (λ (o : Answer (List Float)). bind o (λ l. Ok (summed_in i.shape l))) g)
+          ∙ twice r
+        where
+          twice : (r : Check) → bind (bind (answered r sums) (λ l. Ok (summed_in i.shape l))) (λ x. Ok (running i h' x)) ≡ answered r (running i h' (summed_in i.shape sums))
+          twice (Ok _) = refl
+          twice (Err q) = refl
+
+-- ---- the step came to w, and r is the verdict on the sums
+module _ (i : Inputs) (h : Stepped) (z : ℕ) (o : Answer Walked) (work carries sums : List Float) (e : restep rules i h z ≡ outcome_of o (λ (x : Walked). held_by x work carries)) where
+  pub work_refused : (q : Refusal) → o ≡ Err q → work_from rules (running i h (summed_in i.shape sums)) z ≡ Err q
+  unfolding outcome_of
+  work_refused q f = work_stops i h z (summed_in i.shape sums) q (e ∙ rw f)
+
+  module _ (w : Walked) (f : o ≡ Ok w) (inside : z < i.shape.d) (t : Shape) (Q : Ranked i.shape w.bonds t i.shape.d) (r : Check) (sums' : List Float)
+      (g : sums_from i.shape t work i.weights z sums ≡ answered r sums') where
+    work_judged : work_from rules (running i h (summed_in i.shape sums)) z ≡ answered r (held_in i w work carries sums')
+    unfolding outcome_of
+    work_judged = work_goes i h z (summed_in i.shape sums) (held_by w work carries) (e ∙ rw f) inside t Q r sums' g
+
+    pub sums_refused : (q : Refusal) → r ≡ Err q → work_from rules (running i h (summed_in i.shape sums)) z ≡ Err q
     unfolding answered
-    work_goes =
-        work_opened f
-        ∙ ap (λ (o : Answer Summed). bind o (λ x. Ok (running i h' x))) (resum_is i h' t Q u z inside ∙ ap (λ (o : Answer (List Float)). bind o (λ l. Ok (summed_in i.shape l))) g)
-        ∙ twice r
-      where
-        twice : (r : Check) → bind (bind (answered r sums) (λ l. Ok (summed_in i.shape l))) (λ x. Ok (running i h' x)) ≡ answered r (running i h' (summed_in i.shape sums))
-        twice (Ok _) = refl
-        twice (Err q) = refl
+    sums_refused q k = work_judged ∙ rw k
 
--- ---- the bonds of the step with the verdict on the sums
-pub work_judged : (i : Inputs) (h : Stepped) (z : ℕ) (w : Walked) (work carries sums sums' : List Float) → restep rules i h z ≡ answered w.verdict (held_by w work carries) → w.verdict ≡ Ok tt → z < i.shape.d
-    → (t : Shape) → Ranked i.shape w.bonds t i.shape.d → (r : Check) → sums_from i.shape t work i.weights z sums ≡ answered r sums'
-    → (x : Walked) → x ≡ record { verdict = r; shape = w.shape; bonds = w.bonds }
-    → work_from rules (running i h (summed_in i.shape sums)) z ≡ answered x.verdict (held_in i x work carries sums')
-work_judged i h z w work carries sums sums' e f inside t Q r g x j =
-    work_goes i h (held_by w work carries) z w.verdict e (summed_in i.shape sums) f inside t Q r sums' g
-    ∙ ap (λ (y : Walked). answered y.verdict (held_in i y work carries sums')) (sym j)
+    pub work_done : r ≡ Ok tt → work_from rules (running i h (summed_in i.shape sums)) z ≡ Ok (held_in i w work carries sums')
+    unfolding answered
+    work_done k = work_judged ∙ rw k

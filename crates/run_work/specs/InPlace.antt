@@ -35,7 +35,6 @@ RanksWithin s bonds m = (k : ℕ) → k < m → suc k < s.d → (1 ≤ rank_amon
 pub record Steps (z : ℕ) (w : Walked) (set : Settings) (xs : List Axis) (work carries : List Float) : Type 0 where
   pub ok : chain_ok w.shape ≡ Ok tt
   pub zone : z < w.shape.d
-  pub fits : w.verdict ≡ (Ok tt)
   pub reach : (k : ℕ) → z ≤ k → k < w.shape.d → axis_reaches set w.shape xs k ≡ true
   pub ranks : RanksWithin w.shape w.bonds z
   pub cores : entries_of w.shape ≤ length work

@@ -39,7 +39,7 @@ pub record Renewed (r : Run) (z : ℕ) (weights : List Float) (m : Outputs (List
 
 -- the bonds of a run
 abbrev pub walked_of : Run → Walked
-walked_of r = record { verdict = Ok tt; shape = r.shape; bonds = r.bonds }
+walked_of r = record { shape = r.shape; bonds = r.bonds }
 
 -- and the run with new ones, and with a new figure
 abbrev pub run_with : Run → Walked → Float → Run

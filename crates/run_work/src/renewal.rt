@@ -44,11 +44,7 @@ fn walked_of(r: runform::Run) -> cuts::Walked
 {
     let shape = r.shape;
     let bonds = r.bonds;
-    cuts::Walked {
-        verdict: Ok(()),
-        shape,
-        bonds,
-    }
+    cuts::Walked { shape, bonds }
 }
 
 fn fitted(mut r: runform::Run, w: cuts::Walked, figure: f64) -> runform::Ran
@@ -84,7 +80,7 @@ fn worked(
     let mut summed = [0.0; shape::MOST_SUMS];
     run_slices::take_carry(z, s, carries, &mut held);
     run_slices::take_sum(z, s, sums, &mut summed);
-    let w = crate::again::redo_from(
+    let redone = crate::again::redo_from(
         z,
         walked_of(r),
         set,
@@ -94,9 +90,10 @@ fn worked(
         &mut held,
         &mut summed,
     );
-    if let Err(q) = w.verdict {
-        return crate::refused(q, r);
-    }
+    let w = match redone {
+        Ok(w) => w,
+        Err(q) => return crate::refused(q, r),
+    };
     let figure = run_slices::commit(z, s, scratch, &held, &summed, chain, carries, sums);
     fitted(r, w, figure)
 }
