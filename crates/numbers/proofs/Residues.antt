@@ -1,13 +1,15 @@
 -- Integers modulo n: a residue is below n, and a sum's residue is that of the residues. Assumes nothing.
+use Rattle.std.proofs.Common.{zero-le}
 use mathlib.Core.Path.{◌≡◌, refl, sym, ap, ◌∙◌}
-use Prim.Native.Nat.{ℕ, suc, ◌+◌, ◌-◌, ◌*◌, ◌/◌, ◌%◌, ◌≤◌, ◌<◌}
-use native.Mathlib.Nat.{mod-lt, mod-eq_of_lt, add-mod_left, add-mod-mod, add-mul-mod_self_right, div-add-mod', suc-mul}
+use mathlib.Core.Logic.{inl, inr}
+use Prim.Native.Nat.{ℕ, zero, suc, ◌+◌, ◌-◌, ◌*◌, ◌/◌, ◌%◌, ◌≤◌, ◌<◌}
+use native.Mathlib.Nat.{eq-or-lt_of_le, zero-mod, sub-zero, sub_self, mod-lt, mod-eq_of_lt, mod_self, add-mod_left, add-mod_right, add-mod-mod, add-mul-mod_self_right, suc-mod, div-add-mod', add-zero, suc-mul}
 use native.Mathlib.Omega.{arith}
-use mathlib.Core.Bool.{Bool, true, false, cond}
+use mathlib.Core.Bool.{Bool, true, false, cond, true≢false}
 use borrow.Author.Tests.{le-ltb, ltb-true, ltb-false}
 use lib.Dec.{ltb}
 use lib.IntN.{ℤ, pos, negsuc, nat_abs, sub_ℕ, ◌+ℤ◌, ◌-ℤ◌, +ℤ_comm, +ℤ_assoc}
-use Rattle.std.specs.Int.{int_rem_euclid}
+use Rattle.std.specs.Prelude.{int_lt}
 use Rattle.numbers.specs.Residues.{wrap}
 
 pub wrap_lt : (n : ℕ) (z : ℤ) → 0 < n → wrap n z < n
@@ -65,8 +67,23 @@ wrap_before n z h =
     let e : negsuc 0 +ℤ pos n ≡ pos (n - 1) = ap (λ (b : Bool). cond b (negsuc (1 - suc n)) (pos (n - 1))) (le-ltb n 1 h) in
     ap (wrap n) (+ℤ_comm (pos (n - 1)) z ∙ ap (λ (y : ℤ). z +ℤ y) (sym e) ∙ sym (+ℤ_assoc z (negsuc 0) (pos n))) ∙ wrap_around n (z -ℤ pos 1) h
 
--- ---- Euclid's remainder of the library is the residue
-pub euclid_wrap : (n : ℕ) (z : ℤ) → nat_abs (int_rem_euclid z (pos n)) ≡ wrap n z
+-- ---- a difference, by what n leaves of the second
+next : (n i r : ℕ) → r < n → (i + (n - suc r)) % n ≡ (i + (n - suc r % n)) % n
+next n i r h = elim (eq-or-lt_of_le h) [
+  | inl e ↦ rw (e, mod_self n, sub_self n, sub-zero n, add-zero i) (sym (add-mod_right i n))
+  | inr l ↦ ap (λ (x : ℕ). (i + (n - x)) % n) (sym (mod-eq_of_lt l))
+]
+
+pub wrap_minus : (n i s : ℕ) → 0 < n → wrap n (pos i -ℤ pos s) ≡ (i + (n - s % n)) % n
 unfolding wrap
-euclid_wrap n (pos k) = refl
-euclid_wrap n (negsuc k) = omega arith
+wrap_minus n i zero h = ap (λ (x : ℕ). x % n) (add-zero i) ∙ sym (ap (λ (x : ℕ). (i + (n - x)) % n) (zero-mod n) ∙ ap (λ (x : ℕ). (i + x) % n) (sub-zero n) ∙ add-mod_right i n)
+wrap_minus n i (suc k) h = wrap_sub n i k h ∙ next n i (k % n) (mod-lt k h) ∙ ap (λ (x : ℕ). (i + (n - x)) % n) (sym (suc-mod k n))
+
+-- ---- a step of either sign is one ahead or one behind by its size
+pub step_back : (i : ℕ) (z : ℤ) → int_lt z (pos 0) ≡ true → pos i -ℤ pos (nat_abs z) ≡ pos i +ℤ z
+step_back i (pos k) h = absurd (true≢false (sym h ∙ le-ltb k 0 zero-le))
+step_back i (negsuc k) h = refl
+
+pub step_on : (i : ℕ) (z : ℤ) → int_lt z (pos 0) ≡ false → pos i +ℤ pos (nat_abs z) ≡ pos i +ℤ z
+step_on i (pos k) h = refl
+step_on i (negsuc k) h = absurd (true≢false h)

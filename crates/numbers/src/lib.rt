@@ -2,7 +2,7 @@
 // its floor, the floor as an integer with what is left above it, and integers modulo n.
 #![tactic(auto)]
 
-ghost use Rattle.std.specs.Prelude.{◌≡◌, true, ◌+◌, ◌*◌, ◌^◌, ◌≤◌, ◌<◌, pos, ◌+ℤ◌, nat_abs};
+ghost use Rattle.std.specs.Prelude.{◌≡◌, true, ◌+◌, ◌*◌, ◌^◌, ◌≤◌, ◌<◌, pos, ◌+ℤ◌, ◌-ℤ◌, nat_abs};
 ghost use Rattle.std.specs.Float.{binary64};
 ghost use Rattle.std.specs.Float.Ieee.{of_bits};
 ghost use Rattle.numbers.specs.Finite.{finite};
@@ -273,10 +273,31 @@ pub fn fraction(x: f64) -> f64
     }
 }
 
+// i + s modulo n.
+pub fn ahead(i: usize, s: usize, n: usize) -> usize
+    requires { (0 < n) × (i ≤ 2 ^ 32) × (s ≤ 2 ^ 32) }
+    ensures { result ≡ wrap n (pos i +ℤ pos s) }
+{
+    (i + s) % n
+}
+
+// i - s modulo n.
+pub fn behind(i: usize, s: usize, n: usize) -> usize
+    requires { (0 < n) × (n ≤ 2 ^ 32) × (i ≤ 2 ^ 32) }
+    ensures { result ≡ wrap n (pos i -ℤ pos s) }
+{
+    (i + (n - s % n)) % n
+}
+
 // i plus a whole number, modulo n.
 pub fn stepped(i: usize, by: isize, n: usize) -> usize
     requires { (0 < n) × (n ≤ 2 ^ 32) × (i ≤ 2 ^ 32) × (nat_abs by ≤ 2 ^ 32) }
     ensures { result ≡ wrap n (pos i +ℤ by) }
 {
-    (i as isize + by).rem_euclid(n as isize) as usize
+    let size = by.unsigned_abs();
+    if by < 0 {
+        behind(i, size, n)
+    } else {
+        ahead(i, size, n)
+    }
 }
