@@ -67,7 +67,7 @@ module _ {A : Type 0} where
   answered_told (Ok _) a = refl
   answered_told (Err r) a = refl
 
-  -- where the verdict is that it fits, there is an answer
+  -- where no refusal is told, there is an answer
   pub passed_ok : (o : Answer A) → verdict_of o ≡ Ok tt → (a : A) × (o ≡ Ok a)
   passed_ok (Ok a) e = (a, refl)
   passed_ok (Err r) e = let z : ◌≡◌ {A = ℕ} 0 1 = cc in let n : ⊥ = omega arith in absurd n

@@ -174,10 +174,6 @@ fn same_axis(a: stepform::Axis, b: stepform::Axis) -> bool {
         && a.boundary == b.boundary
 }
 
-fn same_shape(s: shape::Shape, t: shape::Shape) -> bool {
-    s.d == t.d && s.left == t.left && s.n == t.n && s.right == t.right
-}
-
 fn same_settings(s: stepform::Settings, t: stepform::Settings) -> bool {
     comparing::same_number(s.tau, t.tau)
         && comparing::same_number(s.c, t.c)
@@ -195,7 +191,7 @@ fn same_axes(
 // Two records, in every field.
 fn same_run(a: runform::Run, b: runform::Run) -> bool {
     same_settings(a.set, b.set)
-        && same_shape(a.shape, b.shape)
+        && a.shape == b.shape
         && same_axes(a.axes, b.axes)
         && comparing::same_record(a, b)
 }

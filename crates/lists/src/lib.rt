@@ -1,4 +1,4 @@
-// Lists of numbers in lent slices: fill, copy, and the search for a number that isn't finite.
+// Lists of numbers in lent slices: fill, copy, the search for a first place that fails a test or for a number that isn't finite, strips.
 #![tactic(auto)]
 
 ghost use Rattle.std.specs.Prelude.{◌≡◌, true, Bool, ℕ, ◌+◌, ◌*◌, ◌≤◌, ◌<◌, length, take, replicate};

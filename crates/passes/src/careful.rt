@@ -90,8 +90,6 @@ fn pass(a: &mut [f64], v: &mut [f64], ss: &mut [f64], m: usize, n: usize) -> Res
     Ok(quiet)
 }
 
-const MOST_PASSES: usize = 100;
-
 // At most 100 passes, a quiet one being the last: the passes made, or the index of the first number that isn't finite.
 pub fn orthogonalize(
     a: &mut [f64],
@@ -105,11 +103,11 @@ pub fn orthogonalize(
         ≡ outcome_of result (λ c. made c (svd a.new v.new))) × (ss.new ≡ squares m n a.new) }
 {
     let mut quiet = false;
-    for count in 0..MOST_PASSES {
+    for count in 0..crate::MOST_PASSES {
         if quiet {
             return Ok(count);
         }
         quiet = pass(a, v, ss, m, n)?;
     }
-    Ok(MOST_PASSES)
+    Ok(crate::MOST_PASSES)
 }

@@ -355,6 +355,7 @@ fn pass(a: &mut [f64], v: &mut [f64], ss: &mut [f64], m: usize, n: usize) -> boo
 {
     let mut p = 0;
     let mut quiet = true;
+    // The last rows begin where the pairs of rows end, so p is counted by hand.
     while p + 2 < n {
         quiet = two_rows(a, v, ss, m, n, p, quiet);
         p += 2;

@@ -64,6 +64,7 @@ pub fn contract_step(core: &[f64], rr: usize, f: &[f64], eta: &[f64], out: &mut 
         ≡ contract (core_with (length eta.now) (length f.now) rr core.now)
         f.now eta.now ++ drop rr out.old }
 {
+    // Each loop goes on where the one before ends, so j is counted by hand.
     let mut j = 0;
     while j + lists::STRIP <= rr {
         strip(core, rr, f, eta, j, lists::STRIP, out);

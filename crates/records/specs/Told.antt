@@ -1,5 +1,5 @@
 -- What a call answers as C has it, field by field. Definitions only.
-use Rattle.std.specs.Prelude.{true, false, map, replicate, Float, Option, Some, None, Ok, Err}
+use Rattle.std.specs.Prelude.{List, ℕ, true, false, map, replicate, Float, Option, Some, None, Ok, Err}
 use Rattle.numbers.specs.Arithmetic.{zero64}
 use Rattle.answers.specs.Outcome.{Answer, Check}
 use Rattle.answers.specs.Table.{number_of, place_of, index_of}
@@ -44,7 +44,9 @@ started_out s (Err q) = record { refusal = refusal_of (Err q); shape = shape_out
 -- of a file that is refused, the shape is all zeros
 abbrev pub read_out : Answer Shape → CFormed
 read_out (Ok s) = record { refusal = refusal_of (Ok tt); shape = shape_out s }
-read_out (Err q) = record { refusal = refusal_of (Err q); shape = record { d = 0; left = replicate most_axes 0; n = replicate most_axes 0; right = replicate most_axes 0 } }
+read_out (Err q) =
+    let none : List ℕ = replicate most_axes 0 in
+    record { refusal = refusal_of (Err q); shape = record { d = 0; left = none; n = none; right = none } }
 
 -- rank and passes are 0 after a refusal
 abbrev pub paired_out : Answer Paired → CPaired

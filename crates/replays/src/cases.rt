@@ -13,6 +13,7 @@ const ROOM: usize = 8 * shape::MOST_CORE;
 // Fills a list with what the input has, up to its end; a read that fails counts as the end.
 pub fn fill(input: Stdin, list: &mut [u8]) {
     let mut from = input;
+    // A read gives as many bytes as it can, so how many there are is not known before.
     let mut done = 0;
     while done < list.len() {
         match from.read(&mut list[done..]) {

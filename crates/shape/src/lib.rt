@@ -141,14 +141,6 @@ impl Shape {
         self.right[k] == 1
     }
 
-    // The first core whose bond does not hold, or d.
-    pub fn first_bad_bond(self) -> usize
-        requires { self.d ≤ most_axes }
-        ensures { result ≡ first_not (bond_ok self) self.d }
-    {
-        lists::first_not(self.d, |k| self.bond_ok(k))
-    }
-
     // Refusals 1 to 3.
     #[tactic(auto, using(crate::proofs::Verdicts::demands), unfolding(crate::specs::Shapes::shape_ok))]
     pub fn check(self) -> Result<(), Refusal>

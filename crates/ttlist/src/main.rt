@@ -14,6 +14,7 @@ const ROOM: usize = listing::MOST_BYTES + 1;
 fn given(input: &mut impl Read, bytes: &mut [u8]) -> io::Result<usize>
     ensures { IfOk result (λ n. n ≤ length bytes.new) }
 {
+    // A read gives as many bytes as it can, so how many there are is not known before.
     let mut n = 0;
     while n < bytes.len() {
         match input.read(&mut bytes[n..])? {

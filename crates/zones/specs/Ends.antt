@@ -5,7 +5,6 @@ use Rattle.shape.specs.declared.Shape.{Shape}
 use Rattle.cutform.specs.Call.{Ended}
 use Rattle.sumform.specs.Start.{StartEnded}
 use Rattle.pairform.specs.Call.{PairEnded}
-use Rattle.shape.specs.declared.Shape.{Shape}
 use Rattle.fileform.specs.Calls.{Exit}
 use Rattle.runform.specs.Slices.{Slices}
 use Rattle.runform.specs.Call.{RunEnd}

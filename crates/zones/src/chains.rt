@@ -15,7 +15,7 @@ use shape::Shape;
 
 #[unsafe(no_mangle)]
 pub extern "C" fn uyavsker_shape_check(s: CShape) -> told::CRefusal
-    ensures { result ≡ refusal_of ((chain_ok (shape_in s))) }
+    ensures { result ≡ refusal_of (chain_ok (shape_in s)) }
 {
     told::refusal_of(Shape::from(s).check())
 }

@@ -14,7 +14,7 @@ use records::told;
 
 #[unsafe(no_mangle)]
 pub extern "C" fn uyavsker_shape_check(s: CShape) -> told::CRefusal
-    ensures { result ≡ refusal_of ((chain_ok (shape_in s))) }
+    ensures { result ≡ refusal_of (chain_ok (shape_in s)) }
 {
     zones::chains::uyavsker_shape_check(s)
 }

@@ -6,4 +6,5 @@ use Rattle.comparing.proofs.same_bonds.Goals as goal
 
 pub returns : goal.returns
 returns c = decided
-    (same_from_all c.all.new.self _ _ _ _ c.all.ensures.ran (YieldsList-from_zip (YieldsList-from_slice c.args.a (cc)) (YieldsList-from_slice c.args.b (cc))) (search rules) (λ x q k. (search rules, told_yes (search rules))) (λ x q k. told_no (search rules)))
+    (same_from_all c.all.new.self _ _ _ _ c.all.ensures.ran
+    (YieldsList-from_zip (YieldsList-from_slice c.args.a (cc)) (YieldsList-from_slice c.args.b (cc))) (search rules) (λ x q k. (search rules, told_yes (search rules))) (λ x q k. told_no (search rules)))

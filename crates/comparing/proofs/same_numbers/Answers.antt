@@ -6,4 +6,5 @@ use Rattle.comparing.proofs.same_numbers.Goals as goal
 
 pub returns-then-a-b : goal.returns-then-a-b
 returns-then-a-b c = decided
-    (same_from_all c.all.new.self _ _ _ _ c.all.ensures.ran (YieldsList-from_zip (YieldsList-from_slice c.args.a.now (cc)) (YieldsList-from_slice c.args.b.now (cc))) (search rules) (λ x q k. (search rules, told_yes (search rules))) (λ x q k. told_no (search rules)))
+    (same_from_all c.all.new.self _ _ _ _ c.all.ensures.ran
+    (YieldsList-from_zip (YieldsList-from_slice c.args.a.now (cc)) (YieldsList-from_slice c.args.b.now (cc))) (search rules) (λ x q k. (search rules, told_yes (search rules))) (λ x q k. told_no (search rules)))
