@@ -1,5 +1,6 @@
 -- What the contracts of the functions that `root` is made of cite. Definitions only.
-use Rattle.std.specs.Prelude.{◌≡◌, ℕ, zero, suc, ◌+◌, ◌*◌, ◌/◌, ◌%◌, ◌^◌, ◌≤◌, ◌<◌}
+use Rattle.std.specs.Prelude.{◌≡◌, Bool, ℕ, zero, suc, ◌+◌, ◌*◌, ◌/◌, ◌%◌, ◌^◌, ◌≤◌, ◌<◌}
+use Rattle.numbers.specs.Floor.{Within}
 
 -- how many units of 2 ^ -1074 a pattern with no sign stands for, by its exponent's field and its digits
 abbrev pub units_at : ℕ → ℕ → ℕ
@@ -37,3 +38,10 @@ pub record Halved (m r : ℕ) : Type 0 where
   pub over : m * 2 ^ 54 < (q + 1) * (q + 1)
   pub small : q < 2 ^ 54
   pub half : r ≡ (q + 1) / 2
+
+-- the pattern r stands for a whole number c, which is what the pattern b stands for, cut toward zero, or away from it where s is true
+pub record CutTo (s : Bool) (b r : ℕ) : Type 0 where
+  pub small : r < 0x7ff0_0000_0000_0000
+  pub c : ℕ
+  pub whole : units_of r ≡ c * 2 ^ 1074
+  pub within : Within s c (units_of b)

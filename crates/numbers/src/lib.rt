@@ -1,5 +1,5 @@
-// What the work needs of single numbers: whether an f64 is finite, its square root by the digits of its bit pattern, its magnitude and
-// its floor, the floor as an integer with what is left above it, and integers modulo n.
+// What the work needs of single numbers: whether an f64 is finite, its square root, magnitude and floor by the
+// digits of its bit pattern, the floor as an integer with what is left above it, and integers modulo n.
 #![tactic(auto)]
 
 ghost use Rattle.std.specs.Prelude.{◌≡◌, true, ◌+◌, ◌*◌, ◌^◌, ◌≤◌, ◌<◌, pos, ◌+ℤ◌, ◌-ℤ◌, nat_abs};
@@ -7,7 +7,7 @@ ghost use Rattle.std.specs.Float.{binary64};
 ghost use Rattle.std.specs.Float.Ieee.{of_bits};
 ghost use Rattle.numbers.specs.Finite.{finite};
 ghost use Rattle.numbers.specs.Root.{root_of, root_of_units};
-ghost use Rattle.numbers.specs.Steps.{units_of, Parted, Leaves, Refinable, Halved};
+ghost use Rattle.numbers.specs.Steps.{units_of, Parted, Leaves, Refinable, Halved, CutTo};
 ghost use Rattle.numbers.specs.Floor.{floor_of};
 ghost use Rattle.numbers.specs.Magnitude.{magnitude_of};
 ghost use Rattle.numbers.specs.Whole.{in_reach, whole_in_reach, fraction_of};
@@ -228,19 +228,54 @@ pub fn root(x: f64) -> f64
 }
 
 // x without its sign.
-#[tactic(auto, using(crate::proofs::Library::abs_magnitude))]
 pub fn magnitude(x: f64) -> f64
     ensures { result ≡ magnitude_of x }
 {
-    x.abs()
+    if x != x {
+        return x;
+    }
+    f64::from_bits(f64::to_bits(x) & 0x7fff_ffff_ffff_ffff)
 }
 
-// The largest whole number that is not above x, and x itself where it is no number or infinite.
-#[tactic(auto, using(crate::proofs::Library::library_floor))]
+// The pattern of what a pattern with no sign, below that of 2^52, stands for, cut to a whole number:
+// toward zero, or away from it.
+fn whole_bits(bits: u64, away: bool) -> u64
+    requires { bits < 0x4330_0000_0000_0000 }
+    ensures { CutTo away bits result }
+{
+    if bits < 0x3ff0_0000_0000_0000 {
+        if bits == 0 {
+            return 0;
+        }
+        if away {
+            return 0x3ff0_0000_0000_0000;
+        }
+        return 0;
+    }
+    let k = 1075 - (bits >> 52);
+    let cut = bits >> k << k;
+    if away {
+        if cut < bits {
+            return cut + (1 << k);
+        }
+    }
+    cut
+}
+
+// The largest whole number that is not above x, and x itself where it is no number or infinite: from
+// 2^52 on every f64 is whole.
 pub fn floor(x: f64) -> f64
     ensures { result ≡ floor_of x }
 {
-    x.floor()
+    if x != x {
+        return x;
+    }
+    let bits = f64::to_bits(x);
+    let size = bits & 0x7fff_ffff_ffff_ffff;
+    if size >= 0x4330_0000_0000_0000 {
+        return x;
+    }
+    f64::from_bits(bits >> 63 << 63 | whole_bits(size, bits >> 63 == 1))
 }
 
 // Whether x is at most 2^31 in size, which no NaN is.
