@@ -25,7 +25,10 @@ pub fn copy(s: &[f64], d: &mut [f64])
     requires { length s.now ≡ length d.old }
     ensures { d.new ≡ s.now }
 {
-    d.copy_from_slice(s);
+    // `copy_from_slice` would ask the C library for `memmove`, which an archive for C needs nowhere else.
+    for i in 0..s.len() {
+        d[i] = s[i];
+    }
 }
 
 // The first n numbers of s stand at the front of d, +0 behind them.
