@@ -16,12 +16,13 @@ ghost use Rattle.fileform.specs.Reading.{lengths_ok, read_ok, read_call};
 use answers::Refusal;
 use shape::Shape;
 
+// Of a shape whose entries are counted already, which goes over all its cores.
 #[tactic(auto, using(crate::proofs::Accepts::file_counted))]
-fn file_length(s: Shape) -> usize
-    requires { SizesWithin s }
+fn file_length(s: Shape, entries: usize) -> usize
+    requires { (SizesWithin s) × (entries ≡ entries_of s) }
     ensures { result ≡ file_length s }
 {
-    8 + 12 * s.d + 8 * s.entries()
+    8 + 12 * s.d + 8 * entries
 }
 
 // The file's length, then the room.
@@ -30,10 +31,11 @@ fn lengths_ok(s: Shape, bytes: usize, room: usize) -> Result<(), Refusal>
     requires { SizesWithin s }
     ensures { result ≡ lengths_ok s bytes room }
 {
-    if bytes != file_length(s) {
+    let n = s.entries();
+    if bytes != file_length(s, n) {
         return Err(Refusal::File(bytes));
     }
-    if room < s.entries() {
+    if room < n {
         return Err(Refusal::Length(1));
     }
     Ok(())
@@ -66,10 +68,11 @@ fn write_lent(s: Shape, chain: usize, out: usize) -> Result<(), Refusal>
     requires { SizesWithin s }
     ensures { result ≡ write_lent s chain out }
 {
-    if chain != s.entries() {
+    let n = s.entries();
+    if chain != n {
         return Err(Refusal::Length(0));
     }
-    if out != file_length(s) {
+    if out != file_length(s, n) {
         return Err(Refusal::Length(1));
     }
     Ok(())

@@ -89,26 +89,30 @@ pub f64_written : (l : List ℕ) → AreBytes l → (p : ℕ) → p + 8 ≤ leng
 f64_written l bytes p le e = ap (bytes_of 8) (to_bits-of_bits binary64 (number_at 8 l p) (number_lt l bytes 8 p le) (finite_known (f64_at l p) e)) ∙ written l bytes 8 p le
 
 -- ---- what the library reads and makes
-abbrev cells : ℕ → ℕ → List ℕ → List ℕ
-cells zero p l = []
-cells (suc w) p l = get_or l p 0 ∷ cells w (suc p) l
+module _ (l : List ℕ) (p : ℕ) where
+  one : p + 1 ≡ suc p
+  one = omega arith
 
-cut_cells : (w p : ℕ) (l : List ℕ) → p + w ≤ length l → cut p w l ≡ cells w p l
-cut_cells zero p l h = refl
-cut_cells (suc w) p l h = cut_cons w p l (omega arith) ∙ ap (λ (t : List ℕ). get_or l p 0 ∷ t) (cut_cells w (suc p) l (omega arith))
+  two : p + 2 ≡ suc (suc p)
+  two = omega arith
 
-module _ (l b : List ℕ) (p : ℕ) where
-  pub two_at : p + 2 ≤ length l → b ≡ take 2 (drop p l) → from_le_bytes w16 b ≡ u16_at l p
+  three : p + 3 ≡ suc (suc (suc p))
+  three = omega arith
+
+  four : p + 4 ≡ suc (suc (suc (suc p)))
+  four = omega arith
+
+  pub two_at : from_le_bytes w16 (get_or l p 0 ∷ get_or l (p + 1) 0 ∷ []) ≡ u16_at l p
   unfolding number_at
-  two_at h e = rw (e ∙ cut_cells 2 p l h) (omega arith)
+  two_at = rw one (omega arith)
 
-  pub four_at : p + 4 ≤ length l → b ≡ take 4 (drop p l) → from_le_bytes w32 b ≡ u32_at l p
+  pub four_at : from_le_bytes w32 (get_or l p 0 ∷ get_or l (p + 1) 0 ∷ get_or l (p + 2) 0 ∷ get_or l (p + 3) 0 ∷ []) ≡ u32_at l p
   unfolding number_at
-  four_at h e = rw (e ∙ cut_cells 4 p l h) (omega arith)
+  four_at = rw (one, two, three) (omega arith)
 
-  pub eight_at : p + 8 ≤ length l → b ≡ take 8 (drop p l) → from_le_bytes w64 b ≡ number_at 8 l p
+  pub eight_at : u32_at l p + 4294967296 * u32_at l (p + 4) ≡ number_at 8 l p
   unfolding number_at
-  eight_at h e = rw (e ∙ cut_cells 8 p l h) (omega arith)
+  eight_at = rw four (omega arith)
 
 pub two_bytes : (x : ℕ) → to_le_bytes w16 (x % 65536) ≡ bytes_of 2 x
 unfolding bytes_of

@@ -15,7 +15,7 @@ pub fn u16_at(bytes: &[u8], p: usize) -> usize
     requires { p + 2 ≤ length bytes.now }
     ensures { (result ≡ u16_at bytes.now p) × (result < 65536) }
 {
-    u16::from_le_bytes(*bytes[p..].first_chunk().unwrap()) as usize
+    u16::from_le_bytes([bytes[p], bytes[p + 1]]) as usize
 }
 
 // The number in four.
@@ -24,16 +24,16 @@ pub fn u32_at(bytes: &[u8], p: usize) -> usize
     requires { p + 4 ≤ length bytes.now }
     ensures { (result ≡ u32_at bytes.now p) × (result < 4294967296) }
 {
-    u32::from_le_bytes(*bytes[p..].first_chunk().unwrap()) as usize
+    u32::from_le_bytes([bytes[p], bytes[p + 1], bytes[p + 2], bytes[p + 3]]) as usize
 }
 
-// The number in eight.
+// The number in eight, by its halves: a test of its highest digits then looks at the upper one alone.
 #[tactic(auto, using(crate::proofs::Bytes::eight_at))]
 fn u64_at(bytes: &[u8], p: usize) -> u64
     requires { p + 8 ≤ length bytes.now }
     ensures { result ≡ number_at 8 bytes.now p }
 {
-    u64::from_le_bytes(*bytes[p..].first_chunk().unwrap())
+    u32_at(bytes, p) as u64 + 0x1_0000_0000 * u32_at(bytes, p + 4) as u64
 }
 
 // Whether the f64 in eight bytes from p on is finite: the digits of its exponent aren't all one.
