@@ -1,11 +1,10 @@
 -- A text that grows. Definitions for code only.
-use Rattle.std.specs.Prelude.{◌≡◌, ℕ, ◌+◌, ◌≤◌, List, ◌++◌, length}
+use Rattle.std.specs.Prelude.{◌≡◌, ℕ, ◌+◌, ◌≤◌, List, length}
+use Rattle.words.specs.Placed.{placed}
 
--- x, at most `most` bytes, was put behind l, which gave m
-pub record Put (most : ℕ) (x l m : List ℕ) : Type 0 where
-  pub there : m ≡ l ++ x
-  pub few : length m ≤ length l + most
-
--- n bytes more have room behind l
-abbrev pub Room : ℕ → List ℕ → Type 0
-Room n l = length l + n ≤ 2048
+-- x, at most `most` bytes, was put into l from `at` on, which gave m; it ends before `end`
+pub record Put (most at : ℕ) (x l m : List ℕ) (end : ℕ) : Type 0 where
+  pub ends : end ≡ at + length x
+  pub few : end ≤ at + most
+  pub room : end ≤ length m
+  pub there : m ≡ placed at x l

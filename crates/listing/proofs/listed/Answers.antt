@@ -1,12 +1,13 @@
--- `listing::listed`: a file that is too large is named so (large_listed), and of any other the text of what reading answers is put down (chain_listed, refused_listed).
-use Rattle.listing.proofs.Grows.{large_listed, refused_listed, chain_listed}
+-- `listing::listed`: what text_of put at the front, by its length, is the text (text_counts, text_front).
+use mathlib.Core.Path.{◌∙◌}
+use Rattle.listing.proofs.Grows.{text_counts, text_front}
 use Rattle.listing.proofs.listed.Goals as goal
 
-pub returns-then-bytes-gt-MOST_BYTES : goal.returns-then-bytes-gt-MOST_BYTES
-returns-then-bytes-gt-MOST_BYTES c = large_listed _ _ _ c.new-text.ensures c.if-bytes-gt-MOST_BYTES.true c.put_word.ensures
+pub slice_bounds-text-end : goal.slice_bounds-text-end
+slice_bounds-text-end c = (text_counts _ _ _ _ c.text_of-n.ensures).0
 
-pub returns-in-Ok : goal.returns-in-Ok
-returns-in-Ok c = chain_listed _ _ _ c.new-text.ensures c.if-bytes-gt-MOST_BYTES.false _ c.read_chain.ensures.0 _ c.in-Ok.is c.put_chain.ensures
+pub slice_bounds-try_from-end : goal.slice_bounds-try_from-end
+slice_bounds-try_from-end c = (text_counts _ _ _ _ c.text_of-n.ensures).1
 
-pub returns-in-Err : goal.returns-in-Err
-returns-in-Err c = refused_listed _ _ _ c.new-text.ensures c.if-bytes-gt-MOST_BYTES.false _ c.read_chain.ensures.0 _ c.in-Err.is c.put_refusal.ensures
+pub returns : goal.returns
+returns c = (rw c.unwrap.ensures at c.try_from.ensures).0 ∙ text_front _ _ _ _ c.text_of-n.ensures

@@ -3,4 +3,4 @@ use Rattle.listing.proofs.Grows.{AtAxis}
 use Rattle.listing.proofs.put_axes.Given as goal
 
 abbrev pub invariant-loop-k : goal.invariant-loop-k
-invariant-loop-k l = AtAxis l.s l.initial.text.items l.text.items l.start l.k
+invariant-loop-k l = AtAxis l.s l.at l.initial.text l.text l.start l.end l.k
