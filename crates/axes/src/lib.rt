@@ -55,7 +55,11 @@ pub fn axis_at(xs: &[Axis], k: usize) -> Axis
 pub fn gather(xs: &[Axis]) -> [Axis; shape::MOST_AXES]
     ensures { result ≡ gathered xs.now }
 {
-    std::array::from_fn(|k| axis_at(xs, k))
+    let mut list = [BLANK; shape::MOST_AXES];
+    for k in 0..shape::MOST_AXES {
+        list[k] = axis_at(xs, k);
+    }
+    list
 }
 
 // Record k of a list by value.

@@ -7,7 +7,6 @@ ghost use Rattle.records.specs.Given.{shape_in, axis_in, lent_of, cutting_in, se
 use cutform::Cutting;
 use pairform::Sizes;
 use shape::{MOST_AXES, Shape};
-use std::array;
 use stepform::{Axis, Course, PERIODIC, Settings};
 
 // d cores; core k has the sizes left[k], n[k], right[k].
@@ -145,12 +144,31 @@ impl From<CSizes> for Sizes {
     }
 }
 
-// All of them.
+// What stands in a list before its records do.
+const BLANK: Axis = Axis {
+    a: 0.0,
+    b: 0.0,
+    xmin: 0.0,
+    xmax: 0.0,
+    boundary: PERIODIC,
+};
+
+// All of them, one after another: an array's `map` moves each several times.
+pub(crate) fn axes_in(xs: &[CAxis; MOST_AXES]) -> [Axis; MOST_AXES]
+    ensures { result ≡ map axis_in xs.now }
+{
+    let mut list = [BLANK; MOST_AXES];
+    for k in 0..MOST_AXES {
+        list[k] = xs[k].into();
+    }
+    list
+}
+
 impl From<CAxes> for [Axis; MOST_AXES] {
     ghost from_gives = { λ xs ys. ys ≡ map axis_in xs.axis };
 
     fn from(xs: CAxes) -> [Axis; MOST_AXES] {
-        xs.axis.map(Axis::from)
+        axes_in(&xs.axis)
     }
 }
 
@@ -163,19 +181,17 @@ impl CAxes {
         if k < count {
             return self.axis[k].into();
         }
-        Axis {
-            a: 0.0,
-            b: 0.0,
-            xmin: 0.0,
-            xmax: 0.0,
-            boundary: PERIODIC,
-        }
+        BLANK
     }
 
     // The first `count` records as a list that was lent, gathered.
     pub fn lent(&self, count: usize) -> [Axis; MOST_AXES]
         ensures { result ≡ gathered (lent_of count self.now.axis) }
     {
-        array::from_fn(|k| self.lent_at(count, k))
+        let mut list = [BLANK; MOST_AXES];
+        for k in 0..MOST_AXES {
+            list[k] = self.lent_at(count, k);
+        }
+        list
     }
 }

@@ -2,12 +2,12 @@
 ghost use Rattle.std.specs.Prelude.{◌≡◌, map};
 ghost use Rattle.records.specs.Held.{bond_in, run_in, axis_out, cutting_out, settings_out, run_out, ran_out};
 
-use crate::given::{CAxis, CCutting, CSettings, CShape};
-use crate::told::{CBond, CRefusal, refusal_of};
+use crate::given::{CAxis, CCutting, CSettings, CShape, axes_in};
+use crate::told::{CBond, CRefusal, bonds_out, refusal_of};
 use cutform::{Bond, Cutting};
 use runform::{Ran, Run};
 use shape::MOST_AXES;
-use stepform::{Axis, Settings};
+use stepform::{Axis, PERIODIC, Settings};
 
 // Its inputs but for the source chain and the weights; then what is said of bond k, at place k; and the figure.
 #[repr(C)]
@@ -40,15 +40,30 @@ impl From<CBond> for Bond {
     }
 }
 
+fn bonds_in(bs: &[CBond; MOST_AXES]) -> [Bond; MOST_AXES]
+    ensures { result ≡ map bond_in bs.now }
+{
+    let mut list = [Bond {
+        rank: 0,
+        sweeps: 0,
+        settled: false,
+        dropped: 0.0,
+    }; MOST_AXES];
+    for k in 0..MOST_AXES {
+        list[k] = bs[k].into();
+    }
+    list
+}
+
 impl From<CRun> for Run {
     ghost from_gives = { λ r w. w ≡ run_in r };
 
     fn from(r: CRun) -> Run {
         Run {
             shape: r.shape.into(),
-            axes: r.axes.map(Axis::from),
+            axes: axes_in(&r.axes),
             set: r.set.into(),
-            bonds: r.bonds.map(Bond::from),
+            bonds: bonds_in(&r.bonds),
             figure: r.figure,
         }
     }
@@ -66,6 +81,22 @@ impl From<Axis> for CAxis {
             boundary: x.boundary,
         }
     }
+}
+
+fn axes_out(xs: &[Axis; MOST_AXES]) -> [CAxis; MOST_AXES]
+    ensures { result ≡ map axis_out xs.now }
+{
+    let mut list = [CAxis {
+        a: 0.0,
+        b: 0.0,
+        xmin: 0.0,
+        xmax: 0.0,
+        boundary: PERIODIC,
+    }; MOST_AXES];
+    for k in 0..MOST_AXES {
+        list[k] = xs[k].into();
+    }
+    list
 }
 
 impl From<Cutting> for CCutting {
@@ -97,9 +128,9 @@ impl From<Run> for CRun {
     fn from(r: Run) -> CRun {
         CRun {
             shape: r.shape.into(),
-            axes: r.axes.map(CAxis::from),
+            axes: axes_out(&r.axes),
             set: r.set.into(),
-            bonds: r.bonds.map(CBond::from),
+            bonds: bonds_out(&r.bonds),
             figure: r.figure,
         }
     }

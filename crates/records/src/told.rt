@@ -115,13 +115,29 @@ impl From<Bond> for CBond {
     }
 }
 
+// All of them, one after another: an array's `map` moves each several times.
+pub(crate) fn bonds_out(bs: &[Bond; MOST_AXES]) -> [CBond; MOST_AXES]
+    ensures { result ≡ map bond_out bs.now }
+{
+    let mut list = [CBond {
+        rank: 0,
+        sweeps: 0,
+        settled: false,
+        dropped: 0.0,
+    }; MOST_AXES];
+    for k in 0..MOST_AXES {
+        list[k] = bs[k].into();
+    }
+    list
+}
+
 pub fn rounded_out(w: Rounded) -> CRounded
     ensures { result ≡ rounded_out w }
 {
     CRounded {
         refusal: refusal_of(w.verdict),
         shape: w.shape.into(),
-        bonds: w.bonds.map(CBond::from),
+        bonds: bonds_out(&w.bonds),
     }
 }
 

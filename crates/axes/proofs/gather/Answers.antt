@@ -1,9 +1,10 @@
--- `axes::gather`: each call gives the record of its number (made_tab).
-use borrow.Author.Rules.{rules}
-use Rattle.stepform.specs.Axes.{axis_at, blank, gathered}
-use Rattle.axes.proofs.Made.{made_tab}
+-- `axes::gather`: a turn sets one more (filled_more), and after the last the list is the records' (filled_all).
+use mathlib.Core.Path.{◌∙◌}
+use Rattle.axes.proofs.Gathered.{filled_more, filled_all}
 use Rattle.axes.proofs.gather.Goals as goal
 
+pub loop-k-preserved : goal.loop-k-preserved
+loop-k-preserved c = rw (filled_more, c.axis_at.ensures, c.loop-k.invariant)
+
 pub returns : goal.returns
-unfolding gathered
-returns c = made_tab _ _ (axis_at c.args.xs.now) blank _ (λ k y q l w. search rules) _ c.from_fn.ensures.items
+returns c = c.loop-k.invariant ∙ filled_all c.args.xs.now c.loop-k.k c.loop-k.auto.k-end c.loop-k-test.false

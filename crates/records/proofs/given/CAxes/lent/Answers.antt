@@ -1,11 +1,16 @@
--- `records::given::CAxes::lent`: each place by lent_at (made).
+use mathlib.Core.Path.{refl}
 use Rattle.std.proofs.Common.{rules}
-use Rattle.shape.specs.Limits.{most_axes}
-use Rattle.stepform.specs.Axes.{axis_at, gathered}
+use Rattle.lists.proofs.Over.{tabs_more}
+use Rattle.stepform.specs.Axes.{axis_at, blanks}
 use Rattle.records.specs.Given.{lent_of}
-use Rattle.records.proofs.Mapped.{made}
+use Rattle.records.proofs.Lent.{lent_done}
 use Rattle.records.proofs.given.CAxes.lent.Goals as goal
 
+pub loop-k-init : goal.loop-k-init
+loop-k-init c = refl
+
+pub loop-k-preserved : goal.loop-k-preserved
+loop-k-preserved c = tabs_more (axis_at (lent_of c.args.count c.args.self.now.axis)) blanks c.loop-k.k _ _ c.loop-k.invariant (search rules) c.lent_at.ensures
+
 pub returns : goal.returns
-unfolding gathered
-returns c = made _ _ (axis_at (lent_of c.args.count c.args.self.now.axis)) most_axes (λ q k y b r. (search rules, search rules)) _ c.from_fn.ensures.items
+returns c = lent_done c.args.count c.args.self.now.axis blanks _ c.loop-k.k c.loop-k.invariant (search rules) (search rules)
