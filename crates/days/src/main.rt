@@ -62,7 +62,8 @@ struct Tally {
     spoilt: Counts,
 }
 
-// So many turns of a day, on a run that is made, each as `draw` asks it.
+// So many turns of a day, on a run that is made, each as `draw` asks it. A call of its own: its lists leave the stack with it.
+#[inline(never)]
 fn turns_of<F: Fn(usize, shape::Shape) -> Ask>(
     draw: F,
     seed: usize,

@@ -372,7 +372,9 @@ fn refused_beside(q: Ask, r: runform::Run, held: [f64; calls::HELD]) -> bool {
     }
 }
 
-// One turn: what is asked is done on the run that is held, and a fresh run is made beside it.
+// One turn: what is asked is done on the run that is held, and a fresh run is made beside it. Its lists and those of its one caller share
+// the stack, where each has fewer copies.
+#[inline(always)]
 pub fn turn(q: Ask, r: runform::Run, held: [f64; calls::HELD], part: &[f64]) -> Turned {
     let mut now = held;
     let mut fresh = held;

@@ -31,7 +31,7 @@ fn replayed<F: Fn(Stdin) -> bool>(
     let mut good: usize = 0;
     for _ in 0..cases % MOST_CASES {
         if agrees(input) {
-            good = good.wrapping_add(1);
+            good += 1;
         }
     }
     cases::print(rt, words, cases, good)
