@@ -25,6 +25,10 @@ told_yes t = t.only refl
 pub told_no : {X : Type 0} → Tells false X → X → ⊥
 told_no t x = true≢false (sym (t.always x))
 
+-- a test that failed says that X does not hold
+pub refuted : {X : Type 0} {r : Bool} → Tells r X → r ≡ false → X → ⊥
+refuted t e x = true≢false (sym (t.always x) ∙ e)
+
 pub tells_as : {X Y : Type 0} {r : Bool} → Tells r X → (X → Y) → (Y → X) → Tells r Y
 tells_as t f g = record { only = λ e. f (t.only e); always = λ y. t.always (g y) }
 

@@ -4,7 +4,7 @@ use mathlib.Core.Path.{◌≡◌, sym, ap, ◌∙◌}
 use Prim.Native.Nat.{ℕ, ◌*◌, ◌≤◌}
 use native.Mathlib.Nat.{mul-le-mul}
 use native.Mathlib.Omega.{arith}
-use mathlib.Core.Bool.{true}
+use mathlib.Core.Bool.{Bool, true, false, ◌&&◌}
 use mathlib.Core.List.{List, []}
 use lib.Dec.{eqb}
 use lib.Ieee.{Float}
@@ -19,13 +19,27 @@ use Rattle.pairform.specs.declared.Sizes as given
 use Rattle.pairform.specs.Call.{core_of, sizes_ok, pair_sized, pair_lent, pair_finite, pair_ok}
 use Rattle.pair.proofs.Checked.{sizes_are, demand_then}
 
--- ---- one demand of several, by two counts that are equal
+-- ---- one demand of several: by a test, and by two counts that are equal
+module _ (t : Bool) (q : Refusal) (o : Check) (b : Bool) (e : b ≡ t) where
+  pub ask_no : b ≡ false → Err q ≡ (demand t q then o)
+  ask_no h = sym (ap (λ (c : Check). (c then o)) (demand_no t q (sym e ∙ h)))
+
+  pub ask_yes : b ≡ true → (w : Check) → w ≡ o → w ≡ (demand t q then o)
+  ask_yes h w g = g ∙ sym (ap (λ (c : Check). (c then o)) (demand_yes t q (sym e ∙ h)))
+
 module _ (a b : ℕ) (q : Refusal) (o : Check) where
   pub same_no : (a ≡ b → ⊥) → Err q ≡ (demand (eqb a b) q then o)
   same_no h = sym (ap (λ (c : Check). (c then o)) (demand_no (eqb a b) q (eqb_no a b h)))
 
   pub same_yes : a ≡ b → (w : Check) → w ≡ o → w ≡ (demand (eqb a b) q then o)
   same_yes h w g = g ∙ sym (ap (λ (c : Check). (c then o)) (demand_yes (eqb a b) q (eqb_yes a b h)))
+
+-- ---- lines are counted of sizes within their limits only
+pub lines_no : (s x : Bool) → s ≡ false → false ≡ s && x
+lines_no s x h = rw h
+
+pub lines_yes : (s x : Bool) → s ≡ true → x ≡ s && x
+lines_yes s x h = rw h
 
 -- ---- sizes within their limits
 pub two_fit : (a b : ℕ) → a ≤ most_points → b ≤ most_points → Fits w64 (a * b)

@@ -63,7 +63,7 @@ least_fails p q n i j e f =
 
 -- a part that passes, or fails at z
 module _ (z d : ℕ) (lt : z < d) where
-  part_passes_lem : (b : Bool) → b ≡ true → d ≡ first_not (λ (k : ℕ). pick (eqb k z) b true) d
+  pub part_passes_lem : (b : Bool) → b ≡ true → d ≡ first_not (λ (k : ℕ). pick (eqb k z) b true) d
   unfolding first_not pick
   part_passes_lem b e = first_is (λ (k : ℕ). not (pick (eqb k z) b true)) d d (omega arith) (λ j l. ap not (ap (λ (x : Bool). pick (eqb j z) x true) e ∙ go (eqb j z))) (λ l. let n : ⊥ = omega arith in absurd n)
     where
